@@ -1,4 +1,4 @@
--- What the two walks of the allocator share: their parameters, what a `&Refusing<B>` leads to, and
+-- What the two walks of the allocator share: their parameters, what a `&Failing<B>` leads to, and
 -- the call that counts a growth.
 use Rattle.std.proofs.Common.{◌≡◌, ℕ, ◌+◌, Bool, List, [], ◌∷◌, refl, ap}
 use seplogic.Ra.Ura.{Ura}
@@ -23,7 +23,7 @@ use denote.Triple.Spec.{triple_of}
 use Rattle.std.proofs.alloc.Calls.{Al, α, seen}
 use Rattle.std.specs.contracts.sync.atomic.AtomicU64 as word
 use Rattle.std.specs.declared.sync.atomic.AtomicU64.{AtomicU64}
-use Rattle.failing_alloc.specs.contracts.Refusing as refusing
+use Rattle.failing_alloc.specs.contracts.Failing as refusing
 use Rattle.failing_alloc.specs.contracts.is_refused as asks
 
 abbrev pub number : Slot 2

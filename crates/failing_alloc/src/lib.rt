@@ -1,7 +1,7 @@
 //! An allocator for tests: it refuses the n-th growth, and no other.
 //!
 //! Every call of `allocate` is a growth, and so is each `grow` and `shrink` of a collection, which allocate anew.
-//! Share it by `&`, which is `Copy` and crosses threads: `let memory = Refusing::new(rt.alloc())`, then `Vec::new(&memory)`.
+//! Share it by `&`, which is `Copy` and crosses threads: `let memory = Failing::new(rt.alloc())`, then `Vec::new(&memory)`.
 //!
 //! Proved: each block is the inner memory's and goes back to it, and the numbers of `Countdown`.
 //! Only tested: that a growth counts down, and which one is refused, since no clause can say what an atomic holds.
@@ -16,15 +16,15 @@ use countdown::Countdown;
 
 /// Memory that passes each growth on to another allocator, but for the one that it was told to refuse.
 #[derive(Drop)]
-pub struct Refusing<B: Allocator> {
+pub struct Failing<B: Allocator> {
     inner: B,
     left: AtomicU64,
 }
 
-impl<B: Allocator> Refusing<B> {
+impl<B: Allocator> Failing<B> {
     /// Refuses none until `refuse`.
-    pub fn new(inner: B) -> Refusing<B> {
-        Refusing {
+    pub fn new(inner: B) -> Failing<B> {
+        Failing {
             inner,
             left: AtomicU64::new(Countdown::to_none().left),
         }
@@ -47,7 +47,7 @@ fn is_refused(left: &AtomicU64) -> bool {
     Countdown { left }.refuses_next()
 }
 
-unsafe impl<B: Allocator> Allocator for Refusing<B> {
+unsafe impl<B: Allocator> Allocator for Failing<B> {
     ghost dealloc_token = { λ memory ty ptr. B.dealloc_token memory.inner ty ptr };
 
     fn allocate(&self, size: usize, align: usize) -> Result<*mut u8, AllocError> {

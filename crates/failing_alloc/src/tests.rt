@@ -5,7 +5,7 @@ use std::thread::Threads;
 
 #[test]
 fn refuses_the_second_growth(rt: HostRuntime) -> Result<(), Fail> {
-    let memory = Refusing::new(rt.alloc());
+    let memory = Failing::new(rt.alloc());
     memory.refuse(2);
     let mut bytes = Vec::new(&memory);
     bytes.push(1u8)?;
@@ -19,7 +19,7 @@ fn refuses_the_second_growth(rt: HostRuntime) -> Result<(), Fail> {
 
 #[test]
 fn refuses_none_until_told(rt: HostRuntime) -> Result<(), Fail> {
-    let memory = Refusing::new(rt.alloc());
+    let memory = Failing::new(rt.alloc());
     let mut bytes = Vec::new(&memory);
     bytes.push(1u8)?;
     bytes.reserve(100)?;
@@ -41,7 +41,7 @@ fn both_push<R: Threads, A: Allocator + Copy + Send + Sync>(rt: &R, memory: A) -
 
 #[test]
 fn threads_share_one_count(rt: HostRuntime) -> Result<(), Fail> {
-    let memory = Refusing::new(rt.alloc());
+    let memory = Failing::new(rt.alloc());
     memory.refuse(2);
     let (left, right) = both_push(&rt, &memory);
     assert!(rt; left != right);

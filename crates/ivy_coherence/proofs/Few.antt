@@ -20,7 +20,7 @@ use Rattle.ivy_coherence.specs.Limits.{most_posted}
 use Rattle.ivy_coherence.specs.Serving.{invalidations}
 use Rattle.ivy_coherence.specs.Several.{all_carried}
 use Rattle.ivy_coherence.specs.Steps.{unlocked, handled}
-use Rattle.ivy_coherence.specs.Faults.{begun}
+use Rattle.ivy_coherence.specs.PageFaults.{begun}
 use Rattle.ivy_coherence.specs.Sound.{IsSound}
 use Rattle.ivy_coherence.proofs.FewServed.{put_off_served-few, invalidations-few}
 use Rattle.ivy_coherence.proofs.Rows.{Rows, AccessRows, handled-by_rows, begun-by_rows}
@@ -38,9 +38,9 @@ module _ {S : Type 0} (ops : Ops S) where
       → length (put_offs e) ≤ most_put_off
   put_off-few c page e s is = subst (λ x. length (put_offs x) ≤ most_put_off) is (s.each page).few
 
-  told-few : (c : Coherent S) (page call : ℕ) (copies : Nodes) → IsSound ops c
+  told_few : (c : Coherent S) (page call : ℕ) (copies : Nodes) → IsSound ops c
       → IsBelow c.config.nodes copies → length (invalidations c.me page call copies) ≤ most_posted
-  told-few c page call copies s low =
+  told_few c page call copies s low =
       let k = invalidations-few c.me page call c.config.nodes copies low in
       let most = s.limits.nodes_to in omega (arith, k, most)
 
@@ -58,7 +58,7 @@ module _ {S : Type 0} (ops : Ops S) where
     alone = λ page copies bytes w mine is this none fits. unlocked-few c from page owning
         (Some request.Write) bytes w.waiting (put_off-few c page _ s is);
     shared =
-        λ page copies bytes w mine is this some apart fits. told-few c page call (nodes_with copies)
+        λ page copies bytes w mine is this some apart fits. told_few c page call (nodes_with copies)
         s (with_below c.config.nodes copies fits.1);
     acknowledged = λ page w mine is this missing others fits. omega arith;
     last = λ page w mine is this missing none fits. unlocked-few c from page owning None
@@ -72,7 +72,7 @@ module _ {S : Type 0} (ops : Ops S) where
     hit = λ i none is enough. omega arith;
     read = λ i none is short reads. omega arith;
     write = λ i none is short writes other. omega arith;
-    owner = λ i none is short writes own. told-few c page call i.copies s
+    owner = λ i none is short writes own. told_few c page call i.copies s
         ((s.each page).idle i is).copies.below;
   }
 

@@ -69,10 +69,10 @@ passed_few n first (suc len) p below =
       | inr y ↦ rw y (omega arith)
     ]
 
-pub nodes-few : (n : ℕ) (s : Nodes) → IsBelow n s → length (nodes_of s) ≤ n
+pub nodes_few : (n : ℕ) (s : Nodes) → IsBelow n s → length (nodes_of s) ≤ n
 unfolding nodes_of
-nodes-few n s below = omega (arith, passed_few n 0 most_nodes (set.contains s) below)
+nodes_few n s below = omega (arith, passed_few n 0 most_nodes (set.contains s) below)
 
 pub invalidations-few : (me page call n : ℕ) (s : Nodes) → IsBelow n s
     → length (invalidations me page call s) ≤ n
-invalidations-few me page call n s below = rw length-map (nodes-few n s below)
+invalidations-few me page call n s below = rw length-map (nodes_few n s below)

@@ -20,7 +20,7 @@ use Rattle.ivy_pagetable.specs.Manager.{Ops}
 use Rattle.ivy_coherence.specs.declared.need.Need.TheVariants.{Have, Started}
 use Rattle.ivy_coherence.specs.Coherent.{Coherent}
 use Rattle.ivy_pagetable.specs.Accesses.{suffices}
-use Rattle.ivy_coherence.specs.Faults.{Begun, HasToAsk, hit, faulted, accessed, begun_at, begun}
+use Rattle.ivy_coherence.specs.PageFaults.{Begun, HasToAsk, hit, faulted, accessed, begun_at, begun}
 use Rattle.ivy_coherence.specs.Hits.{permits, permits_at, is_at_hand, all_taken, lacks_at, has_to_wait, AreHits}
 use Rattle.ivy_coherence.specs.Sound.{IsSound}
 

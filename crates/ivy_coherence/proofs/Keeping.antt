@@ -31,7 +31,7 @@ use Rattle.ivy_pagetable.proofs.Words.{length-carried_out}
 use Rattle.ivy_coherence.specs.Coherent.{Coherent}
 use Rattle.ivy_coherence.specs.Serving.{Serving, serving, told, put_off_served, invalidations}
 use Rattle.ivy_coherence.specs.Steps.{CoherenceEffect, collected, still_collecting, IsWaiting, IsCollecting, unlocked_as, breach, after_serving, unlocked, put_by, given_up, asked, handled}
-use Rattle.ivy_coherence.specs.Faults.{Begun, hit, faulted, waiting_from, begun}
+use Rattle.ivy_coherence.specs.PageFaults.{Begun, hit, faulted, waiting_from, begun}
 use Rattle.ivy_coherence.specs.IdleSound.{CanBeServed, AreOthers, IsSoundIdle}
 use Rattle.ivy_coherence.specs.Several.{all_carried}
 use Rattle.ivy_coherence.specs.Sound.{WaitAlong, IsSoundEntry, IsSound}

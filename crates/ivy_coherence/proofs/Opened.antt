@@ -34,14 +34,14 @@ use Rattle.ivy_coherence.specs.Several.{all_carried}
 use Rattle.ivy_coherence.specs.Serving.{put_off_served, invalidations}
 use Rattle.ivy_coherence.specs.Steps.{unlocked, asked, asked_at, IsWaiting, IsCollecting, is_none, unlocked_as}
 use Rattle.ivy_pagetable.specs.Accesses.{suffices}
-use Rattle.ivy_coherence.specs.Faults.{IsIdleAt, HasToAsk, MayMakePage, fault_entry, hit, faulted, accessed, begun_at, begun}
+use Rattle.ivy_coherence.specs.PageFaults.{IsIdleAt, HasToAsk, MayMakePage, fault_entry, hit, faulted, accessed, begun_at, begun}
 use Rattle.ivy_coherence.specs.IdleSound.{CanBeServed, AreOthers, IsSoundIdle}
 use Rattle.ivy_coherence.specs.Sound.{IsSound}
 use Rattle.ivy_pagetable.specs.Entries.{can_put_off, with_put_off, owning, is_locked}
 use Rattle.ivy_coherence.proofs.IdleServing.{fewer_others}
 use Rattle.ivy_coherence.proofs.Along.{put_along}
 use Rattle.ivy_coherence.proofs.Changing.{change-sound}
-use Rattle.ivy_coherence.proofs.FewServed.{nodes-few}
+use Rattle.ivy_coherence.proofs.FewServed.{nodes_few}
 use Rattle.ivy_coherence.proofs.SoundEntries.{entry_is, entry-sound, put_entry-sound, owner_put, locked_put}
 use Rattle.ivy_coherence.proofs.Keeping.{Keeps, idle_asked-keeps, hit-keeps, fault-keeps, invalidations-fit, waiting_word, collecting_word, unlocking-keeps, last-keeps, giving-keeps, collecting-keeps}
 use Rattle.ivy_coherence.proofs.Keeping.{left-keeps}
@@ -190,7 +190,7 @@ module _ {S : Type 0} {ops : Ops S} (n v : Coherent S) (same : v ≡ n) (s : IsS
   pub told_few : (page : ℕ) (i : IdleState) → IsIdleAt n.table page i
       → length (nodes_of i.copies) ≤ most_posted
   told_few page i is =
-      let k = nodes-few v.config.nodes i.copies (idle_there page i is).copies.below in
+      let k = nodes_few v.config.nodes i.copies (idle_there page i is).copies.below in
       let most = s.limits.nodes_to in omega (arith, k, most)
 
   pub told_fit : (page call : ℕ) (i : IdleState) (k : Config) (node : ℕ) → IsIdleAt n.table page i
@@ -204,7 +204,7 @@ module _ {S : Type 0} {ops : Ops S} (n v : Coherent S) (same : v ≡ n) (s : IsS
   pub others_few : (copies : Nodes) → IsBelow n.config.nodes copies
       → length (nodes_of copies) ≤ most_posted
   others_few copies below =
-      let k = nodes-few v.config.nodes copies (here (λ x. IsBelow x.config.nodes copies) below) in
+      let k = nodes_few v.config.nodes copies (here (λ x. IsBelow x.config.nodes copies) below) in
       let most = s.limits.nodes_to in omega (arith, k, most)
 
   are_others : (copies : Nodes) → IsBelow n.config.nodes copies → set.contains copies n.me ≡ false

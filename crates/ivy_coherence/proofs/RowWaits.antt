@@ -22,7 +22,7 @@ use Rattle.ivy_coherence.specs.declared.need.Need.{Need}
 use Rattle.ivy_coherence.specs.declared.need.Need.TheVariants.{Started}
 use Rattle.ivy_coherence.specs.Coherent.{Coherent}
 use Rattle.ivy_pagetable.specs.Accesses.{suffices}
-use Rattle.ivy_coherence.specs.Faults.{Begun, along, along_where, fault_entry, hit, faulted, accessed, begun_at, begun}
+use Rattle.ivy_coherence.specs.PageFaults.{Begun, along, along_where, fault_entry, hit, faulted, accessed, begun_at, begun}
 use Rattle.ivy_coherence.specs.Rests.{Behind, words_of}
 use Rattle.ivy_coherence.specs.Sound.{Waits, WaitAlong, IsSound}
 

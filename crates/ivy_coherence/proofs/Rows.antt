@@ -30,7 +30,7 @@ use Rattle.ivy_coherence.specs.Steps.{CoherenceEffect, collected, still_collecti
 use Rattle.ivy_coherence.specs.Steps.{is_order, breach, after_serving, unlocked, put_aside, put_by}
 use Rattle.ivy_coherence.specs.Steps.{given_up, asked, copy_came, page_came, acknowledged, handled}
 use Rattle.ivy_coherence.specs.Steps.{handled_as}
-use Rattle.ivy_coherence.specs.Faults.{Begun, busy, hit, started, waiting_from, faulted, accessed, begun, begun_at}
+use Rattle.ivy_coherence.specs.PageFaults.{Begun, busy, hit, started, waiting_from, faulted, accessed, begun, begun_at}
 
 -- a request for a copy or for the page, or the order to give a copy up
 abbrev pub asking : Request → ℕ → Content

@@ -12,7 +12,7 @@ use Rattle.ivy_pagetable.specs.Rows.{word_in, out_in}
 use Rattle.ivy_pagetable.specs.Manager.{Ops}
 use Rattle.ivy_coherence.specs.declared.need.Need.TheVariants.{Have}
 use Rattle.ivy_coherence.specs.Coherent.{Coherent}
-use Rattle.ivy_coherence.specs.Faults.{begun}
+use Rattle.ivy_coherence.specs.PageFaults.{begun}
 
 -- the words of a row may be carried out at once, with this access to their page
 abbrev pub permits : Access → Row → Bool

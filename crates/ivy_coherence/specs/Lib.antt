@@ -7,7 +7,7 @@ pub mod Served
 pub mod Coherent
 pub mod Steps
 pub mod Outcomes
-pub mod Faults
+pub mod PageFaults
 pub mod Hits
 pub mod Takes
 pub mod Sound

@@ -4,7 +4,7 @@ use Rattle.std.specs.Prelude.{◌≡◌, ◌<◌, ◌⊎◌, Result, OnOk, OnErr
 use Rattle.ivy_model.specs.declared.Fault.{Fault}
 use Rattle.ivy_model.specs.declared.Fault.TheVariants.{Memory}
 use Rattle.ivy_model.specs.Limits.{most_pages}
-use Rattle.ivy_model.specs.Wants.{IsWant}
+use Rattle.ivy_model.specs.Wants.{RanOut}
 use Rattle.ivy_wire.specs.Posts.{PostOps, HasRefused}
 use Rattle.ivy_coherence.specs.Coherent.{Coherent}
 use Rattle.ivy_coherence.specs.Steps.{CoherenceEffect}
@@ -23,4 +23,4 @@ pub record IsStep {P A S : Type 0} (ops : PostOps P) (post then : P) (r : Result
   pub err : OnErr r (new ≡ old)
   pub fault : IfErr r (λ fault. (IsWantOfPage old fault × (then ≡ post))
       ⊎ HasRefused ops post then effect.posted fault)
-  pub want : IfErr r IsWant
+  pub want : IfErr r RanOut

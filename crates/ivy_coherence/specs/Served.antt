@@ -2,7 +2,7 @@
 -- that the post was asked once. The post was `post` and is `then`.
 use Rattle.std.specs.Prelude.{◌≡◌, ℕ, Result, OnOk, OnErr, IfOk, IfErr}
 use Rattle.ivy_model.specs.declared.Fault.{Fault}
-use Rattle.ivy_model.specs.Wants.{IsWant}
+use Rattle.ivy_model.specs.Wants.{RanOut}
 use Rattle.ivy_wire.specs.Posts.{PostOps, HasRefused}
 use Rattle.ivy_pagetable.specs.States.{IdleState}
 use Rattle.ivy_coherence.specs.Serving.{Serving}
@@ -18,4 +18,4 @@ pub record HasServed {P S : Type 0} (ops : PostOps P) (post then : P) (r : Resul
   pub took : OnOk r (ops.takes post v.posted)
   pub err : OnErr r ((new ≡ old) × (counted ≡ count))
   pub fault : IfErr r (HasRefused ops post then v.posted)
-  pub want : IfErr r IsWant
+  pub want : IfErr r RanOut

@@ -3,7 +3,7 @@ ghost use Rattle.std.specs.Prelude.{◌≡◌, ◌≢◌, ◌<◌, ◌≤◌, �
 ghost use Rattle.ivy_model.specs.declared.Row.TheVariants.{Loads, Stores};
 ghost use Rattle.ivy_model.specs.Config.{IsConfig};
 ghost use Rattle.ivy_model.specs.Rows.{numbers_in};
-ghost use Rattle.ivy_model.specs.Wants.{IsWant};
+ghost use Rattle.ivy_model.specs.Wants.{RanOut};
 ghost use Rattle.ivy_wire.specs.Spelling.{FitsMessage};
 ghost use Rattle.ivy_wire.specs.Posts.{IsPostOf, HasPosted, HasRefused};
 ghost use Rattle.ivy_pagetable.specs.Tables.{entry_at, page_at};
@@ -11,7 +11,7 @@ ghost use Rattle.ivy_pagetable.specs.Words.{IsWord, needs_write};
 ghost use Rattle.ivy_pagetable.specs.Rows.{row_len};
 ghost use Rattle.ivy_pagetable.specs.Either.{MayBeUnmade};
 ghost use Rattle.ivy_pagetable.specs.Accesses.{suffices};
-ghost use Rattle.ivy_coherence.specs.Faults.{IsIdleAt, HasToAsk, MayMakePage, fault_entry, fault_posted, faulted, begun, begun_row};
+ghost use Rattle.ivy_coherence.specs.PageFaults.{IsIdleAt, HasToAsk, MayMakePage, fault_entry, fault_posted, faulted, begun, begun_row};
 ghost use Rattle.ivy_coherence.specs.Rests.{first_word, other_words};
 ghost use Rattle.ivy_coherence.specs.Hits.{permits, is_at_hand, has_to_wait, AreHits};
 ghost use Rattle.ivy_coherence.specs.Outcomes.{IsWantOfPage};
@@ -301,7 +301,7 @@ impl<M: Manager, A: Allocator> Coherence<M, A> {
         Ok(())
     }
 
-    #[tactic(auto, unfolding(crate::specs::Faults::begun))]
+    #[tactic(auto, unfolding(crate::specs::PageFaults::begun))]
     #[inline(always)]
     /// An access of this node's program to a word of a page, by the call of this number [1, 17].
     ///
@@ -331,7 +331,7 @@ impl<M: Manager, A: Allocator> Coherence<M, A> {
             (IsWantOfPage self.old fault × (post.new ≡ post.old))
             ⊎ HasRefused P.ops post.old post.new
             (begun M.ops self.old page word call).posted fault) }
-        ensures want { IfErr result IsWant }
+        ensures want { IfErr result RanOut }
     {
         if self.locked.is_some() {
             return Ok(Need::Busy);
@@ -342,7 +342,7 @@ impl<M: Manager, A: Allocator> Coherence<M, A> {
         self.begin(page, word, call, post)
     }
 
-    #[tactic(auto, unfolding(crate::specs::Faults::begun))]
+    #[tactic(auto, unfolding(crate::specs::PageFaults::begun))]
     #[inline(always)]
     /// The access of [`Coherence::need`], whatever the table and the entry, where no word of this node waits.
     ///
@@ -370,7 +370,7 @@ impl<M: Manager, A: Allocator> Coherence<M, A> {
             (IsWantOfPage self.old fault × (post.new ≡ post.old))
             ⊎ HasRefused P.ops post.old post.new
             (begun M.ops self.old page word call).posted fault) }
-        ensures want { IfErr result IsWant }
+        ensures want { IfErr result RanOut }
     {
         match self.table.entry(page) {
             LentEntry::Idle(idle) => {
@@ -426,7 +426,7 @@ impl<M: Manager, A: Allocator> Coherence<M, A> {
             (IsWantOfPage self.old fault × (post.new ≡ post.old))
             ⊎ HasRefused P.ops post.old post.new
             (begun M.ops self.old page (first_word kind offset bytes.now) call).posted fault) }
-        ensures want { IfErr result IsWant }
+        ensures want { IfErr result RanOut }
     {
         self.sound();
         let word = word_at(kind, offset, bytes);

@@ -1,7 +1,7 @@
 //! Messages of other nodes.
 ghost use Rattle.std.specs.FinSet as set;
 ghost use Rattle.std.specs.Prelude.{◌≡◌, ◌≢◌, ◌<◌, ◌≤◌, ◌^◌, ◌⊎◌, ℕ, true, false, Some, None, [], OnOk, OnErr, IfErr, length};
-ghost use Rattle.ivy_model.specs.Wants.{IsWant};
+ghost use Rattle.ivy_model.specs.Wants.{RanOut};
 ghost use Rattle.ivy_wire.specs.Lent.{owned_message};
 ghost use Rattle.ivy_wire.specs.Spelling.{FitsMessage};
 ghost use Rattle.ivy_wire.specs.Posts.{IsPostOf, HasRefused};
@@ -471,7 +471,7 @@ impl<M: Manager, A: Allocator> Coherence<M, A> {
         ensures err { OnErr result (self.new ≡ self.old) }
         ensures took { OnOk result (P.ops.takes post.old (handled M.ops self.old from (owned_message message.entry)).posted) }
         ensures fault { IfErr result (λ fault. (IsWantOfPage self.old fault × (post.new ≡ post.old)) ⊎ HasRefused P.ops post.old post.new (handled M.ops self.old from (owned_message message.entry)).posted fault) }
-        ensures want { IfErr result IsWant }
+        ensures want { IfErr result RanOut }
     {
         self.sound();
         let (origin, call) = (message.origin, message.call);

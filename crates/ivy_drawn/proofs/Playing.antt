@@ -1,16 +1,19 @@
 -- A play that goes on.
-use Rattle.std.proofs.Common.{◌≡◌, ℕ, List, [], ◌∷◌, ◌++◌, Result, Ok, Err, OnOk, OnErr, append-nil, refl, sym, ap, subst, ◌∙◌}
+use Rattle.std.proofs.Common.{◌≡◌, ◌≢◌, ℕ, zero, suc, List, [], ◌∷◌, ◌++◌, Result, Ok, Err, OnOk, OnErr, append-nil, refl, sym, ap, subst, ◌∙◌}
 use Rattle.ivy_model.specs.declared.Call.{Call}
 use Rattle.ivy_model.specs.declared.Config.{Config}
 use Rattle.ivy_model.specs.declared.Fault.{Fault}
+use Rattle.ivy_model.specs.declared.Row.{Row}
+use Rattle.ivy_model.specs.Rows.{calls_of, numbers_in, row}
 use Rattle.ivy_moves.specs.declared.Move.{Move}
+use Rattle.ivy_moves.specs.declared.Move.TheVariants.{Turn}
 use Rattle.ivy_moves.specs.Worlds.{Moves}
 use Rattle.ivy_world.specs.ivy_host.Hosts.{host_rules}
 use Rattle.ivy_world.specs.ivy_host.Managers.{managed_ops}
 use Rattle.ivy_world.specs.proof_headline.RunState.{Run}
 use Rattle.ivy_world.specs.declared.rest.Rest.{Rest}
 use Rattle.ivy_world.specs.declared.rest.Rest.TheVariants.{Going, Still}
-use Rattle.ivy_world.specs.Handed.{run_handed}
+use Rattle.ivy_world.specs.Handed.{BeginsBlock, BeginsTogether, run_handed}
 use Rattle.ivy_world.specs.Runs.{IsSameRun}
 use Rattle.ivy_world.specs.Settling.{HasSettled}
 use Rattle.ivy_drawn.specs.Played.{Step, Calls, Makes, moves_in, with_world, PlaysTo, own_opening, IsPlayed, IsStillWhere}
@@ -18,15 +21,15 @@ use Rattle.ivy_drawn.specs.Played.{Step, Calls, Makes, moves_in, with_world, Pla
 plays_more : (r mid end : Run) (steps : List Step) (s : Step) → PlaysTo r steps mid
     → PlaysTo mid (s ∷ []) end → PlaysTo r (steps ++ s ∷ []) end
 plays_more r mid end [] s is last = subst (λ x. PlaysTo x (s ∷ []) end) is last
-plays_more r mid end (Calls i call ∷ steps) s plays last =
-    plays_more (run_handed i ((call ∷ []) ∷ []) r) mid end steps s plays last
+plays_more r mid end (Calls i calls ∷ steps) s plays last =
+    plays_more (run_handed i (calls ∷ []) r) mid end steps s plays last
 plays_more r mid end (Makes m ∷ steps) s plays last =
     (plays.0, plays.1, plays_more (with_world r plays.0) mid end steps s plays.2 last)
 
 moves_more : (steps : List Step) (s : Step)
     → moves_in (steps ++ s ∷ []) ≡ moves_in steps ++ moves_in (s ∷ [])
 moves_more [] s = refl
-moves_more (Calls i call ∷ steps) s = moves_more steps s
+moves_more (Calls i calls ∷ steps) s = moves_more steps s
 moves_more (Makes m ∷ steps) s = ap (λ l. m ∷ l) (moves_more steps s)
 
 -- the opening
@@ -54,13 +57,13 @@ played_move c moves more m old new is same made p =
       config = same.0 ∙ p.config;
     }
 
--- one call more
-pub played_call : (c : Config) (moves : List Move) (i : ℕ) (call : Call) (old new : Run)
-    → new ≡ run_handed i ((call ∷ []) ∷ []) old → IsPlayed c moves old → IsPlayed c moves new
-played_call c moves i call old new is p = record {
-  steps = p.steps ++ Calls i call ∷ [];
-  made = moves_more p.steps (Calls i call) ∙ append-nil (moves_in p.steps) ∙ p.made;
-  plays = plays_more (own_opening c) old new p.steps (Calls i call) p.plays is;
+-- calls that are made together
+pub played_calls : (c : Config) (moves : List Move) (i : ℕ) (calls : List Call) (old new : Run)
+    → new ≡ run_handed i (calls ∷ []) old → IsPlayed c moves old → IsPlayed c moves new
+played_calls c moves i calls old new is p = record {
+  steps = p.steps ++ Calls i calls ∷ [];
+  made = moves_more p.steps (Calls i calls) ∙ append-nil (moves_in p.steps) ∙ p.made;
+  plays = plays_more (own_opening c) old new p.steps (Calls i calls) p.plays is;
   config = ap (λ (x : Run). x.config) is ∙ p.config;
 }
 
@@ -68,8 +71,27 @@ played_call c moves i call old new is p = record {
 pub played_hand : (c : Config) (moves : List Move) (i : ℕ) (call : Call) (old new : Run)
     (r : Result (Unit {0}) Fault) → OnOk r (new ≡ run_handed i ((call ∷ []) ∷ []) old)
     → OnErr r (new ≡ old) → IsPlayed c moves old → IsPlayed c moves new
-played_hand c moves i call old new (Ok u) ok err p = played_call c moves i call old new ok p
+played_hand c moves i call old new (Ok u) ok err p = played_calls c moves i (call ∷ []) old new ok p
 played_hand c moves i call old new (Err e) ok err p = subst (IsPlayed c moves) (sym err) p
+
+-- calls that are made together, and the turn in which they begin
+played_begun : (c : Config) (moves more : List Move) (i : ℕ) (calls : List Call) (old new : Run)
+    → more ≡ moves ++ Turn i ∷ [] → BeginsTogether i calls old new → IsPlayed c moves old
+    → IsPlayed c more new
+played_begun c moves more i calls old new is begun p =
+    let mid : Run = run_handed i (calls ∷ []) old in
+    played_move c moves more (Turn i) mid new is begun.turn.stays begun.turn.moves
+    (played_calls c moves i calls old mid refl p)
+
+-- so many words of a row
+pub played_block : (c : Config) (moves more : List Move) (i : ℕ) (kind : Row) (addr n : ℕ)
+    (bytes : List ℕ) (old new : Run) → n ≢ 0 → more ≡ moves ++ Turn i ∷ []
+    → BeginsBlock i (calls_of (row kind 0 addr (numbers_in n bytes))) old new → IsPlayed c moves old
+    → IsPlayed c more new
+played_block c moves more i kind addr zero bytes old new some is begun p = absurd (some refl)
+played_block c moves more i kind addr (suc n) bytes old new some is begun p =
+    played_begun c moves more i (calls_of (row kind 0 addr (numbers_in (suc n) bytes))) old new is
+    begun p
 
 -- nothing is said of a world that goes on
 pub going : (rest : Rest) (r : Run) → rest ≡ Going → IsStillWhere rest r

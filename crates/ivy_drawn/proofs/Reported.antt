@@ -81,7 +81,7 @@ explained_at : (c : Config) (w end : World (Host Managed)) (order : List Record)
     → Leads (host_rules managed_ops) c w moves end
     → (all : List Record) × IsExplained c all (answered_in end)
 explained_at c w end order [] goes led =
-    (order, subst (λ x. IsExplained c order (answered_in x)) (sym led) goes)
+    (order, subst (λ x. IsExplained c order (answered_in x)) (sym led) goes.explained)
 explained_at c w end order (m ∷ moves) goes led =
     let next = goes.1 led.0 led.1 in
     explained_at c led.0 end (order ++ next.0) moves next.1 led.2

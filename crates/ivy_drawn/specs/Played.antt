@@ -20,26 +20,26 @@ use Rattle.ivy_world.specs.Settling.{HasSettled}
 abbrev pub no_config : Config
 no_config = record { nodes = 0; pages = 0; page_size = 0; manager = Fixed }
 
--- the work of a node makes a call, or a move is made
+-- the work of a node makes calls together, alone or in a row, or a move is made
 pub data Step : Type 0 where
-  Calls : ℕ → Call → Step
+  Calls : ℕ → List Call → Step
   Makes : Move → Step
 
 -- the moves among them
 abbrev pub moves_in : List Step → List Move
 moves_in [] = []
-moves_in (Calls i call ∷ steps) = moves_in steps
+moves_in (Calls i calls ∷ steps) = moves_in steps
 moves_in (Makes move ∷ steps) = move ∷ moves_in steps
 
 -- the world goes on
 abbrev pub with_world : Run → World (Host Managed) → Run
 with_world r w = record { config = r.config; programs = r.programs; world = w }
 
--- the steps, one after another, lead from the one world to the other: a call is handed to its node, and
--- a move leads to a world
+-- the steps, one after another, lead from the one world to the other: calls are handed to their node
+-- in one row, and a move leads to a world
 abbrev pub PlaysTo : Run → List Step → Run → Type 0
 PlaysTo r [] end = end ≡ r
-PlaysTo r (Calls i call ∷ steps) end = PlaysTo (run_handed i ((call ∷ []) ∷ []) r) steps end
+PlaysTo r (Calls i calls ∷ steps) end = PlaysTo (run_handed i (calls ∷ []) r) steps end
 PlaysTo r (Makes move ∷ steps) end =
     (mid : World (Host Managed)) × Moves (host_rules managed_ops) r.config r.world move mid
     × PlaysTo (with_world r mid) steps end

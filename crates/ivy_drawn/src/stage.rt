@@ -1,5 +1,5 @@
 //! The world of a play behind its lock, with the moves that were made.
-ghost use Rattle.std.specs.Prelude.{◌≡◌, ◌+◌, Ok, false, true, length, IfErr, IfSome, OnErr, OnOk};
+ghost use Rattle.std.specs.Prelude.{◌≡◌, ◌+◌, ◌*◌, ◌<◌, ◌≤◌, Ok, false, true, length, IfErr, IfOk, IfSome, OnErr, OnOk};
 ghost use Rattle.ivy_model.specs.declared.Config.{Config};
 ghost use Rattle.ivy_model.specs.Legal.{HasWidth};
 ghost use Rattle.ivy_moves.specs.Worlds.{Moves};
@@ -12,7 +12,7 @@ ghost use Rattle.ivy_drawn.specs.Faults.{IsPlayStop, IsUnanswered};
 ghost use Rattle.ivy_drawn.specs.Played.{IsPlayed, IsAnsweredAt, IsStillWhere, own_opening};
 
 use crate::source::MoveSource;
-use ivy_model::{Call, Fault, Reply};
+use ivy_model::{Call, Fault, Reply, Row};
 use ivy_world::{Move, Rest, World};
 use std::alloc::Allocator;
 use std::marker::{Brand, Model, PhantomData};
@@ -70,6 +70,30 @@ pub(crate) fn play_move<A: Allocator + Copy>(
     Ok(did)
 }
 
+/// Own code at a node makes calls of a row together, where the first has to wait, and has a turn, which is listed; or nothing
+/// changes [1, 17]. It says how many.
+fn play_block<A: Allocator + Copy>(
+    world: &mut World<A>,
+    moves: &mut Vec<Move, A>,
+    node: u64,
+    kind: Row,
+    addr: u64,
+    bytes: &[u8],
+) -> Result<usize, Fault>
+    requires { node < world.old.config.nodes }
+    ensures played { (c : Config) → IsPlayed c moves.old.items world.old → IsPlayed c moves.new.items world.new }
+    ensures fits { IfOk result (λ calls. 8 * calls ≤ length bytes.now) }
+    ensures stop { IfErr result IsPlayStop }
+{
+    moves.reserve(1)?;
+    let calls = world.hand_block(node, kind, addr, bytes.len() / 8, bytes)?;
+    if calls == 0 {
+        return Ok(0);
+    }
+    moves.push_reserved(Move::Turn(node));
+    Ok(calls)
+}
+
 /// Gives each node a turn, as long as none does anything, and lists them [1, 17]. It says whether the world stands still.
 fn find_still<A: Allocator + Copy>(
     world: &mut World<A>,
@@ -105,6 +129,8 @@ pub(crate) struct Stage<S: Setting, A: Allocator> {
     /// So many of the moves were not made to let the world settle.
     drawn: usize,
     rest: Rest,
+    /// Whether the turn before which a work goes on was made already, as a block of that work began in it.
+    has_turned: bool,
     of: PhantomData<S>,
 }
 
@@ -129,6 +155,7 @@ impl<S: Setting, A: Allocator + Copy> Stage<S, A> {
             moves: Vec::new(alloc),
             drawn: 0,
             rest: Rest::Going,
+            has_turned: false,
             of: PhantomData,
         }
     }
@@ -160,6 +187,28 @@ impl<S: Setting, A: Allocator + Copy> Stage<S, A> {
         self.world.hand(node, call)
     }
 
+    /// The work of a node makes calls of a row together, on words of 8 bytes from `addr` on, where the first has to wait [1, 17].
+    /// It says how many, of which none has a reply yet. The turn in which they begin is the one before which the work goes on.
+    pub(crate) fn begin_block(
+        &mut self,
+        node: u8,
+        kind: Row,
+        addr: u64,
+        bytes: &[u8],
+    ) -> Result<usize, Fault>
+        ensures fits { IfOk result (λ calls. 8 * calls ≤ length bytes.now) }
+        ensures stop { IfErr result IsPlayStop }
+    {
+        let node = u64::from(node);
+        if node >= self.world.nodes() {
+            return Ok(0);
+        }
+        self.rest = Rest::Going;
+        let calls = play_block(&mut self.world, &mut self.moves, node, kind, addr, bytes)?;
+        self.has_turned = calls > 0;
+        Ok(calls)
+    }
+
     /// The reply that a node got to its call of this number, counted from 0, where it got one.
     pub(crate) fn reply(&self, node: u8, number: usize, call: Call) -> Option<Reply> {
         reply_of(&self.world, node, number, call)
@@ -172,10 +221,15 @@ impl<S: Setting, A: Allocator + Copy> Stage<S, A> {
         source.next(&self.world)
     }
 
-    /// Makes a move, or changes nothing [1, 17, 19]. It says whether it did anything.
+    /// Makes a move, or changes nothing [1, 17, 19]. It says whether it did anything. The turn in which a block began is not
+    /// made again.
     pub(crate) fn make(&mut self, step: Move) -> Result<bool, Fault>
         ensures { IfErr result IsPlayStop }
     {
+        if self.has_turned {
+            self.has_turned = false;
+            return Ok(true);
+        }
         self.rest = Rest::Going;
         play_move(&mut self.world, &mut self.moves, step)
     }
@@ -220,6 +274,7 @@ impl<S: Setting, A: Allocator + Copy> Stage<S, A> {
             moves,
             drawn,
             rest,
+            has_turned: _,
             of: _,
         } = self;
         Played {

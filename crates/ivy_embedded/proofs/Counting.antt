@@ -13,7 +13,7 @@ use Rattle.ivy_moves.specs.Marks.{Mark, Turn, Delivery, Pulse}
 use Rattle.ivy_moves.specs.Nodes.{pulsing}
 use Rattle.ivy_moves.specs.Parts.{pulse_marks}
 use Rattle.ivy_site.specs.Calls.{AreAnswered, AreTaken, BeginsRow}
-use Rattle.ivy_site.specs.Shown.{Shown, after_pulse_to}
+use Rattle.ivy_site.specs.SiteView.{SiteView, after_pulse_to}
 use Rattle.ivy_site.specs.Sites.{SiteTurns, SiteDelivers, SiteGoesOn, FollowsDelivery, AfterDelivery}
 use Rattle.ivy_embedded.specs.Turns.{turns_in, CountsTurns}
 
@@ -48,30 +48,30 @@ pulsed_to to [] events = none events
 pulsed_to to (s ∷ ss) events = beat to events
 
 -- a turn is counted by one more, in 64 bits
-pub counted_turn : (old new : Shown) → SiteTurns old new → (before after : ℕ)
+pub counted_turn : (old new : SiteView) → SiteTurns old new → (before after : ℕ)
     → CountsTurns before old.events → after ≡ (before + 1) % 2 ^ 64 → CountsTurns after new.events
 counted_turn old new t before after counts is =
     is ∙ (ap (λ n. (n + 1) % 2 ^ 64) counts
     ∙ (mod-add-mod (turns_in old.events) (2 ^ 64) 1
     ∙ ap (λ n. n % 2 ^ 64) (sym (one_more old.events)
-    ∙ ap (λ (s : Shown). turns_in s.events) (sym t.after))))
+    ∙ ap (λ (s : SiteView). turns_in s.events) (sym t.after))))
 
 -- each call that is answered as it begins is one more
-answered : (rs : List Record) (old new : Shown) → AreAnswered rs old new
+answered : (rs : List Record) (old new : SiteView) → AreAnswered rs old new
     → turns_in new.events ≡ turns_in old.events + length rs
-answered [] old new same = omega (arith, ap (λ (s : Shown). turns_in s.events) same)
+answered [] old new same = omega (arith, ap (λ (s : SiteView). turns_in s.events) same)
 answered (r ∷ rs) old new a =
     let first : turns_in a.0.events ≡ turns_in old.events + 1 =
-    ap (λ (s : Shown). turns_in s.events) a.1.turns.after ∙ one_more old.events in
+    ap (λ (s : SiteView). turns_in s.events) a.1.turns.after ∙ one_more old.events in
     omega (arith, first, answered rs a.0 new a.2)
 
 -- and so is each call in progress whose reply is taken
-taken : (rs : List Record) (old new : Shown) → AreTaken rs old new
+taken : (rs : List Record) (old new : SiteView) → AreTaken rs old new
     → turns_in new.events ≡ turns_in old.events + length rs
-taken [] old new same = omega (arith, ap (λ (s : Shown). turns_in s.events) same)
+taken [] old new same = omega (arith, ap (λ (s : SiteView). turns_in s.events) same)
 taken (r ∷ rs) old new a =
     let first : turns_in a.0.events ≡ turns_in old.events + 1 =
-    ap (λ (s : Shown). turns_in s.events) a.1.turns.after ∙ one_more old.events in
+    ap (λ (s : SiteView). turns_in s.events) a.1.turns.after ∙ one_more old.events in
     omega (arith, first, taken rs a.0 new a.2)
 
 words_of : (kind : Row) (node addr words : ℕ) (bytes : List ℕ)
@@ -87,7 +87,7 @@ counted many before after old new more counts is =
     ∙ (mod-add-mod (turns_in old) (2 ^ 64) many ∙ ap (λ n. n % 2 ^ 64) (sym more)))
 
 -- so a row is counted by its words
-pub counted_row : (kind : Row) (node addr words : ℕ) (bytes : List ℕ) (old new : Shown)
+pub counted_row : (kind : Row) (node addr words : ℕ) (bytes : List ℕ) (old new : SiteView)
     → AreAnswered (row kind node addr (numbers_in words bytes)) old new → (before after : ℕ)
     → CountsTurns before old.events → after ≡ (before + words) % 2 ^ 64
     → CountsTurns after new.events
@@ -97,7 +97,7 @@ counted_row kind node addr words bytes old new a before after counts is =
     ∙ ap (λ n. turns_in old.events + n) (words_of kind node addr words bytes)) counts is
 
 -- and one whose replies are taken
-pub counted_taken : (kind : Row) (node addr words : ℕ) (bytes : List ℕ) (old new : Shown)
+pub counted_taken : (kind : Row) (node addr words : ℕ) (bytes : List ℕ) (old new : SiteView)
     → AreTaken (row kind node addr (numbers_in words bytes)) old new → (before after : ℕ)
     → CountsTurns before old.events → after ≡ (before + words) % 2 ^ 64
     → CountsTurns after new.events
@@ -107,7 +107,7 @@ counted_taken kind node addr words bytes old new a before after counts is =
     ∙ ap (λ n. turns_in old.events + n) (words_of kind node addr words bytes)) counts is
 
 -- a row that begins is one more
-pub counted_together : (kind : Row) (addr words : ℕ) (bytes : List ℕ) (old new : Shown)
+pub counted_together : (kind : Row) (addr words : ℕ) (bytes : List ℕ) (old new : SiteView)
     → BeginsRow (calls_of (row kind 0 addr (numbers_in words bytes))) old new → 0 < words
     → (before after : ℕ) → CountsTurns before old.events → after ≡ (before + 1) % 2 ^ 64
     → CountsTurns after new.events
@@ -115,43 +115,43 @@ counted_together kind addr zero bytes old new b some before after counts is =
     absurd (omega (arith, some))
 counted_together kind addr (suc words) bytes old new b some before after counts is =
     counted 1 before after old.events new.events
-    (ap (λ (s : Shown). turns_in s.events) b.turns.after ∙ one_more old.events) counts is
+    (ap (λ (s : SiteView). turns_in s.events) b.turns.after ∙ one_more old.events) counts is
 
 -- or none, and nothing is counted
-pub counted_none : (kind : Row) (addr words : ℕ) (bytes : List ℕ) (old new : Shown)
+pub counted_none : (kind : Row) (addr words : ℕ) (bytes : List ℕ) (old new : SiteView)
     → BeginsRow (calls_of (row kind 0 addr (numbers_in words bytes))) old new → words ≡ 0
     → (count : ℕ) → CountsTurns count old.events → CountsTurns count new.events
 counted_none kind addr zero bytes old new same none count counts =
-    counts ∙ ap (λ n. n % 2 ^ 64) (sym (ap (λ (s : Shown). turns_in s.events) same))
+    counts ∙ ap (λ n. n % 2 ^ 64) (sym (ap (λ (s : SiteView). turns_in s.events) same))
 counted_none kind addr (suc words) bytes old new b none count counts =
     absurd (omega (arith, none))
 
-delivers : (bytes : List ℕ) (v : Verdict) (old new : Shown) → SiteDelivers bytes v old new
+delivers : (bytes : List ℕ) (v : Verdict) (old new : SiteView) → SiteDelivers bytes v old new
     → turns_in new.events ≡ turns_in old.events
-delivers bytes verdict.NotMine old new d = ap (λ (s : Shown). turns_in s.events) d.after
+delivers bytes verdict.NotMine old new d = ap (λ (s : SiteView). turns_in s.events) d.after
 delivers bytes verdict.Next old new d =
-    ap (λ (s : Shown). turns_in s.events) d.after ∙ heard bytes old.events
+    ap (λ (s : SiteView). turns_in s.events) d.after ∙ heard bytes old.events
 delivers bytes verdict.Repeat old new d =
-    ap (λ (s : Shown). turns_in s.events) d.after ∙ heard bytes old.events
+    ap (λ (s : SiteView). turns_in s.events) d.after ∙ heard bytes old.events
 delivers bytes verdict.Ahead old new d =
-    ap (λ (s : Shown). turns_in s.events) d.after ∙ heard bytes old.events
+    ap (λ (s : SiteView). turns_in s.events) d.after ∙ heard bytes old.events
 
-goes_on : (source : ℕ) (more : List (List ℕ)) (old new : Shown) → SiteGoesOn source more old new
+goes_on : (source : ℕ) (more : List (List ℕ)) (old new : SiteView) → SiteGoesOn source more old new
     → turns_in new.events ≡ turns_in old.events
-goes_on source [] old new same = ap (λ (s : Shown). turns_in s.events) same
+goes_on source [] old new same = ap (λ (s : SiteView). turns_in s.events) same
 goes_on source (bytes ∷ more) old new g =
     goes_on source more g.0 new g.2
-    ∙ (ap (λ (s : Shown). turns_in s.events) g.1.next.after ∙ heard bytes old.events)
+    ∙ (ap (λ (s : SiteView). turns_in s.events) g.1.next.after ∙ heard bytes old.events)
 
-follows : (v : Verdict) (f : Frame) (bytes : List ℕ) (mid new : Shown)
+follows : (v : Verdict) (f : Frame) (bytes : List ℕ) (mid new : SiteView)
     → FollowsDelivery v f bytes mid new → turns_in new.events ≡ turns_in mid.events
-follows verdict.NotMine f bytes mid new same = ap (λ (s : Shown). turns_in s.events) same
-follows verdict.Repeat f bytes mid new same = ap (λ (s : Shown). turns_in s.events) same
-follows verdict.Ahead f bytes mid new same = ap (λ (s : Shown). turns_in s.events) same
+follows verdict.NotMine f bytes mid new same = ap (λ (s : SiteView). turns_in s.events) same
+follows verdict.Repeat f bytes mid new same = ap (λ (s : SiteView). turns_in s.events) same
+follows verdict.Ahead f bytes mid new same = ap (λ (s : SiteView). turns_in s.events) same
 follows verdict.Next f bytes mid new went = goes_on f.source went.0 mid new went.1
 
 -- a delivery is no turn
-pub counted_delivery : (bytes : List ℕ) (v : Verdict) (old new : Shown)
+pub counted_delivery : (bytes : List ℕ) (v : Verdict) (old new : SiteView)
     → AfterDelivery bytes v old new → (count : ℕ) → CountsTurns count old.events
     → CountsTurns count new.events
 counted_delivery bytes v old new d count counts =
@@ -159,8 +159,8 @@ counted_delivery bytes v old new d count counts =
     ∙ delivers bytes v old d.mid d.first))
 
 -- nor is a pulse
-pub counted_pulse : (to : ℕ) (old new : Shown) → new ≡ after_pulse_to old to (pulsing old.node to)
+pub counted_pulse : (to : ℕ) (old new : SiteView) → new ≡ after_pulse_to old to (pulsing old.node to)
     → (count : ℕ) → CountsTurns count old.events → CountsTurns count new.events
 counted_pulse to old new same count counts =
-    counts ∙ ap (λ n. n % 2 ^ 64) (sym (ap (λ (s : Shown). turns_in s.events) same
+    counts ∙ ap (λ n. n % 2 ^ 64) (sym (ap (λ (s : SiteView). turns_in s.events) same
     ∙ pulsed_to to (pulsing old.node to).sent old.events))

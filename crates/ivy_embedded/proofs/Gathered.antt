@@ -7,7 +7,7 @@ use Rattle.ivy_model.specs.Limits.{most_nodes}
 use Rattle.ivy_pagetable.specs.NodeSets.{Nodes, bits_of, nodes_with}
 use Rattle.ivy_pagetable.proofs.NodeSets.{tied}
 use Rattle.ivy_pagetable.proofs.Bits.{with_bits_of}
-use Rattle.ivy_site.specs.Shown.{Shown}
+use Rattle.ivy_site.specs.SiteView.{SiteView}
 use Rattle.ivy_embedded.specs.Peers.{AreThose}
 
 module _ (P : ℕ → Type 0) where
@@ -57,12 +57,12 @@ module _ (P : ℕ → Type 0) where
       subst (AreThose P n) (sym (with_bits_of n s few (λ q is. ((those q).0 is).0))) those
 
 -- so the number of the set tells those of a site
-pub told_bits : (P : Shown → ℕ → Type 0) (inside now : Shown) (nodes bits : ℕ) (s : Nodes)
+pub told_bits : (P : SiteView → ℕ → Type 0) (inside now : SiteView) (nodes bits : ℕ) (s : Nodes)
     → now ≡ inside → nodes ≡ inside.config.nodes → nodes ≤ most_nodes
     → AreThose (P inside) nodes s → bits ≡ bits_of s
     → AreThose (P now) now.config.nodes (nodes_with bits)
 told_bits P inside now nodes bits s same is few those b =
-    subst (λ (x : Shown). AreThose (P x) x.config.nodes (nodes_with bits)) (sym same)
+    subst (λ (x : SiteView). AreThose (P x) x.config.nodes (nodes_with bits)) (sym same)
     (subst (λ n. AreThose (P inside) n (nodes_with bits)) is
     (subst (λ k. AreThose (P inside) nodes (nodes_with k)) (sym b)
     (those_bits (P inside) nodes s few those)))

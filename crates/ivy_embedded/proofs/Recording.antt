@@ -13,7 +13,7 @@ use Rattle.ivy_site.specs.ivy_host.ivy_memory.Memories.{CallBegun, call_begun, p
 use Rattle.ivy_site.specs.ivy_host.Managers.{Managed, managed_ops}
 use Rattle.ivy_site.specs.ivy_host.Hosts.{Host, number_of, begins_as, begins_with, steps, turned_at, turn_of}
 use Rattle.ivy_site.specs.Calls.{BeginsCall}
-use Rattle.ivy_site.specs.Shown.{Shown}
+use Rattle.ivy_site.specs.SiteView.{SiteView}
 use Rattle.ivy_site.specs.Sites.{SiteTurns}
 use Rattle.ivy_site.proofs.of_ivy_host.Programs.{posting-core}
 use Rattle.ivy_embedded.specs.Exports.{AfterCall, AfterBegin}
@@ -73,11 +73,11 @@ unfolding turn_of
 turn-grows n o is = at-grows n n.memory.asked o refl is
 
 -- the history of a site after its turn
-pub site-grows : (old new : Shown) → SiteTurns old new → Grows old.node.core new.node.core.history
+pub site-grows : (old new : SiteView) → SiteTurns old new → Grows old.node.core new.node.core.history
 site-grows old new t =
     subst (λ (x : List Record). Grows old.node.core x)
     (ap (λ (h : H). h.history) (sym (posting-core old.node t.outcome.after t.outcome.posted t.effect t.sent))
-    ∙ ap (λ (s : Shown). s.node.core.history) (sym t.after))
+    ∙ ap (λ (s : SiteView). s.node.core.history) (sym t.after))
     (turn-grows old.node.core t.outcome t.turn)
 
 -- a list that has one more is longer
@@ -100,7 +100,7 @@ last_one xs x =
     let place : length (xs ++ x ∷ []) - 1 ≡ length xs = omega (arith, length_more xs x) in
     ap (slice_get (xs ++ x ∷ [])) place ∙ at_end xs x
 
-none_by : (old new : Shown) → SiteTurns old new
+none_by : (old new : SiteView) → SiteTurns old new
     → length new.node.core.history ≡ length old.node.core.history
     → Grows old.node.core new.node.core.history → AfterCall None old new
 none_by old new t count (By c r about is) =
@@ -108,11 +108,11 @@ none_by old new t count (By c r about is) =
 none_by old new t count (Stays is) = inr (t, is)
 
 -- the count of records stayed: no reply was recorded
-pub none_recorded : (old new : Shown) → SiteTurns old new
+pub none_recorded : (old new : SiteView) → SiteTurns old new
     → length new.node.core.history ≡ length old.node.core.history → AfterCall None old new
 none_recorded old new t count = none_by old new t count (site-grows old new t)
 
-some_by : (old new : Shown) → SiteTurns old new
+some_by : (old new : SiteView) → SiteTurns old new
     → (length new.node.core.history ≡ length old.node.core.history → ⊥) → (o : Option Record)
     → o ≡ slice_get new.node.core.history (length new.node.core.history - 1)
     → Grows old.node.core new.node.core.history
@@ -126,14 +126,14 @@ some_by old new t more o last (By c r about is) =
 some_by old new t more o last (Stays is) = absurd (more (ap length is))
 
 -- it did not: the last record has the reply
-some_recorded : (old new : Shown) → SiteTurns old new
+some_recorded : (old new : SiteView) → SiteTurns old new
     → (length new.node.core.history ≡ length old.node.core.history → ⊥) → (o : Option Record)
     → o ≡ slice_get new.node.core.history (length new.node.core.history - 1)
     → AfterCall (option_map (λ (r : Record). r.reply) o) old new
 some_recorded old new t more o last = some_by old new t more o last (site-grows old new t)
 
 -- as the count and the last record are read: the record has the reply
-pub reply_recorded : (old new : Shown) (before after : ℕ) → SiteTurns old new
+pub reply_recorded : (old new : SiteView) (before after : ℕ) → SiteTurns old new
     → before ≡ length old.node.core.history → after ≡ length new.node.core.history
     → after ≢ before → (o : Option Record) (r : Record) → o ≡ Some r
     → o ≡ slice_get new.node.core.history (length new.node.core.history - 1)
@@ -142,7 +142,7 @@ reply_recorded old new before after t b a more o r is last =
     some_recorded old new t (λ e. more (a ∙ (e ∙ sym b))) (Some r) (sym is ∙ last)
 
 -- and there is one
-pub reply_there : (old new : Shown) (before after : ℕ) → SiteTurns old new
+pub reply_there : (old new : SiteView) (before after : ℕ) → SiteTurns old new
     → before ≡ length old.node.core.history → after ≡ length new.node.core.history
     → after ≢ before → (o : Option Record) → o ≡ None
     → o ≡ slice_get new.node.core.history (length new.node.core.history - 1)
@@ -151,7 +151,7 @@ reply_there old new before after t b a more o is last =
     some_recorded old new t (λ e. more (a ∙ (e ∙ sym b))) None (sym is ∙ last)
 
 -- a call that a node's owner made is begun
-pub begun : (call : Call) (progress : Option Reply) (old new : Shown)
+pub begun : (call : Call) (progress : Option Reply) (old new : SiteView)
     → BeginsCall call progress old new → AfterBegin call progress old new
 begun call None old new b = inr (b.turns, b.recorded)
 begun call (Some r) old new b = record { turns = b.turns; recorded = b.recorded }

@@ -13,9 +13,9 @@ use Rattle.ivy_model.specs.declared.Reply.TheVariants.{Value, Done, Refused}
 use Rattle.ivy_model.specs.declared.Row.{Row}
 use Rattle.ivy_model.specs.Numbers.{fault_number}
 use Rattle.ivy_model.specs.Rows.{calls_of, numbers_in, row}
-use Rattle.ivy_model.specs.Wants.{IsWant}
+use Rattle.ivy_model.specs.Wants.{RanOut}
 use Rattle.ivy_wire.specs.Destinations.{dest_of}
-use Rattle.ivy_wire.specs.Faults.{checked}
+use Rattle.ivy_wire.specs.DecodeErrors.{checked}
 use Rattle.ivy_moves.specs.ivy_link.declared.Verdict.{Verdict}
 use Rattle.ivy_moves.specs.ivy_link.declared.Verdict.TheVariants as verdict
 use Rattle.ivy_moves.specs.Nodes.{pulsing}
@@ -24,7 +24,7 @@ use Rattle.ivy_program.specs.Steps.{Asks, step_of}
 use Rattle.ivy_site.specs.ivy_host.Hosts.{number_of}
 use Rattle.ivy_site.specs.Calls.{AreAnswered, AreTaken, BeginsRow}
 use Rattle.ivy_site.specs.Handed.{site_handed}
-use Rattle.ivy_site.specs.Shown.{Shown, after_pulse_to}
+use Rattle.ivy_site.specs.SiteView.{SiteView, after_pulse_to}
 use Rattle.ivy_site.specs.Sites.{AfterDelivery, SiteTurns}
 use Rattle.ivy_embedded.specs.Nodes.{Embedded, waiting_in}
 use Rattle.ivy_embedded.specs.declared.status.TheConstants.{DONE, PENDING, CLOSED, MEMORY, BUSY, NO_CALL, BAD_ARGUMENT, NO_FRAME, SHORT_BUFFER, FIXED, DYNAMIC}
@@ -61,28 +61,28 @@ IsConfigOf nodes pages page_size manager c = (c.nodes ≡ nodes) × (c.pages ≡
     × (c.page_size ≡ page_size) × IsManager manager c.manager
 
 -- the call that a turn is about: the one in progress, or the one that begins
-abbrev pub IsCallOf : Shown → Call → Type 0
+abbrev pub IsCallOf : SiteView → Call → Type 0
 IsCallOf s call = MatchOption s.node.core.memory.asked (step_of s.node.core.process ≡ Asks call)
     (λ asked. asked ≡ call)
 
 -- a turn, after which the reply to this call is recorded, once
-pub record Replies (call : Call) (reply : Reply) (old new : Shown) : Type 0 where
+pub record Replies (call : Call) (reply : Reply) (old new : SiteView) : Type 0 where
   pub turns : SiteTurns old new
   pub recorded : new.node.core.history ≡ old.node.core.history
       ++ record { node = number_of old.node.core; call = call; reply = reply } ∷ []
 
 -- nothing changed, or a turn that recorded no reply
-abbrev pub Waits : Shown → Shown → Type 0
+abbrev pub Waits : SiteView → SiteView → Type 0
 Waits old new =
     (new ≡ old) ⊎ (SiteTurns old new × (new.node.core.history ≡ old.node.core.history))
 
 -- a turn of a node that has a call: it gave this reply, or none yet
-abbrev pub AfterCall : Option Reply → Shown → Shown → Type 0
+abbrev pub AfterCall : Option Reply → SiteView → SiteView → Type 0
 AfterCall None old new = Waits old new
 AfterCall (Some reply) old new = (call : Call) × IsCallOf old call × Replies call reply old new
 
 -- the call is handed in, and the node has a turn
-abbrev pub AfterBegin : Call → Option Reply → Shown → Shown → Type 0
+abbrev pub AfterBegin : Call → Option Reply → SiteView → SiteView → Type 0
 AfterBegin call None old new = Waits (site_handed ((call ∷ []) ∷ []) old) new
 AfterBegin call (Some reply) old new = Replies call reply (site_handed ((call ∷ []) ∷ []) old) new
 
@@ -112,10 +112,10 @@ IsStatus status fault = status ≡ 256 + fault_number fault
 
 -- memory or message numbers ran out
 abbrev pub TellsWant : ℕ → Type 0
-TellsWant status = (fault : Fault) × IsWant fault × IsStatus status fault
+TellsWant status = (fault : Fault) × RanOut fault × IsStatus status fault
 
 -- the node changes so, and the string that was looked at stays
-abbrev pub OfSite : (Shown → Shown → Type 0) → Embedded → Embedded → Type 0
+abbrev pub OfSite : (SiteView → SiteView → Type 0) → Embedded → Embedded → Type 0
 OfSite Does s t = (t.first ≡ s.first) × Does s.site t.site
 
 -- the call of these numbers is handed in, and the status tells what came of it

@@ -1,13 +1,13 @@
 -- What a handle holds: a node with own code, and the string that was looked at and not taken yet.
 use Rattle.std.specs.Prelude.{ℕ, List, [], ◌∷◌, Option, Some, None}
 use Rattle.ivy_model.specs.declared.Config.{Config}
-use Rattle.ivy_site.specs.Shown.{Shown}
+use Rattle.ivy_site.specs.SiteView.{SiteView}
 use Rattle.ivy_site.specs.Sites.{first_keeping}
 use Rattle.ivy_moves.specs.declared.Keep.TheVariants.{Nothing}
 use Rattle.ivy_program.specs.Programs.{Called}
 
 pub record Embedded : Type 0 where
-  pub site : Shown
+  pub site : SiteView
   pub first : Option (List ℕ)
 
 -- the strings that wait, the first first

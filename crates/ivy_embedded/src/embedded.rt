@@ -4,14 +4,14 @@ ghost use Rattle.ivy_model.specs.Config.{IsConfig};
 ghost use Rattle.ivy_model.specs.Legal.{HasWidth};
 ghost use Rattle.ivy_model.specs.Rows.{calls_of, numbers_in, row};
 ghost use Rattle.ivy_model.specs.declared.Row.TheVariants.{Loads, Stores};
-ghost use Rattle.ivy_model.specs.Wants.{IsWant};
+ghost use Rattle.ivy_model.specs.Wants.{RanOut};
 ghost use Rattle.ivy_moves.specs.Nodes.{pulsing};
 ghost use Rattle.ivy_program.specs.Owned.{IsFree};
 ghost use Rattle.ivy_site.specs.ivy_host.ivy_memory.AtOnce.{IsStored, row_at_hand};
 ghost use Rattle.ivy_site.specs.Calls.{AreAnswered, AreTaken, BeginsRow, MayCallInRow, row_together};
-ghost use Rattle.ivy_site.specs.Shown.{after_pulse_to};
+ghost use Rattle.ivy_site.specs.SiteView.{after_pulse_to};
 ghost use Rattle.ivy_site.specs.Sites.{AfterDelivery};
-ghost use Rattle.ivy_wire.specs.Faults.{checked};
+ghost use Rattle.ivy_wire.specs.DecodeErrors.{checked};
 ghost use Rattle.ivy_embedded.specs.Taking.{IsTaken};
 ghost use Rattle.ivy_embedded.specs.Nodes.{first_embedded, waiting_in};
 ghost use Rattle.ivy_embedded.specs.Exports.{AfterCall, AfterBegin, ChangesWaiting, OfSite};
@@ -69,7 +69,7 @@ fn turn(site: &mut Site<Global>, turns: &mut u64) -> Result<Option<Reply>, Fault
     requires counts { CountsTurns turns.old site.old.events }
     ensures counted { CountsTurns turns.new site.new.events }
     ensures done { MatchResult result (λ progress. AfterCall progress site.old site.new) (λ _. site.new ≡ site.old) }
-    ensures want { IfErr result IsWant }
+    ensures want { IfErr result RanOut }
 {
     let before = site.records();
     match site.program_turn()? {
@@ -160,7 +160,7 @@ impl Embedded {
     /// Asks the call in progress for its reply [1, 17].
     pub fn poll(&mut self) -> Result<Option<Reply>, Fault>
         ensures done { MatchResult result (λ progress. OfSite (AfterCall progress) self.old self.new) (λ _. self.new ≡ self.old) }
-        ensures want { IfErr result IsWant }
+        ensures want { IfErr result RanOut }
     {
         turn(&mut self.site, &mut self.turns)
     }
@@ -210,7 +210,7 @@ impl Embedded {
         ensures done { MatchResult result (λ n. OfSite (BeginsRow (calls_of (row kind 0 addr (numbers_in n bytes.now)))) self.old self.new) (λ _. self.new ≡ self.old) }
         ensures many { MayCallInRow self.old.site addr (length bytes.now) → IfOk result (λ n. n ≡ row_together self.old.site kind addr words (length bytes.now)) }
         ensures fits { IfOk result (λ n. (n ≤ words) × (8 * n ≤ length bytes.now)) }
-        ensures want { IfErr result IsWant }
+        ensures want { IfErr result RanOut }
     {
         let begun = self.site.call_row(kind, addr, words, bytes)?;
         if begun > 0 {
@@ -261,7 +261,7 @@ impl Embedded {
     #[tactic(auto, using(crate::proofs::Counting::counted_delivery))]
     pub fn deliver(&mut self, bytes: &[u8]) -> Result<Verdict, Fault>
         ensures done { MatchResult result (λ verdict. OfSite (AfterDelivery bytes.now verdict) self.old self.new) (λ _. self.new ≡ self.old) }
-        ensures refused { MatchResult (checked self.old.site.config bytes.now) (λ _. IfErr result IsWant) (λ fault. result ≡ Err fault) }
+        ensures refused { MatchResult (checked self.old.site.config bytes.now) (λ _. IfErr result RanOut) (λ fault. result ≡ Err fault) }
     {
         self.site.deliver(bytes)
     }

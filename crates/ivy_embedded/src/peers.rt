@@ -10,9 +10,9 @@ use std::alloc::Global;
 /// What may hold of a site and another node.
 pub(crate) trait Relation {
     ghost use Rattle.std.specs.Prelude.{◌<◌, ◌↔◌, ℕ, IsTrue};
-    ghost use Rattle.ivy_site.specs.Shown.{Shown};
+    ghost use Rattle.ivy_site.specs.SiteView.{SiteView};
 
-    ghost holds: { Shown → ℕ → Type 0 };
+    ghost holds: { SiteView → ℕ → Type 0 };
 
     /// Whether it holds.
     fn is(site: &Site<Global>, to: u8) -> bool

@@ -9,7 +9,7 @@ use Rattle.ivy_moves.specs.Parts.{AllHappen, AllCanBeMade, AreParts, GoOn}
 use Rattle.ivy_moves.specs.Worlds.{World}
 use Rattle.ivy_moves.proofs.GoingOn.{parts_go_on}
 use Rattle.ivy_moves.proofs.Parts.{runs_are_their_parts}
-use Rattle.ivy_moves.proofs.Splitting.{IsSplit, all-split, same-effect, part-sent}
+use Rattle.ivy_moves.proofs.Splitting.{IsSplit, all-split, same-effect, part_sent}
 use Rattle.ivy_ether.specs.Going.{ListGoesOn, ListsGoOn}
 
 module _ {C : Type 0} (rules : Core C) (c : Config) (opening : World C) where
@@ -79,7 +79,7 @@ module _ {C : Type 0} (rules : Core C) (c : Config) (opening : World C) where
         record {
           run = now;
           before = went.1.before;
-          sent = λ i bytes s. part-sent rules c opening went.0 lists i s.list.node s.effect bytes
+          sent = λ i bytes s. part_sent rules c opening went.0 lists i s.list.node s.effect bytes
               now s.list.there s.list.happen s.sent;
         },
       )

@@ -13,7 +13,7 @@ use Rattle.ivy_host.specs.Handing.{handing}
 use Rattle.ivy_host.specs.Hosts.{Host, host_rules}
 use Rattle.ivy_host.specs.Managers.{Managed, managed_ops}
 use Rattle.ivy_host.proofs.Handed.{unseen, handing_none, opening_handed}
-use Rattle.ivy_host.proofs.Tame.{first_length}
+use Rattle.ivy_host.proofs.WellBehaved.{first_length}
 use Rattle.ivy_ether.specs.Programs.{beginning, all_handed_from, all_handed}
 use Rattle.ivy_ether.specs.Rule.{IsHanding, IsStart, AreRunParts, StartsWith}
 

@@ -29,7 +29,7 @@ no_room : (h : HeapState) (size : ℕ) → (size ≢ 0) → (told_of h (Alloc si
     → HasNoRoom h size
 no_room h size some is =
     let m : model.Memory = record { bytes = []; counts = []; blocks = h.blocks } in
-    let errand_served : Serves h.config m (call.Alloc size) (Refused 9)
+    let heap_request_served : Serves h.config m (call.Alloc size) (Refused 9)
     (with_blocks m (alloc_told h.config h.blocks size).blocks)
     = subst (λ r. Serves h.config m (call.Alloc size) r
     (with_blocks m (alloc_told h.config h.blocks size).blocks)) is
@@ -38,7 +38,7 @@ no_room h size some is =
     (Refuses m 8 (Refused 9) (with_blocks m (alloc_told h.config h.blocks size).blocks))
     (Allocates h.config m (rounded size) (Refused 9)
     (with_blocks m (alloc_told h.config h.blocks size).blocks)))
-    (ne_eqb size 0 some) errand_served).1
+    (ne_eqb size 0 some) heap_request_served).1
 
 pub alloc_grows : (h : HeapState) (size : ℕ) (r : Result ℕ Fault) → r ≡ Err fault.Memory
     → (size ≡ 0 → r ≡ Err fault.ZeroSize) → ((0 < size) × HasNoRoom h size → r ≡ Err fault.NoRoom)

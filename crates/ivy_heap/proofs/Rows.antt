@@ -6,9 +6,9 @@ use Rattle.ivy_wire.specs.Data.{Content, Message}
 use Rattle.ivy_alloc.specs.Heap.{HeapState}
 use Rattle.ivy_heap.specs.declared.heap_side.HeapCall.{HeapCall}
 use Rattle.ivy_heap.specs.declared.heap_side.HeapCall.TheVariants.{Alloc, Free}
-use Rattle.ivy_heap.specs.declared.heap_side.Errand.{Errand}
-use Rattle.ivy_heap.specs.declared.heap_side.Errand.TheVariants as errand
-use Rattle.ivy_heap.specs.HeapCalls.{HeapSide, HeapTold, misfit, served_at, errand_served, learned, learns, told_answer, heap_told_as, heap_told}
+use Rattle.ivy_heap.specs.declared.heap_side.HeapRequest.{HeapRequest}
+use Rattle.ivy_heap.specs.declared.heap_side.HeapRequest.TheVariants as heap_request
+use Rattle.ivy_heap.specs.HeapCalls.{HeapSide, HeapTold, misfit, served_at, heap_request_served, learned, learns, told_answer, heap_told_as, heap_told}
 
 pub either : {A : Type 0} (P : A → Type 0) (b : Bool) (x y : A) → P x → P y → P (if b then x else y)
 either P true x y h k = h
@@ -21,7 +21,7 @@ pub record HeapRows (me : ℕ) (s : HeapSide) (from : ℕ) (m : Message) (P : He
   pub breach : P (misfit s)
   pub serves : (k : HeapCall) (h : HeapState) → s.heap ≡ Some h
       → P (served_at me s from m.call k (Some h))
-  pub told : (k : HeapCall) (number : ℕ) (r : Reply) → s.errand ≡ Some (errand.Asked k number)
+  pub told : (k : HeapCall) (number : ℕ) (r : Reply) → s.heap_request ≡ Some (heap_request.Asked k number)
       → P (learned s (Some r))
 
 module _ {me : ℕ} {s : HeapSide} {from : ℕ} {m : Message} {P : HeapTold → Type 0}
@@ -31,32 +31,32 @@ module _ {me : ℕ} {s : HeapSide} {from : ℕ} {m : Message} {P : HeapTold → 
   served_at-row k None is = rows.breach
   served_at-row k (Some h) is = rows.serves k h is
 
-  served-row : (k : HeapCall) → P (errand_served me s from m k)
+  served-row : (k : HeapCall) → P (heap_request_served me s from m k)
   served-row k =
       either P (m.origin == from) (served_at me s from m.call k s.heap) (misfit s)
       (served_at-row k s.heap refl) rows.breach
 
   learned-row : (k : HeapCall) (number : ℕ) (r : Option Reply)
-      → s.errand ≡ Some (errand.Asked k number) → P (learned s r)
+      → s.heap_request ≡ Some (heap_request.Asked k number) → P (learned s r)
   learned-row k number None is = rows.breach
   learned-row k number (Some r) is = rows.told k number r is
 
-  learns-row : (body : Content) (e : Option Errand) → s.errand ≡ e → P (learns s m.call body e)
-  learns-row body (Some (errand.Asked k number)) is =
+  learns-row : (body : Content) (e : Option HeapRequest) → s.heap_request ≡ e → P (learns s m.call body e)
+  learns-row body (Some (heap_request.Asked k number)) is =
       either P (m.call == number) _ (misfit s) (learned-row k number _ is) rows.breach
-  learns-row body (Some (errand.Told r)) is = rows.breach
+  learns-row body (Some (heap_request.Told r)) is = rows.breach
   learns-row body None is = rows.breach
 
-  answered-row : P (told_answer me s from m)
-  answered-row =
-      either P (from == 0 && m.origin == me) (learns s m.call m.content s.errand) (misfit s)
-      (learns-row m.content s.errand refl) rows.breach
+  answered_row : P (told_answer me s from m)
+  answered_row =
+      either P (from == 0 && m.origin == me) (learns s m.call m.content s.heap_request) (misfit s)
+      (learns-row m.content s.heap_request refl) rows.breach
 
   as-row : (body : Content) → P (heap_told_as me s from m body)
   as-row (content.AllocReq size) = served-row (Alloc size)
   as-row (content.FreeReq addr) = served-row (Free addr)
-  as-row (content.AllocRep code addr) = answered-row
-  as-row (content.FreeRep code) = answered-row
+  as-row (content.AllocRep code addr) = answered_row
+  as-row (content.FreeRep code) = answered_row
   as-row (content.ReadReq page) = rows.breach
   as-row (content.WriteReq page) = rows.breach
   as-row (content.ReadRep page bytes) = rows.breach

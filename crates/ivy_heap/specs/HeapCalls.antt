@@ -14,22 +14,22 @@ use Rattle.ivy_heap.specs.declared.answer.Answer.{Answer}
 use Rattle.ivy_heap.specs.declared.answer.Answer.TheVariants.{Given, Awaited, Unserved}
 use Rattle.ivy_heap.specs.declared.heap_side.HeapCall.{HeapCall}
 use Rattle.ivy_heap.specs.declared.heap_side.HeapCall.TheVariants.{Alloc, Free}
-use Rattle.ivy_heap.specs.declared.heap_side.Errand.{Errand}
-use Rattle.ivy_heap.specs.declared.heap_side.Errand.TheVariants as errand
+use Rattle.ivy_heap.specs.declared.heap_side.HeapRequest.{HeapRequest}
+use Rattle.ivy_heap.specs.declared.heap_side.HeapRequest.TheVariants as heap_request
 
--- `heap` is the heap, at node 0 alone; `errand` is where the call in progress stands that node 0
+-- `heap` is the heap, at node 0 alone; `heap_request` is where the call in progress stands that node 0
 -- was asked for
 pub record HeapSide : Type 0 where
   pub heap : Option HeapState
-  pub errand : Option Errand
+  pub heap_request : Option HeapRequest
 
 -- the side of a node as it begins
 abbrev pub first_side : Config → ℕ → HeapSide
-first_side c me = record { heap = if me == 0 then Some (first_heap c) else None; errand = None }
+first_side c me = record { heap = if me == 0 then Some (first_heap c) else None; heap_request = None }
 
--- the side without an errand: its call is over
+-- the side without a request of the heap: its call is over
 abbrev pub closed : HeapSide → HeapSide
-closed s = record s { errand = None }
+closed s = record s { heap_request = None }
 
 -- the answer is the address of a block
 abbrev pub IsAddress : Answer → Type 0
@@ -122,7 +122,7 @@ heap_begun_at me s k number None =
     if nat_lt (number_in k) (2 ^ 64)
     then record {
       answer = Awaited;
-      after = record s { errand = Some (errand.Asked k number) };
+      after = record s { heap_request = Some (heap_request.Asked k number) };
       posted = parcel_to me 0 me number (request k) ∷ [];
     }
     else record { answer = Unserved; after = s; posted = [] }
@@ -153,32 +153,32 @@ served_at me s from number k (Some h) =
 served_at me s from number k None = misfit s
 
 -- node 0 serves nobody but the node that the request is from
-abbrev pub errand_served : ℕ → HeapSide → ℕ → Message → HeapCall → HeapTold
-errand_served me s from m k =
+abbrev pub heap_request_served : ℕ → HeapSide → ℕ → Message → HeapCall → HeapTold
+heap_request_served me s from m k =
     if m.origin == from then served_at me s from m.call k s.heap else misfit s
 
 -- the answer to the call that node 0 was asked for
 abbrev pub learned : HeapSide → Option Reply → HeapTold
 learned s (Some r) =
-    record { fits = true; after = record s { errand = Some (errand.Told r) }; posted = [] }
+    record { fits = true; after = record s { heap_request = Some (heap_request.Told r) }; posted = [] }
 learned s None = misfit s
 
 -- it counts once, and under the number of that call alone
-abbrev pub learns : HeapSide → ℕ → Content → Option Errand → HeapTold
-learns s number body (Some (errand.Asked k asked)) =
+abbrev pub learns : HeapSide → ℕ → Content → Option HeapRequest → HeapTold
+learns s number body (Some (heap_request.Asked k asked)) =
     if number == asked then learned s (reply_in k body) else misfit s
-learns s number body (Some (errand.Told r)) = misfit s
+learns s number body (Some (heap_request.Told r)) = misfit s
 learns s number body None = misfit s
 
 -- and from node 0 alone, about a call of this node
 abbrev pub told_answer : ℕ → HeapSide → ℕ → Message → HeapTold
 told_answer me s from m =
-    if from == 0 && m.origin == me then learns s m.call m.content s.errand else misfit s
+    if from == 0 && m.origin == me then learns s m.call m.content s.heap_request else misfit s
 
 -- which rule there is for a message, by what it is about
 abbrev pub heap_told_as : ℕ → HeapSide → ℕ → Message → Content → HeapTold
-heap_told_as me s from m (content.AllocReq size) = errand_served me s from m (Alloc size)
-heap_told_as me s from m (content.FreeReq addr) = errand_served me s from m (Free addr)
+heap_told_as me s from m (content.AllocReq size) = heap_request_served me s from m (Alloc size)
+heap_told_as me s from m (content.FreeReq addr) = heap_request_served me s from m (Free addr)
 heap_told_as me s from m (content.AllocRep code addr) = told_answer me s from m
 heap_told_as me s from m (content.FreeRep code) = told_answer me s from m
 heap_told_as me s from m body = misfit s
@@ -188,6 +188,6 @@ unfoldable pub heap_told : ℕ → HeapSide → ℕ → Message → HeapTold
 heap_told me s from m = heap_told_as me s from m m.content
 
 -- the reply of the call that node 0 was asked for, once it came
-abbrev pub reply_told : Option Errand → Option Reply
-reply_told (Some (errand.Told r)) = Some r
+abbrev pub reply_told : Option HeapRequest → Option Reply
+reply_told (Some (heap_request.Told r)) = Some r
 reply_told e = None

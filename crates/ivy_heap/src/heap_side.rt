@@ -1,7 +1,7 @@
 //! A node's side of the calls of the heap: node 0 keeps the heap, and any other node asks it.
 ghost use Rattle.std.specs.Prelude.{◌≡◌, ◌≢◌, false, [], ◌∷◌, ◌<◌, ◌≤◌, ◌⊎◌, IfOk, IfErr, OnOk, OnErr, IsOkUnless};
 ghost use Rattle.ivy_model.specs.Config.{IsConfig};
-ghost use Rattle.ivy_model.specs.Wants.{IsWant};
+ghost use Rattle.ivy_model.specs.Wants.{RanOut};
 ghost use Rattle.ivy_wire.specs.Lent.{owned_content, owned_message};
 ghost use Rattle.ivy_wire.specs.Spelling.{FitsMessage};
 ghost use Rattle.ivy_wire.specs.Posts.{parcel_to, HasRefused};
@@ -31,7 +31,7 @@ pub enum HeapCall {
 
 /// Where a call of the heap stands that node 0 was asked for.
 #[derive(Clone, Copy, Debug, PartialEq, Eq)]
-pub enum Errand {
+pub enum HeapRequest {
     /// Node 0 was asked, under this number, and has not answered yet.
     Asked { call: HeapCall, number: u64 },
     /// This is its answer.
@@ -42,7 +42,7 @@ pub enum Errand {
 #[derive(Drop)]
 pub struct HeapSide<A: Allocator> {
     heap: Option<Heap<A>>,
-    errand: Option<Errand>,
+    heap_request: Option<HeapRequest>,
 }
 
 impl<A: Allocator> Model for HeapSide<A> {
@@ -54,7 +54,7 @@ impl<A: Allocator> Model for HeapSide<A> {
 
     ghost coded = { Prim.hlevel (codes, heap_state_code) };
 
-    ghost view = { λ s. record { heap = s.heap; errand = s.errand } };
+    ghost view = { λ s. record { heap = s.heap; heap_request = s.heap_request } };
 }
 
 /// How node 0 is asked.
@@ -161,7 +161,7 @@ fn give_block<A: Allocator + Copy, P: Post>(
         (parcel_to me from from number
         (answer_to (kinds.Alloc size) (told_of heap.old (kinds.Alloc size)).reply) ∷ [])
         fault) }
-    ensures want { IfErr result IsWant }
+    ensures want { IfErr result RanOut }
 {
     match heap.alloc(size) {
         Ok(addr) => {
@@ -208,7 +208,7 @@ fn end_block<A: Allocator + Copy, P: Post>(
     ensures fault { IfErr result (HasRefused P.ops post.old post.new
         (parcel_to me from from number
         (answer_to (kinds.Free addr) (told_of heap.old (kinds.Free addr)).reply) ∷ [])) }
-    ensures want { IfErr result IsWant }
+    ensures want { IfErr result RanOut }
 {
     let code = if heap.is_block(addr) { 0 } else { NOT_A_BLOCK };
     post_one(post, me, from, from, number, Content::FreeRep { code })?;
@@ -228,7 +228,10 @@ impl<A: Allocator + Copy> HeapSide<A> {
         } else {
             None
         };
-        Ok(HeapSide { heap, errand: None })
+        Ok(HeapSide {
+            heap,
+            heap_request: None,
+        })
     }
 
     /// A call begins, as the one of this number [1, 17]. At node 0 it is served at once, and no message is posted. Else
@@ -257,13 +260,13 @@ impl<A: Allocator + Copy> HeapSide<A> {
             × (post.new ≡ post.old))
             ⊎ HasRefused P.ops post.old post.new
             (heap_begun me self.old call number).posted fault) }
-        ensures want { IfErr result IsWant }
+        ensures want { IfErr result RanOut }
     {
         if let Some(heap) = &mut self.heap {
             return Ok(Answer::Given(serve(heap, call)?));
         }
         post_one(post, me, 0, me, number, request(call))?;
-        self.errand = Some(Errand::Asked { call, number });
+        self.heap_request = Some(HeapRequest::Asked { call, number });
         Ok(Answer::Awaited)
     }
 
@@ -291,7 +294,7 @@ impl<A: Allocator + Copy> HeapSide<A> {
             × (post.new ≡ post.old))
             ⊎ HasRefused P.ops post.old post.new
             (served_at me self.old from number call self.old.heap).posted fault) }
-        ensures want { IfErr result IsWant }
+        ensures want { IfErr result RanOut }
     {
         let Some(heap) = &mut self.heap else {
             return Ok(false);
@@ -306,15 +309,15 @@ impl<A: Allocator + Copy> HeapSide<A> {
     /// An answer of node 0 comes. It says whether node 0 was asked for a call of this number that is so answered;
     /// else nothing changes.
     fn learn(&mut self, number: u64, content: &Content<&[u8]>) -> bool
-        ensures fits { result ≡ (learns self.old number (owned_content content.now) self.old.errand).fits }
-        ensures after { self.new ≡ (learns self.old number (owned_content content.now) self.old.errand).after }
+        ensures fits { result ≡ (learns self.old number (owned_content content.now) self.old.heap_request).fits }
+        ensures after { self.new ≡ (learns self.old number (owned_content content.now) self.old.heap_request).after }
     {
         let Some(
-            Errand::Asked {
+            HeapRequest::Asked {
                 call,
                 number: asked,
             },
-        ) = self.errand
+        ) = self.heap_request
         else {
             return false;
         };
@@ -324,7 +327,7 @@ impl<A: Allocator + Copy> HeapSide<A> {
         let Some(reply) = reply_in(call, content) else {
             return false;
         };
-        self.errand = Some(Errand::Told(reply));
+        self.heap_request = Some(HeapRequest::Told(reply));
         true
     }
 
@@ -354,7 +357,7 @@ impl<A: Allocator + Copy> HeapSide<A> {
             × (post.new ≡ post.old))
             ⊎ HasRefused P.ops post.old post.new
             (heap_told me self.old from (owned_message message.now)).posted fault) }
-        ensures want { IfErr result IsWant }
+        ensures want { IfErr result RanOut }
     {
         let call = match &message.content {
             Content::AllocReq { size } => HeapCall::Alloc { size: *size },
@@ -373,9 +376,9 @@ impl<A: Allocator + Copy> HeapSide<A> {
 
     /// The reply of the call that node 0 was asked for, once it came. It takes no memory.
     pub fn reply(&self) -> Option<Reply>
-        ensures { result ≡ reply_told self.now.errand }
+        ensures { result ≡ reply_told self.now.heap_request }
     {
-        let Some(Errand::Told(reply)) = self.errand else {
+        let Some(HeapRequest::Told(reply)) = self.heap_request else {
             return None;
         };
         Some(reply)
@@ -385,6 +388,6 @@ impl<A: Allocator + Copy> HeapSide<A> {
     pub fn close(&mut self)
         ensures { self.new ≡ closed self.old }
     {
-        self.errand = None;
+        self.heap_request = None;
     }
 }

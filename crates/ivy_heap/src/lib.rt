@@ -9,5 +9,5 @@ mod answer;
 mod heap_side;
 
 pub use answer::Answer;
-pub use heap_side::{Errand, HeapCall, HeapSide};
+pub use heap_side::{HeapCall, HeapRequest, HeapSide};
 pub use ivy_alloc;

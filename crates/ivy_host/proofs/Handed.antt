@@ -29,22 +29,22 @@ module _ {S : Type 0} (ops : Ops S) (more : List (List Call)) where
       })
       (handed_reply more n.process.program n.process.state r)
 
-  with-handed : (n : Host S) (c : Call) (a : CallBegun S) (r : Answer) (o : Outcome (Host S))
+  with_handed : (n : Host S) (c : Call) (a : CallBegun S) (r : Answer) (o : Outcome (Host S))
       → begins_with n c a r ≡ Some o
       → begins_with (handing more n) c a r ≡ Some (changed (handing more) o)
-  with-handed n c a (Given r) o e =
+  with_handed n c a (Given r) o e =
       ap (λ k. Some (record { after = k; posted = a.posted })) (recorded-handed n a.after c r)
       ∙ ap (λ x. Some (changed (handing more) x))
       (same_Some (record { after = recorded n a.after c r; posted = a.posted }) o e)
-  with-handed n c a Awaited o e =
+  with_handed n c a Awaited o e =
       ap (λ x. Some (changed (handing more) x))
       (same_Some (record { after = record n { memory = a.after }; posted = a.posted }) o e)
-  with-handed n c a Unserved o e = absurd (none-some o e)
+  with_handed n c a Unserved o e = absurd (none-some o e)
 
   begun-handed : (b : Bool) (n : Host S) (c : Call) (a : CallBegun S) (o : Outcome (Host S))
       → (if b then begins_as n c a else None) ≡ Some o
       → (if b then begins_as (handing more n) c a else None) ≡ Some (changed (handing more) o)
-  begun-handed true n c a o e = with-handed n c a a.answer o e
+  begun-handed true n c a o e = with_handed n c a a.answer o e
   begun-handed false n c a o e = absurd (none-some o e)
 
   stepped-handed : (n : Host S) (s : Step) (o : Outcome (Host S)) → step_of n.process ≡ s
@@ -71,7 +71,7 @@ module _ {S : Type 0} (ops : Ops S) (more : List (List Call)) where
       → turned_at ops n asked ≡ Some o
       → turned_at ops (handing more n) asked ≡ Some (changed (handing more) o)
   turned-handed n (Some c) o e =
-      let a = polled ops n.memory in with-handed n c a a.answer o e
+      let a = polled ops n.memory in with_handed n c a a.answer o e
   turned-handed n None o e = stepped-handed n (step_of n.process) o refl e
 
   turn_handed : (n : Host S) (o : Outcome (Host S)) → turn_of ops n ≡ Some o

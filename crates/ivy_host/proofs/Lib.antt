@@ -1,4 +1,4 @@
-pub mod Tame
+pub mod WellBehaved
 pub mod Pages
 pub mod Same
 pub mod Handed

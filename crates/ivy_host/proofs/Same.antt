@@ -9,7 +9,7 @@ use Rattle.ivy_memory.specs.ivy_heap.declared.Answer.{Answer}
 use Rattle.ivy_memory.specs.ivy_heap.declared.Answer.TheVariants.{Given, Awaited, Unserved}
 use Rattle.ivy_memory.specs.Memories.{CallBegun, call_begun, polled}
 use Rattle.ivy_host.specs.Hosts.{Host, recorded, quietly, begins, begins_as, begins_with, steps, turned_at, turn_of}
-use Rattle.ivy_memory.proofs.Tame.{SameNode, call-same}
+use Rattle.ivy_memory.proofs.WellBehaved.{SameNode, call-same}
 use Rattle.ivy_memory.proofs.Polling.{polled-same}
 
 module _ {S : Type 0} (ops : Ops S) where

@@ -17,8 +17,8 @@ use Rattle.ivy_join.specs.Owned.{program_by, programs_by, AreEnded, HasCalled, H
 use Rattle.ivy_join.proofs.Handed.{there_is}
 
 -- none were made
-pub none-called : (node : ℕ) (old new : List Program) → new ≡ old → HasCalled node [] old new
-none-called node old new same = record {
+pub none_called : (node : ℕ) (old new : List Program) → new ≡ old → HasCalled node [] old new
+none_called node old new same = record {
   here = λ rows at. ap (λ l. slice_get l node) same ∙ at
       ∙ ap (λ l. Some (Called l)) (sym (append-nil rows));
   elsewhere = λ i apart. ap (λ l. slice_get l i) same;
@@ -45,8 +45,8 @@ calls-further node more rest a b d x y =
 -- an event makes no call
 pub did-called : (node : ℕ) (event : Event) (old new : List Program) (outcome : Outcome) → new ≡ old
     → HasCalledBy node (Did event) old new outcome
-did-called node event old new Made same = none-called node old new same
-did-called node event old new Waits same = none-called node old new same
+did-called node event old new Made same = none_called node old new same
+did-called node event old new Waits same = none_called node old new same
 did-called node event old new Never same = tt
 
 -- nothing was made yet
@@ -54,15 +54,15 @@ pub plays-begin : (node : ℕ) (entries : List Entry) (made : ℕ) (old : List P
     → PlaysOn node entries made made old old
 plays-begin node entries made old = record {
   more = [];
-  called = none-called node old old refl;
+  called = none_called node old old refl;
   are = sym (append-nil (calls_in (take made entries)));
 }
 
 -- one entry more
-pub plays-more : (node : ℕ) (entries : List Entry) (first made : ℕ) (entry : Entry) (a b d : List Program)
+pub plays_more : (node : ℕ) (entries : List Entry) (first made : ℕ) (entry : Entry) (a b d : List Program)
     → made < length entries → entry ≡ get_or entries made entry → PlaysOn node entries first made a b
     → HasCalled node (one_by_one (call_in entry)) b d → PlaysOn node entries first (made + 1) a d
-plays-more node entries first made entry a b d below there x y = record {
+plays_more node entries first made entry a b d below there x y = record {
   more = x.more ++ call_in entry;
   called = calls-further node x.more (call_in entry) a b d x.called y;
   are = flat-taken call_in entries made entry below there
@@ -122,22 +122,22 @@ none-have logs made n old zeros own i entries m log now =
     ∙ ap (λ j. Some (program_by (take j entries))) (sym first.1)
 
 -- two lists that have the same in each place
-same-lists : {X : Type 0} (xs ys : List X) → length xs ≡ length ys
+same_lists : {X : Type 0} (xs ys : List X) → length xs ≡ length ys
     → ((i : ℕ) (y : X) → slice_get ys i ≡ Some y → slice_get xs i ≡ Some y) → xs ≡ ys
-same-lists [] [] each at = refl
-same-lists [] (y ∷ ys) each at = absurd (omega (arith, each))
-same-lists (x ∷ xs) [] each at = absurd (omega (arith, each))
-same-lists (x ∷ xs) (y ∷ ys) each at =
+same_lists [] [] each at = refl
+same_lists [] (y ∷ ys) each at = absurd (omega (arith, each))
+same_lists (x ∷ xs) [] each at = absurd (omega (arith, each))
+same_lists (x ∷ xs) (y ∷ ys) each at =
     ap (λ z. z ∷ xs) (same_Some x y (at 0 y refl))
-    ∙ ap (λ l. y ∷ l) (same-lists xs ys (omega (arith, each)) (λ i z there. at (suc i) z there))
+    ∙ ap (λ l. y ∷ l) (same_lists xs ys (omega (arith, each)) (λ i z there. at (suc i) z there))
 
 -- where each log was made to its end, the programs are those of the logs
 module _ (logs : List (List Entry)) (made : List ℕ) (programs : List Program)
     (each : length programs ≡ length logs) (count : length made ≡ length logs)
     (have : HaveCalled logs made programs) (ended : AreEnded logs made) where
-  at-end : (i : ℕ) (entries : List Entry) → slice_get logs i ≡ Some entries
+  at_end : (i : ℕ) (entries : List Entry) → slice_get logs i ≡ Some entries
       → slice_get programs i ≡ Some (program_by entries)
-  at-end i entries log =
+  at_end i entries log =
       let inside = slice_get_within logs i entries log in
       let l : i < length made = omega (arith, inside, count) in
       let m = there_is made i l in
@@ -147,11 +147,11 @@ module _ (logs : List (List Entry)) (made : List ℕ) (programs : List Program)
   placed : (i : ℕ) (o : Option (List Entry)) (p : Program) → slice_get logs i ≡ o
       → option_map program_by o ≡ Some p → slice_get programs i ≡ Some p
   placed i None p log is = absurd (none-some p is)
-  placed i (Some entries) p log is = at-end i entries log ∙ is
+  placed i (Some entries) p log is = at_end i entries log ∙ is
 
   pub all-called : programs ≡ programs_by logs
   all-called =
-      same-lists programs (programs_by logs) (each ∙ sym (length-map logs program_by))
+      same_lists programs (programs_by logs) (each ∙ sym (length-map logs program_by))
       (λ i p at. placed i (slice_get logs i) p refl (sym (slice_get-map program_by logs i) ∙ at))
 
 -- a log was made to its end

@@ -7,20 +7,20 @@ use Rattle.ivy_moves.specs.Events.{Event}
 use Rattle.ivy_moves.specs.Marks.{Mark, marks, marks_of}
 use Rattle.ivy_moves.proofs.Places.{set-elsewhere, set-there}
 use Rattle.ivy_lines.proofs.Cursors.{marks-taken-or}
-use Rattle.ivy_site.specs.Shown.{Shown}
+use Rattle.ivy_site.specs.SiteView.{SiteView}
 use Rattle.ivy_join.specs.Exact.{left_of, AreAllMade, AreMadeTo, AreStuck, IsMadeTo, IsStuck}
 use Rattle.ivy_join.specs.Joined.{list_of, part_in}
 use Rattle.ivy_join.specs.Joining.{events_at, listed}
 use Rattle.ivy_join.proofs.Handed.{there_is}
 
 -- what stands behind the events that were made
-pub drop-at : {X : Type 0} (xs : List X) (i : ℕ) (x : X) → i < length xs → x ≡ get_or xs i x
+pub drop_at : {X : Type 0} (xs : List X) (i : ℕ) (x : X) → i < length xs → x ≡ get_or xs i x
     → drop i xs ≡ x ∷ drop (i + 1) xs
-drop-at [] i x below is = absurd (omega (arith, below))
-drop-at (y ∷ xs) zero x below is = ap (λ z. z ∷ xs) (sym is)
-drop-at (y ∷ xs) (suc i) x below is =
+drop_at [] i x below is = absurd (omega (arith, below))
+drop_at (y ∷ xs) zero x below is = ap (λ z. z ∷ xs) (sym is)
+drop_at (y ∷ xs) (suc i) x below is =
     let further : suc i + 1 ≡ suc (i + 1) = omega arith in
-    drop-at xs i x (omega (arith, below)) is ∙ ap (λ n. x ∷ drop n (y ∷ xs)) (sym further)
+    drop_at xs i x (omega (arith, below)) is ∙ ap (λ n. x ∷ drop n (y ∷ xs)) (sym further)
 
 pub marks-cut : (log : List Event) (m : ℕ) → marks log ≡ marks (take m log) ++ marks (drop m log)
 marks-cut log zero = refl
@@ -30,15 +30,15 @@ marks-cut (e ∷ log) (suc m) =
     ∙ sym (append_assoc (marks_of e) (marks (take m log)) (marks (drop m log)))
 
 -- one event more of a log
-pub made-more : (log : List Event) (m : ℕ) (e : Event) (old new : List Mark) → m < length log
+pub made_more : (log : List Event) (m : ℕ) (e : Event) (old new : List Mark) → m < length log
     → e ≡ get_or log m e → IsMadeTo log m old → new ≡ old ++ marks_of e → IsMadeTo log (m + 1) new
-made-more log m e old new below is to more = record {
+made_more log m e old new below is to more = record {
   few = omega (arith, below);
   are = more ∙ ap (λ l. l ++ marks_of e) to.are ∙ sym (marks-taken-or log m e below is);
 }
 
 -- the log of one node
-pub made-at-map : {X : Type 0} (f : X → List Event) (logs : List X) (made : List ℕ) (sites : List Shown)
+pub made-at-map : {X : Type 0} (f : X → List Event) (logs : List X) (made : List ℕ) (sites : List SiteView)
     (node : ℕ) (x : X) (m : ℕ) → AreMadeTo (map f logs) made sites → slice_get logs node ≡ Some x
     → slice_get made node ≡ Some m → IsMadeTo (f x) m (events_at sites node)
 made-at-map f logs made sites node x m each log was =
@@ -46,7 +46,7 @@ made-at-map f logs made sites node x m each log was =
 
 -- it goes on
 module _ {X : Type 0} (f : X → List Event) (logs : List X) (made : List ℕ) (node : ℕ) (x : X) (m m' : ℕ)
-    (old new : List Shown) (log : slice_get logs node ≡ Some x) (was : slice_get made node ≡ Some m) where
+    (old new : List SiteView) (log : slice_get logs node ≡ Some x) (was : slice_get made node ≡ Some m) where
   log-there : slice_get (map f logs) node ≡ Some (f x)
   log-there = slice_get-map f logs node ∙ ap (option_map f) log
 
@@ -88,13 +88,13 @@ left-less f logs made node x m m' log was more few =
     was in
     omega (arith, is, more, few)
 
-pub set-again : {X : Type 0} (xs : List X) (i : ℕ) (x : X) → slice_get xs i ≡ Some x → set xs i x ≡ xs
-set-again [] i x at = refl
-set-again (y ∷ xs) zero x at = ap (λ z. z ∷ xs) (sym (same_Some y x at))
-set-again (y ∷ xs) (suc i) x at = ap (λ l. y ∷ l) (set-again xs i x at)
+pub set_again : {X : Type 0} (xs : List X) (i : ℕ) (x : X) → slice_get xs i ≡ Some x → set xs i x ≡ xs
+set_again [] i x at = refl
+set_again (y ∷ xs) zero x at = ap (λ z. z ∷ xs) (sym (same_Some y x at))
+set_again (y ∷ xs) (suc i) x at = ap (λ l. y ∷ l) (set_again xs i x at)
 
 -- at the end all was
-pub lists-made : {X : Type 0} (f : X → List Event) (logs : List X) (made : List ℕ) (sites : List Shown)
+pub lists-made : {X : Type 0} (f : X → List Event) (logs : List X) (made : List ℕ) (sites : List SiteView)
     → length logs ≡ length sites → length made ≡ length sites → AreMadeTo (map f logs) made sites
     → AreAllMade (map f logs) made → (i : ℕ) → events_at sites i ≡ part_in (map (λ x. marks (f x)) logs) i
 lists-made f logs made sites each count to all i = elim (slice_get_cases logs i).1 [
@@ -115,7 +115,7 @@ lists-made f logs made sites each count to all i = elim (slice_get_cases logs i)
       ∙ ap (option_map (λ x. marks (f x))) past.1)))
 ]
   where
-    beyond : (xs : List Shown) (i : ℕ) → length xs ≤ i → slice_get xs i ≡ None
+    beyond : (xs : List SiteView) (i : ℕ) → length xs ≤ i → slice_get xs i ≡ None
     beyond [] i past = refl
     beyond (x ∷ xs) zero past = absurd (omega (arith, past))
     beyond (x ∷ xs) (suc i) past = beyond xs i (omega (arith, past))
@@ -132,7 +132,7 @@ pub stuck-more : {X : Type 0} (f : X → List Event) (logs : List X) (made : Lis
     → AreStuckTo (node + 1) sent' (map f logs) (set made node m')
 stuck-more f logs made node x m m' sent sent' there was same strings stuck before i below log k at now =
     let still : set made node m' ≡ made =
-    ap (set made node) same ∙ set-again made node m was in
+    ap (set made node) same ∙ set_again made node m was in
     let then_now : slice_get made i ≡ Some k = ap (λ l. slice_get l i) (sym still) ∙ now in
     subst (λ l. IsStuck l (drop k log)) (sym strings)
     (elim (cases_eq i node) [

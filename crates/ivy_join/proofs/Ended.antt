@@ -13,7 +13,7 @@ use Rattle.ivy_moves.proofs.Splitting.{same-effect}
 use Rattle.ivy_site.specs.ivy_host.Hosts.{Host, host_rules}
 use Rattle.ivy_site.specs.ivy_host.Managers.{Managed, managed_ops}
 use Rattle.ivy_site.specs.ivy_host.Openings.{first_node, opening}
-use Rattle.ivy_site.specs.Shown.{Shown}
+use Rattle.ivy_site.specs.SiteView.{SiteView}
 use Rattle.ivy_site.specs.Sites.{first_shown, IsMadeByEvents}
 use Rattle.ivy_world.specs.WorldSites.{programs_of}
 use Rattle.proof_headline.proofs.Headline.{keeps-reached}
@@ -26,7 +26,7 @@ use Rattle.ivy_join.specs.Exact.{HasSent, HaveSent}
 use Rattle.ivy_join.specs.Joined.{part_in, list_of, run_to, AreHeads, AreJoined}
 use Rattle.ivy_join.proofs.Played.{first_there}
 
-module _ (c : Config) (programs : List Program) (sites : List Shown) (sent : List (List ℕ))
+module _ (c : Config) (programs : List Program) (sites : List SiteView) (sent : List (List ℕ))
     (lists : List (List Mark)) (played : ArePlayed c sites sent)
     (same : programs_of sites ≡ programs) (each : length lists ≡ length sites)
     (are : (i : ℕ) → events_at sites i ≡ part_in lists i) where
@@ -38,17 +38,17 @@ module _ (c : Config) (programs : List Program) (sites : List Shown) (sent : Lis
       played.end) (λ k j. are j k) played.run)
 
   -- a site is the node of its place at the end
-  node : (i : ℕ) (s : Shown) → slice_get sites i ≡ Some s
+  node : (i : ℕ) (s : SiteView) → slice_get sites i ≡ Some s
       → slice_get played.end.nodes i ≡ Some s.node
   node i s there =
       let own = played.each i s there in
       let first : Node (Host Managed) = first_node managed_ops c i (program_in s) in
-      let first-is : slice_get (opening managed_ops c (programs_of sites)).nodes i ≡ Some first =
+      let first_is : slice_get (opening managed_ops c (programs_of sites)).nodes i ≡ Some first =
       first_there c 0 i (programs_of sites) i (program_in s) (omega arith)
       (slice_get-map program_in sites i ∙ ap (option_map program_in) there) in
       let made = (runs_are_their_parts (host_rules managed_ops) c
       (opening managed_ops c (programs_of sites)) played.end (events_at sites) played.run).each i first
-      first-is in
+      first_is in
       let happen : AllHappen (host_rules managed_ops) c first (events_at sites i) own.made.effect =
       subst (λ l. AllHappen (host_rules managed_ops) c first l own.made.effect)
       (sym (ap listed there))
@@ -74,14 +74,14 @@ module _ (c : Config) (programs : List Program) (sites : List Shown) (sent : Lis
     nodes = node;
   }
 
-pub are-kept : (c : Config) (sites : List Shown) (sent : List (List ℕ)) → ArePlayed c sites sent
+pub are-kept : (c : Config) (sites : List SiteView) (sent : List (List ℕ)) → ArePlayed c sites sent
     → AreKept sites
 are-kept c sites sent played i s there = (played.each i s there).keep
 
 -- as they begin
 
-pub one_more_kept : (c : Config) (me : ℕ) (sites : List Shown) (p : Program) (left rest : List Program)
-    → left ≡ p ∷ rest → (site : Shown) → site ≡ first_shown c me p → (more : List Shown)
+pub one_more_kept : (c : Config) (me : ℕ) (sites : List SiteView) (p : Program) (left rest : List Program)
+    → left ≡ p ∷ rest → (site : SiteView) → site ≡ first_shown c me p → (more : List SiteView)
     → more ≡ sites ++ site ∷ [] → more ++ kept_from c (me + 1) rest ≡ sites ++ kept_from c me left
 one_more_kept c me sites p left rest steps site is more added =
     ap (λ l. l ++ kept_from c (me + 1) rest) added
@@ -90,9 +90,9 @@ one_more_kept c me sites p left rest steps site is more added =
     ∙ ap (λ l. sites ++ kept_from c me l) (sym steps)
 
 module _ (c : Config) where
-  first-count : (me : ℕ) (ps : List Program) → length (kept_from c me ps) ≡ length ps
-  first-count me [] = refl
-  first-count me (p ∷ ps) = ap suc (first-count (me + 1) ps)
+  first_count : (me : ℕ) (ps : List Program) → length (kept_from c me ps) ≡ length ps
+  first_count me [] = refl
+  first_count me (p ∷ ps) = ap suc (first_count (me + 1) ps)
 
   programs-from : (me : ℕ) (ps : List Program) → programs_of (kept_from c me ps) ≡ ps
   programs-from me [] = refl
@@ -103,38 +103,38 @@ module _ (c : Config) where
   first-events me (p ∷ ps) zero = refl
   first-events me (p ∷ ps) (suc i) = first-events (me + 1) ps i
 
-  first-at : (me : ℕ) (ps : List Program) (i k : ℕ) (s : Shown) → me + i ≡ k
+  first_at : (me : ℕ) (ps : List Program) (i k : ℕ) (s : SiteView) → me + i ≡ k
       → slice_get (kept_from c me ps) i ≡ Some s → (p : Program) × (s ≡ first_shown c k p)
-  first-at me [] i k s at e = absurd (none-some s e)
-  first-at me (p ∷ ps) zero k s at e =
+  first_at me [] i k s at e = absurd (none-some s e)
+  first_at me (p ∷ ps) zero k s at e =
       let same : me ≡ k = omega (arith, at) in
       (p, sym (same_Some (first_shown c me p) s e) ∙ ap (λ j. first_shown c j p) same)
-  first-at me (p ∷ ps) (suc i) k s at e = first-at (me + 1) ps i k s (omega (arith, at)) e
+  first_at me (p ∷ ps) (suc i) k s at e = first_at (me + 1) ps i k s (omega (arith, at)) e
 
-module _ (c : Config) (programs : List Program) (sites : List Shown) (limits : IsConfig c)
+module _ (c : Config) (programs : List Program) (sites : List SiteView) (limits : IsConfig c)
     (each : length programs ≡ c.nodes) (first : sites ≡ kept_from c 0 programs) where
-  pub first-programs : programs_of sites ≡ programs
-  first-programs = ap programs_of first ∙ programs-from c 0 programs
+  pub first_programs : programs_of sites ≡ programs
+  first_programs = ap programs_of first ∙ programs-from c 0 programs
 
   pub nothing : (i : ℕ) → events_at sites i ≡ []
   nothing i = ap (λ l. events_at l i) first ∙ first-events c 0 programs i
 
-  first-node : (i : ℕ) (s : Shown) → slice_get sites i ≡ Some s → IsNode c [] i s
+  first-node : (i : ℕ) (s : SiteView) → slice_get sites i ≡ Some s → IsNode c [] i s
   first-node i s there =
-      let own = first-at c 0 programs i i s (omega arith)
+      let own = first_at c 0 programs i i s (omega arith)
       (subst (λ l. slice_get l i ≡ Some s) first there) in
       let is : s ≡ first_shown c i own.0 = own.1 in record {
-        config = ap (λ (x : Shown). x.config) is;
-        me = ap (λ (x : Shown). x.me) is;
-        keep = ap (λ (x : Shown). x.keep) is;
+        config = ap (λ (x : SiteView). x.config) is;
+        me = ap (λ (x : SiteView). x.me) is;
+        keep = ap (λ (x : SiteView). x.keep) is;
         made = subst IsMadeByEvents (sym is) (first_made All c i own.0);
-        took = subst (AllCanBeMade [] c.nodes i) (sym (ap (λ (x : Shown). x.events) is)) tt;
+        took = subst (AllCanBeMade [] c.nodes i) (sym (ap (λ (x : SiteView). x.events) is)) tt;
       }
 
   pub first-played : ArePlayed c sites []
   first-played = record {
     limits = limits;
-    count = ap length first ∙ first-count c 0 programs ∙ each;
+    count = ap length first ∙ first_count c 0 programs ∙ each;
     each = first-node;
     end = opening managed_ops c (programs_of sites);
     run = record { moves = []; leads = refl; are = nothing };
@@ -144,7 +144,7 @@ module _ (c : Config) (programs : List Program) (sites : List Shown) (limits : I
   -- nothing was sent
   pub first-sent : HaveSent [] sites
   first-sent i s there =
-      let own = first-at c 0 programs i i s (omega arith)
+      let own = first_at c 0 programs i i s (omega arith)
       (subst (λ l. slice_get l i ≡ Some s) first there) in
       subst (HasSent []) (sym own.1) (record {
         none = refl;
@@ -153,11 +153,11 @@ module _ (c : Config) (programs : List Program) (sites : List Shown) (limits : I
 
 -- what the lists of logs have
 
-pub part-at : {X : Type 0} (f : X → List Mark) (xs : List X) (i : ℕ) (x : X) → slice_get xs i ≡ Some x
+pub part_at : {X : Type 0} (f : X → List Mark) (xs : List X) (i : ℕ) (x : X) → slice_get xs i ≡ Some x
     → part_in (map f xs) i ≡ f x
-part-at f xs i x there = ap list_of (slice_get-map f xs i ∙ ap (option_map f) there)
+part_at f xs i x there = ap list_of (slice_get-map f xs i ∙ ap (option_map f) there)
 
-pub lists-all : {X : Type 0} (f : X → List Mark) (sites : List Shown) (xs : List X)
+pub lists-all : {X : Type 0} (f : X → List Mark) (sites : List SiteView) (xs : List X)
     → length xs ≡ length sites
     → ((i : ℕ) → i < length xs → events_at sites i ≡ part_in (map f xs) i) → (i : ℕ)
     → events_at sites i ≡ part_in (map f xs) i

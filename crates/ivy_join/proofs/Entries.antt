@@ -16,7 +16,7 @@ use Rattle.ivy_moves.specs.Parts.{AllCanBeMade}
 use Rattle.ivy_program.specs.Programs.{Program, Written, Called, handed, one_by_one}
 use Rattle.ivy_site.proofs.of_ivy_host.Handed.{handed_none}
 use Rattle.ivy_site.specs.Handed.{site_handed}
-use Rattle.ivy_site.specs.Shown.{Shown}
+use Rattle.ivy_site.specs.SiteView.{SiteView}
 use Rattle.ivy_join.specs.Joining.{program_in, taken_by, taken_in, CanGoOnBy, GoesOnBy}
 use Rattle.ivy_join.specs.Remade.{CanTake, GoesOnByEntries}
 use Rattle.ivy_join.proofs.Steps.{took-further}
@@ -29,11 +29,11 @@ handed-further more rest (Written is) = refl
 handed-further more rest (Called rows) = ap Called (append_assoc rows more rest)
 
 -- what was delivered before
-abbrev Took : List (List ℕ) → Shown → Type 0
+abbrev Took : List (List ℕ) → SiteView → Type 0
 Took sent s = AllCanBeMade sent s.config.nodes s.me s.events
 
 module _ (sent : List (List ℕ)) where
-  pub entries-begin : (s : Shown) → Took sent s → GoesOnByEntries sent [] s s
+  pub entries-begin : (s : SiteView) → Took sent s → GoesOnByEntries sent [] s s
   entries-begin s took = record {
     me = refl;
     config = refl;
@@ -43,7 +43,7 @@ module _ (sent : List (List ℕ)) where
   }
 
   -- an event, a call and an answer
-  pub did-on : (event : Event) (s s' : Shown) → Took sent s → GoesOnBy sent s s'
+  pub did-on : (event : Event) (s s' : SiteView) → Took sent s → GoesOnBy sent s s'
       → s'.events ≡ s.events ++ marks_of event → GoesOnByEntries sent (Did event ∷ []) s s'
   did-on event s s' took on listed = record {
     me = on.me;
@@ -53,9 +53,9 @@ module _ (sent : List (List ℕ)) where
     took = took-further sent s s' took on;
   }
 
-  pub asked-on : (call : Call) (s s' : Shown) → Took sent s → s' ≡ site_handed ((call ∷ []) ∷ []) s
+  pub asked_on : (call : Call) (s s' : SiteView) → Took sent s → s' ≡ site_handed ((call ∷ []) ∷ []) s
       → GoesOnByEntries sent (Asked call ∷ []) s s'
-  asked-on call s s' took is = subst (GoesOnByEntries sent (Asked call ∷ []) s) (sym is) (record {
+  asked_on call s s' took is = subst (GoesOnByEntries sent (Asked call ∷ []) s) (sym is) (record {
     me = refl;
     config = refl;
     program = refl;
@@ -63,9 +63,9 @@ module _ (sent : List (List ℕ)) where
     took = took;
   })
 
-  pub answered-on : (answer : Answer) (s : Shown) → Took sent s
+  pub answered_on : (answer : Answer) (s : SiteView) → Took sent s
       → GoesOnByEntries sent (Answered answer ∷ []) s s
-  answered-on answer s took = record {
+  answered_on answer s took = record {
     me = refl;
     config = refl;
     program = sym (handed_none (program_in s));
@@ -74,7 +74,7 @@ module _ (sent : List (List ℕ)) where
   }
 
   -- strings that wait are taken out
-  pub entries-emptied : (entries : List Entry) (a b d : Shown) → GoesOnByEntries sent entries a b
+  pub entries-emptied : (entries : List Entry) (a b d : SiteView) → GoesOnByEntries sent entries a b
       → record d { waiting = [] } ≡ record b { waiting = [] } → GoesOnByEntries sent entries a d
   entries-emptied entries a b d x same =
       let here : GoesOnByEntries sent entries a (record b { waiting = [] }) = record {
@@ -94,7 +94,7 @@ module _ (sent : List (List ℕ)) where
       }
 
   -- one entry more
-  pub entries-more : (entries : List Entry) (i : ℕ) (entry : Entry) (a b d : Shown)
+  pub entries-more : (entries : List Entry) (i : ℕ) (entry : Entry) (a b d : SiteView)
       → i < length entries → entry ≡ get_or entries i entry
       → GoesOnByEntries sent (take i entries) a b → GoesOnByEntries sent (entry ∷ []) b d
       → GoesOnByEntries sent (take (i + 1) entries) a d
@@ -121,7 +121,7 @@ module _ (sent : List (List ℕ)) where
       })
 
 -- what is said of an event that was made
-pub did-made : (entry : Entry) (event : Event) (s s' : Shown) (made : Result Bool Fault)
+pub did-made : (entry : Entry) (event : Event) (s s' : SiteView) (made : Result Bool Fault)
     → entry ≡ Did event → CanGoOnBy event s s'
     → IfOk made (λ happens. IsTrue happens → s'.events ≡ s.events ++ marks_of event)
     → IfOk made (λ happens. IsTrue happens → (sent : List (List ℕ)) → IsConfig s.config

@@ -14,19 +14,19 @@ use Rattle.ivy_site.specs.ivy_host.Hosts.{host_rules}
 use Rattle.ivy_site.specs.ivy_host.Managers.{managed_ops}
 use Rattle.ivy_site.specs.ivy_host.Openings.{opening}
 use Rattle.ivy_site.specs.Handed.{site_handed}
-use Rattle.ivy_site.specs.Shown.{Shown}
+use Rattle.ivy_site.specs.SiteView.{SiteView}
 use Rattle.ivy_site.proofs.Handed.{handed_made}
 use Rattle.ivy_site.proofs.of_ivy_host.Handed.{AreHanded, handed_none, opening_handed, unseen}
 use Rattle.ivy_world.specs.WorldSites.{programs_of}
 use Rattle.ivy_join.specs.Joining.{program_in, events_at, listed, IsNode, ArePlayed}
 use Rattle.ivy_join.specs.Owned.{HasCalled}
 
-module _ (sites : List Shown) (node : ℕ) (old : Shown) (there : slice_get sites node ≡ Some old)
+module _ (sites : List SiteView) (node : ℕ) (old : SiteView) (there : slice_get sites node ≡ Some old)
     (more : List (List Call)) where
-  abbrev new : Shown
+  abbrev new : SiteView
   new = site_handed more old
 
-  abbrev after : List Shown
+  abbrev after : List SiteView
   after = set sites node new
 
   -- each node is handed these rows of calls, or none
@@ -87,7 +87,7 @@ module _ (sites : List Shown) (node : ℕ) (old : Shown) (there : slice_get site
   }
 
   module _ (c : Config) (sent : List (List ℕ)) (played : ArePlayed c sites sent) where
-    node_each : (i : ℕ) (s : Shown) → slice_get after i ≡ Some s → IsNode c sent i s
+    node_each : (i : ℕ) (s : SiteView) → slice_get after i ≡ Some s → IsNode c sent i s
     node_each i s at =
         ⊎_elim
         (λ p. let was = played.each node old there in
@@ -123,9 +123,9 @@ there_is (x ∷ xs) zero l = (x, refl)
 there_is (x ∷ xs) (suc i) l = there_is xs i (omega (arith, l))
 
 -- own code at the site in this place made the calls
-module _ (sites : List Shown) (node : ℕ) (more : List (List Call)) (end : List Shown) (l : node < length sites)
+module _ (sites : List SiteView) (node : ℕ) (more : List (List Call)) (end : List SiteView) (l : node < length sites)
     (after : IfSome (slice_get sites node) (λ s. end ≡ set sites node (site_handed more s))) where
-  old : Shown
+  old : SiteView
   old = (there_is sites node l).0
 
   there : slice_get sites node ≡ Some old

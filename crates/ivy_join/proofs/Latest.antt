@@ -197,17 +197,17 @@ looks-none strings bytes before looks found =
     let i : ℕ = found.0 in
     let under : found.0 < length strings = found.1 in
     let is = found.2 in
-    let at : get_or strings found.0 [] ≡ bytes = same-at strings i bytes under is in
+    let at : get_or strings found.0 [] ≡ bytes = same_at strings i bytes under is in
     elim (cases_lt i before) [
       | inl below ↦ latest-none strings (hash_of bytes) before (sym looks.known) i below (ap hash_of at)
       | inr past ↦ looks.none i past under at
     ]
   where
-    same-at : (xs : List (List ℕ)) (i : ℕ) (x : List ℕ) → i < length xs → get_or xs i x ≡ x
+    same_at : (xs : List (List ℕ)) (i : ℕ) (x : List ℕ) → i < length xs → get_or xs i x ≡ x
         → get_or xs i [] ≡ x
-    same-at [] i x l is = absurd (omega (arith, l))
-    same-at (y ∷ xs) zero x l is = is
-    same-at (y ∷ xs) (suc i) x l is = same-at xs i x (omega (arith, l)) is
+    same_at [] i x l is = absurd (omega (arith, l))
+    same_at (y ∷ xs) zero x l is = is
+    same_at (y ∷ xs) (suc i) x l is = same_at xs i x (omega (arith, l)) is
 
 -- what is read in a place
 pub looks-found : (strings : List (List ℕ)) (place : ℕ) (x bytes : List ℕ) → place < length strings
@@ -215,10 +215,10 @@ pub looks-found : (strings : List (List ℕ)) (place : ℕ) (x bytes : List ℕ)
 looks-found strings place x bytes below read is =
     subst (Contains strings) (sym read ∙ is) (Contains-get_or strings place x below)
 
-pub rank-falls : (old next : Option ℕ) (strings : List (List ℕ)) (bytes : List ℕ) (place : ℕ)
+pub rank_falls : (old next : Option ℕ) (strings : List (List ℕ)) (bytes : List ℕ) (place : ℕ)
     → old ≡ Some place → LooksFrom strings bytes next place → rank next < rank old
-rank-falls old None strings bytes place is looks = rw is (omega arith)
-rank-falls old (Some p) strings bytes place is looks =
+rank_falls old None strings bytes place is looks = rw is (omega arith)
+rank_falls old (Some p) strings bytes place is looks =
     let own = latest-some strings (hash_of bytes) place p (sym looks.known) in
     let below = own.below in
     rw is (omega (arith, below))
@@ -227,11 +227,11 @@ rank-falls old (Some p) strings bytes place is looks =
 pub key-at : (key hash : ℕ) → is_eq (nat_cmp key hash) ≡ (key == hash)
 key-at key hash = grind (arith, nat_tests)
 
-pub last-more : (hash place : ℕ) (last last' : ℕ → Option ℕ) (bytes : List ℕ) (n : ℕ)
+pub last_more : (hash place : ℕ) (last last' : ℕ → Option ℕ) (bytes : List ℕ) (n : ℕ)
     → hash ≡ hash_of bytes → place ≡ n
     → ((q : ℕ) → last' q ≡ cond (is_eq (nat_cmp hash q)) (Some place) (last q)) → (q : ℕ)
     → last' q ≡ (if hash_of bytes == q then Some n else last q)
-last-more hash place last last' bytes n same at updates q =
+last_more hash place last last' bytes n same at updates q =
     updates q ∙ ap (λ b. cond b (Some place) (last q)) (key-at hash q)
     ∙ ap (λ h. if h == q then Some place else last q) same
     ∙ ap (λ m. if hash_of bytes == q then Some m else last q) at

@@ -16,7 +16,7 @@ use Rattle.ivy_site.specs.ivy_host.Hosts.{Host, host_rules, answered_by}
 use Rattle.ivy_site.specs.ivy_host.ivy_memory.Memories.{in_progress}
 use Rattle.ivy_site.specs.ivy_host.Managers.{Managed, managed_ops}
 use Rattle.ivy_site.specs.ivy_host.Openings.{opening}
-use Rattle.ivy_site.specs.Shown.{Shown}
+use Rattle.ivy_site.specs.SiteView.{SiteView}
 use Rattle.ivy_world.specs.WorldSites.{programs_of}
 use Rattle.ivy_join.specs.Joining.{events_at, ArePlayed}
 use Rattle.ivy_join.specs.Joined.{part_in}
@@ -56,7 +56,7 @@ tells-all entries history told many =
     let none : told.more ≡ [] = nil_from_length told.more (omega (arith, long, all, as_many, many)) in
     told.are ∙ ap (λ l. answers_in entries ++ l) none ∙ append-nil (answers_in entries)
 
-module _ (c : Config) (logs : List (List Entry)) (sites : List Shown) (j : AreOwnJoined c logs sites)
+module _ (c : Config) (logs : List (List Entry)) (sites : List SiteView) (j : AreOwnJoined c logs sites)
     (all : AreAllTold logs sites) where
   whole : (order : List Record)
       × IsExplainedBy (host_rules managed_ops) c answered_by j.joined.end order
@@ -74,11 +74,11 @@ module _ (c : Config) (logs : List (List Entry)) (sites : List Shown) (j : AreOw
       let inside = slice_get_within logs i entries log in
       let l : i < length sites = omega (arith, many, count, size, inside) in
       let at = there_is sites i l in
-      let s : Shown = at.0 in
+      let s : SiteView = at.0 in
       let told : Tells entries s.node.core.history =
       subst (λ o. IsTold o (Some s)) log (subst (IsTold (slice_get logs i)) at.1 (j.told i)) in
       let done = all i entries s log at.1 in
-      let owed = whole.1.parts i (answered_by s.node.core)
+      let owed = whole.1.explained.parts i (answered_by s.node.core)
       (slice_get-map (λ (n : Node (Host Managed)). answered_by n.core) j.joined.end.nodes i
       ∙ ap (option_map (λ (n : Node (Host Managed)). answered_by n.core)) (j.joined.nodes i s at.1)) in
       let empty : owed.0 ≡ [] =
@@ -89,10 +89,10 @@ module _ (c : Config) (logs : List (List Entry)) (sites : List Shown) (j : AreOw
       ∙ tells-all entries s.node.core.history told done.1
 
   pub own-answered : AreAnswered c logs
-  own-answered = record { order = whole.0; legal = whole.1.legal; each = each }
+  own-answered = record { order = whole.0; legal = whole.1.explained.legal; each = each }
 
 -- logs that were made again, and compared with what that gave
-module _ {X : Type 0} (f : X → List Entry) (c : Config) (logs : List X) (sites : List Shown)
+module _ {X : Type 0} (f : X → List Entry) (c : Config) (logs : List X) (sites : List SiteView)
     (sent : List (List ℕ)) (played : ArePlayed c sites sent)
     (called : programs_of sites ≡ programs_by (map f logs)) (count : length logs ≡ length sites)
     (listed : (i : ℕ) → events_at sites i ≡ part_in (map (λ x. marks (events_in (f x))) logs) i)

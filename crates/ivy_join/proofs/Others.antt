@@ -17,7 +17,7 @@ use Rattle.ivy_program.specs.Programs.{Program}
 use Rattle.ivy_site.specs.ivy_host.Hosts.{host_rules}
 use Rattle.ivy_site.specs.ivy_host.Managers.{managed_ops}
 use Rattle.ivy_site.specs.ivy_host.Openings.{first_node, opening}
-use Rattle.ivy_site.proofs.of_ivy_host.Tame.{first_length}
+use Rattle.ivy_site.proofs.of_ivy_host.WellBehaved.{first_length}
 use Rattle.ivy_join.specs.Exact.{AreToOthers, IsNoPart}
 use Rattle.ivy_join.specs.Joined.{part_in, AreNoParts}
 use Rattle.ivy_join.proofs.Handed.{there_is}
@@ -101,12 +101,12 @@ module _ {C : Type 0} (rules : Core C) (c : Config) where
       (delivery-given-others nodes i (slice_get w.nodes i) (Some bytes))
       (further-others nodes i on.1.0 end more on.1.2)
 
-  after-others : (nodes : ℕ) (w end : World C) (m : Move) (more : List (List ℕ))
+  after_others : (nodes : ℕ) (w end : World C) (m : Move) (more : List (List ℕ))
       (on : MayGoOn rules c w m more end)
       → AreToOthers nodes (node_of m) (given_after rules c w m more end on)
-  after-others nodes w end (move.Turn i) more on = tt
-  after-others nodes w end (move.Deliver index to) more on = further-others nodes to w end more on
-  after-others nodes w end (move.Pulse from to) more on = tt
+  after_others nodes w end (move.Turn i) more on = tt
+  after_others nodes w end (move.Deliver index to) more on = further-others nodes to w end more on
+  after_others nodes w end (move.Pulse from to) more on = tt
 
   given-at-others : (w end : World C) (m : Move) (moves : Moves rules c w m end) (j : ℕ)
       → AreToOthers (length w.nodes) j (given_at rules c w m end moves j)
@@ -119,7 +119,7 @@ module _ {C : Type 0} (rules : Core C) (c : Config) where
         (others-append (length w.nodes) (node_of m) (given_by rules c w m)
         (given_after rules c moves.mid m moves.more end moves.goes_on)
         (given-others w moves.mid m moves.made)
-        (after-others (length w.nodes) moves.mid end m moves.more moves.goes_on))))
+        (after_others (length w.nodes) moves.mid end m moves.more moves.goes_on))))
     | inr apart ↦
         (let all = given_by rules c w m ++ given_after rules c moves.mid m moves.more end moves.goes_on in
         subst (λ b. AreToOthers (length w.nodes) j (if b then all else []))

@@ -14,13 +14,13 @@ use Rattle.ivy_moves.specs.Worlds.{World}
 use Rattle.ivy_moves.proofs.GoingOn.{only_at, parts_go_on}
 use Rattle.ivy_moves.proofs.Parts.{runs_are_their_parts}
 use Rattle.ivy_moves.proofs.Places.{set-cases, set-there, set-elsewhere}
-use Rattle.ivy_moves.proofs.Splitting.{all-split, same-effect, part-sent, can-more, can-append}
+use Rattle.ivy_moves.proofs.Splitting.{all-split, same-effect, part_sent, can-more, can-append}
 use Rattle.ivy_site.specs.ivy_host.Hosts.{Host, host_rules}
 use Rattle.ivy_site.specs.ivy_host.Managers.{Managed, managed_ops}
 use Rattle.ivy_site.specs.ivy_host.Openings.{first_node, first_nodes, opening}
-use Rattle.ivy_site.proofs.of_ivy_host.Tame.{first_length}
+use Rattle.ivy_site.proofs.of_ivy_host.WellBehaved.{first_length}
 use Rattle.ivy_moves.specs.declared.keep.Keep.TheVariants.{All}
-use Rattle.ivy_site.specs.Shown.{Shown}
+use Rattle.ivy_site.specs.SiteView.{SiteView}
 use Rattle.ivy_site.specs.Sites.{IsMadeByEvents}
 use Rattle.ivy_world.specs.WorldSites.{programs_of}
 use Rattle.ivy_world.proofs.Making.{same_map}
@@ -121,15 +121,15 @@ first_there c me k (p ∷ ps) (suc i) program at is =
 
 -- one of the sites goes on
 
-module _ (c : Config) (sites : List Shown) (sent more : List (List ℕ)) (i : ℕ)
-    (old mid new : Shown) (played : ArePlayed c sites sent) (there : slice_get sites i ≡ Some old)
+module _ (c : Config) (sites : List SiteView) (sent more : List (List ℕ)) (i : ℕ)
+    (old mid new : SiteView) (played : ArePlayed c sites sent) (there : slice_get sites i ≡ Some old)
     (on : GoesOnBy sent old mid) (made : IsMadeByEvents mid) (made' : IsMadeByEvents new)
     (same : record new { waiting = [] } ≡ record mid { waiting = [] })
     (kept : (b : List ℕ) → Contains sent b → Contains more b) (added : AddsSent mid sent more) where
   was : IsNode c sent i old
   was = played.each i old there
 
-  abbrev after : List Shown
+  abbrev after : List SiteView
   after = set sites i new
 
   config : mid.config ≡ c
@@ -142,16 +142,16 @@ module _ (c : Config) (sites : List Shown) (sent more : List (List ℕ)) (i : �
   program = on.program
 
   new-config : new.config ≡ c
-  new-config = ap (λ (s : Shown). s.config) same ∙ config
+  new-config = ap (λ (s : SiteView). s.config) same ∙ config
 
   new-me : new.me ≡ i
-  new-me = ap (λ (s : Shown). s.me) same ∙ me
+  new-me = ap (λ (s : SiteView). s.me) same ∙ me
 
   new-keep : new.keep ≡ All
-  new-keep = ap (λ (s : Shown). s.keep) same ∙ on.keep ∙ was.keep
+  new-keep = ap (λ (s : SiteView). s.keep) same ∙ on.keep ∙ was.keep
 
   new-events : new.events ≡ old.events ++ on.more
-  new-events = ap (λ (s : Shown). s.events) same ∙ on.events
+  new-events = ap (λ (s : SiteView). s.events) same ∙ on.events
 
   pub programs-same : programs_of after ≡ programs_of sites
   programs-same =
@@ -163,8 +163,8 @@ module _ (c : Config) (sites : List Shown) (sent more : List (List ℕ)) (i : �
   abbrev first : Node (Host Managed)
   first = first_node managed_ops c i (program_in mid)
 
-  first-is : slice_get begins.nodes i ≡ Some first
-  first-is =
+  first_is : slice_get begins.nodes i ≡ Some first
+  first_is =
       first_there c 0 i (programs_of sites) i (program_in mid) (omega arith)
       (slice_get-map program_in sites i ∙ ap (option_map program_in) there
       ∙ ap Some (sym program))
@@ -185,10 +185,10 @@ module _ (c : Config) (sites : List Shown) (sent more : List (List ℕ)) (i : �
       (subst (λ j. AllHappen (host_rules managed_ops) mid.config
       (first_node managed_ops mid.config j (program_in mid)) mid.events e) me h))
 
-  goes-on : OneGoesOn (host_rules managed_ops) c begins (events_at sites) played.end i on.more
-  goes-on = record {
+  goes_on : OneGoesOn (host_rules managed_ops) c begins (events_at sites) played.end i on.more
+  goes_on = record {
     first = first;
-    there = first-is;
+    there = first_is;
     effect = made.effect;
     happen = happens made.effect made.happen;
     can = can-more sent played.end.sent (length begins.nodes) i on.more played.all_sent
@@ -200,7 +200,7 @@ module _ (c : Config) (sites : List Shown) (sent more : List (List ℕ)) (i : �
   }
 
   went : HasGoneOn (host_rules managed_ops) c begins (events_at sites) played.end i on.more
-  went = gone (host_rules managed_ops) c begins (events_at sites) played.end i on.more played.run goes-on
+  went = gone (host_rules managed_ops) c begins (events_at sites) played.end i on.more played.run goes_on
 
   lists : (j : ℕ) → events_at sites j ++ only_at i on.more j ≡ events_at after j
   lists j = elim (cases_eq i j) [
@@ -224,17 +224,17 @@ module _ (c : Config) (sites : List Shown) (sent more : List (List ℕ)) (i : �
       (λ k j. lists j k) went.run)
 
   -- what the site's events send was sent in that run
-  was-sent : (b : List ℕ) → Sends mid b → Contains went.further.sent b
-  was-sent b s =
-      part-sent (host_rules managed_ops) c begins went.further
-      (λ j. events_at sites j ++ only_at i on.more j) i first s.0 b went.run first-is
+  was_sent : (b : List ℕ) → Sends mid b → Contains went.further.sent b
+  was_sent b s =
+      part_sent (host_rules managed_ops) c begins went.further
+      (λ j. events_at sites j ++ only_at i on.more j) i first s.0 b went.run first_is
       (subst (λ l. AllHappen (host_rules managed_ops) c first (events_at sites i ++ l) s.0)
       (sym (here (host_rules managed_ops) c begins i on.more)) (happens s.0 s.1)) s.2
 
   all-sent : (b : List ℕ) → Contains more b → Contains went.further.sent b
   all-sent b in-more = elim (added b in-more) [
     | inl before ↦ went.before b (played.all_sent b before)
-    | inr by-it ↦ was-sent b by-it
+    | inr by-it ↦ was_sent b by-it
   ]
 
   took-here : AllCanBeMade more c.nodes i new.events
@@ -245,8 +245,8 @@ module _ (c : Config) (sites : List Shown) (sent more : List (List ℕ)) (i : �
       (subst (λ (k : Config). AllCanBeMade sent k.nodes i on.more) was.config
       (subst (λ j. AllCanBeMade sent old.config.nodes j on.more) was.me on.can))))
 
-  node-each : (j : ℕ) (s : Shown) → slice_get after j ≡ Some s → IsNode c more j s
-  node-each j s at =
+  node_each : (j : ℕ) (s : SiteView) → slice_get after j ≡ Some s → IsNode c more j s
+  node_each j s at =
       ⊎_elim
       (λ p. subst (IsNode c more j) (sym p.1)
       (subst (λ x. IsNode c more x new) (sym p.0)
@@ -266,23 +266,23 @@ module _ (c : Config) (sites : List Shown) (sent more : List (List ℕ)) (i : �
       })
       (set-cases sites i j new s at)
 
-  pub played-on : ArePlayed c after more
-  played-on = record {
+  pub played_on : ArePlayed c after more
+  played_on = record {
     limits = played.limits;
     count = length-set sites i new ∙ played.count;
-    each = node-each;
+    each = node_each;
     end = went.further;
     run = run;
     all_sent = all-sent;
   }
 
 -- each string that was given to a node is one of these
-pub took-old : (c : Config) (sent : List (List ℕ)) (i : ℕ) (s : Shown) → IsNode c sent i s
+pub took-old : (c : Config) (sent : List (List ℕ)) (i : ℕ) (s : SiteView) → IsNode c sent i s
     → AllCanBeMade sent s.config.nodes s.me s.events
 took-old c sent i s own =
     subst (λ (k : Config). AllCanBeMade sent k.nodes s.me s.events) (sym own.config)
     (subst (λ j. AllCanBeMade sent c.nodes j s.events) (sym own.me) own.took)
 
-pub limits-old : (c : Config) (sent : List (List ℕ)) (i : ℕ) (s : Shown) → IsConfig c
+pub limits-old : (c : Config) (sent : List (List ℕ)) (i : ℕ) (s : SiteView) → IsConfig c
     → IsNode c sent i s → IsConfig s.config
 limits-old c sent i s limits own = subst IsConfig (sym own.config) limits

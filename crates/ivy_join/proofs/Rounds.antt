@@ -5,19 +5,19 @@ use Rattle.ivy_model.specs.declared.Config.{Config}
 use Rattle.ivy_moves.specs.Events.{Event}
 use Rattle.ivy_moves.specs.Marks.{marks}
 use Rattle.ivy_program.specs.Programs.{Program}
-use Rattle.ivy_site.specs.Shown.{Shown}
+use Rattle.ivy_site.specs.SiteView.{SiteView}
 use Rattle.ivy_world.specs.WorldSites.{programs_of}
 use Rattle.ivy_join.specs.Exact.{left_of, IsNoPart, PlaysTo}
 use Rattle.ivy_join.specs.Joined.{AreNoParts}
 use Rattle.ivy_join.specs.Joining.{ArePlayed}
-use Rattle.ivy_join.proofs.Counted.{left-less, set-again, stuck-more, AreStuckTo}
-use Rattle.ivy_join.proofs.Ended.{part-at}
+use Rattle.ivy_join.proofs.Counted.{left-less, set_again, stuck-more, AreStuckTo}
+use Rattle.ivy_join.proofs.Ended.{part_at}
 use Rattle.ivy_join.proofs.Others.{no-parts}
 use Rattle.std.proofs.lemmas.List.{length-map}
 use Rattle.std.proofs.lemmas.Option.{slice_get_within}
 
 module _ {X : Type 0} (f : X → List Event) (logs : List X) (node : ℕ) (x : X) (made : List ℕ) (m m' : ℕ)
-    (cur new : List Shown) (sent sent' : List (List ℕ)) (there : slice_get logs node ≡ Some x)
+    (cur new : List SiteView) (sent sent' : List (List ℕ)) (there : slice_get logs node ≡ Some x)
     (was : slice_get made node ≡ Some m) where
   few-then : (on : Bool) → PlaysTo node (f x) m m' cur new sent sent' on
       → left_of (map f logs) (set made node m') ≤ left_of (map f logs) made
@@ -25,7 +25,7 @@ module _ {X : Type 0} (f : X → List Event) (logs : List X) (node : ℕ) (x : X
       let less = left-less f logs made node x m m' there was (p.more refl) p.here.few in
       omega (arith, less)
   few-then false p =
-      let same : set made node m' ≡ made = ap (set made node) (p.place refl) ∙ set-again made node m was in
+      let same : set made node m' ≡ made = ap (set made node) (p.place refl) ∙ set_again made node m was in
       let left = ap (left_of (map f logs)) same in
       omega (arith, left)
 
@@ -56,17 +56,17 @@ module _ {X : Type 0} (f : X → List Event) (logs : List X) (node : ℕ) (x : X
       (before (sym (joins refl) ∙ none))
 
 -- a node that can't make its log
-pub none-of : {X : Type 0} (f : X → List Event) (c : Config) (sites : List Shown) (sent : List (List ℕ))
+pub none_of : {X : Type 0} (f : X → List Event) (c : Config) (sites : List SiteView) (sent : List (List ℕ))
     (programs : List Program) (logs : List X) (node : ℕ) (x : X) → ArePlayed c sites sent
     → programs_of sites ≡ programs → length logs ≡ length sites → slice_get logs node ≡ Some x
     → IsNoPart c (programs_of sites) node (marks (f x))
     → AreNoParts c programs (map (λ y. marks (f y)) logs)
-none-of f c sites sent programs logs node x played same each there never =
-    let size = length-map sites (λ (s : Shown). s.node.core.process.program) in
+none_of f c sites sent programs logs node x played same each there never =
+    let size = length-map sites (λ (s : SiteView). s.node.core.process.program) in
     let count = played.count in
     let inside = slice_get_within logs node x there in
     subst (λ ps. AreNoParts c ps (map (λ y. marks (f y)) logs)) same
     (no-parts c (programs_of sites) (map (λ y. marks (f y)) logs) node (size ∙ count)
     (omega (arith, size, inside, each))
     (subst (IsNoPart c (programs_of sites) node)
-    (sym (part-at (λ y. marks (f y)) logs node x there)) never))
+    (sym (part_at (λ y. marks (f y)) logs node x there)) never))

@@ -14,7 +14,7 @@ use Rattle.ivy_moves.proofs.Splitting.{all-split, none-in, same-effect}
 use Rattle.ivy_site.specs.ivy_host.Hosts.{Host, host_rules}
 use Rattle.ivy_site.specs.ivy_host.Managers.{Managed, managed_ops}
 use Rattle.ivy_site.specs.ivy_host.Openings.{first_node}
-use Rattle.ivy_site.specs.Shown.{Shown}
+use Rattle.ivy_site.specs.SiteView.{SiteView}
 use Rattle.ivy_site.specs.Sites.{IsMadeByEvents}
 use Rattle.ivy_join.specs.Exact.{HasSent, HaveSent, IsMadeAt, IsNeverAt, Makes, NeverHappen, SaysMade}
 use Rattle.ivy_join.specs.Joining.{program_in, listed, GoesOnBy, Sends}
@@ -37,16 +37,16 @@ taken-one first old new sent sent' string before steps kept there b own = elim (
     split x xs b (zero, below, is) = inl is
     split x xs b (suc i, below, is) = inr (i, omega (arith, below), is)
 
-pub taken-all : (first old : List (List ℕ)) (sent : List (List ℕ))
+pub taken_all : (first old : List (List ℕ)) (sent : List (List ℕ))
     → ((b : List ℕ) → Contains first b → Contains sent b ⊎ Contains old b) → old ≡ []
     → (b : List ℕ) → Contains first b → Contains sent b
-taken-all first old sent before none b own = elim (before b own) [
+taken_all first old sent before none b own = elim (before b own) [
   | inl was ↦ was
   | inr waits ↦ absurd (none-in b (subst (λ l. Contains l b) none waits))
 ]
 
 -- a site goes on by an event, and what it sends is collected
-module _ (old mid new : Shown) (sent sent' : List (List ℕ)) (ms : List Mark) (was : IsMadeByEvents old)
+module _ (old mid new : SiteView) (sent sent' : List (List ℕ)) (ms : List Mark) (was : IsMadeByEvents old)
     (has : HasSent sent old) (on : GoesOnBy sent old mid) (listed-more : mid.events ≡ old.events ++ ms)
     (makes : Makes ms old mid) (same : record new { waiting = [] } ≡ record mid { waiting = [] })
     (kept : (b : List ℕ) → Contains sent b → Contains sent' b)
@@ -90,19 +90,19 @@ module _ (old mid new : Shown) (sent sent' : List (List ℕ)) (ms : List Mark) (
   has-sent = record {
     none = none;
     all = λ b own. sent-mid b
-        (subst (λ (x : Shown). Sends x b) same
+        (subst (λ (x : SiteView). Sends x b) same
         (let here : Sends (record new { waiting = [] }) b = own in here));
   }
 
 -- so it is for all sites, and what they list
-module _ (sites : List Shown) (node : ℕ) (event : Event) (old mid new : Shown)
+module _ (sites : List SiteView) (node : ℕ) (event : Event) (old mid new : SiteView)
     (sent sent' : List (List ℕ)) (there : slice_get sites node ≡ Some old) (was : IsMadeByEvents old)
     (have : HaveSent sent sites) (on : GoesOnBy sent old mid)
     (listed-more : mid.events ≡ old.events ++ marks_of event) (makes : Makes (marks_of event) old mid)
     (same : record new { waiting = [] } ≡ record mid { waiting = [] })
     (kept : (b : List ℕ) → Contains sent b → Contains sent' b)
     (taken : (b : List ℕ) → Contains mid.waiting b → Contains sent' b) (none : new.waiting ≡ []) where
-  each : (i : ℕ) (s : Shown) → slice_get (set sites node new) i ≡ Some s → HasSent sent' s
+  each : (i : ℕ) (s : SiteView) → slice_get (set sites node new) i ≡ Some s → HasSent sent' s
   each i s at =
       ⊎_elim
       (λ p. subst (HasSent sent') (sym p.1)
@@ -115,13 +115,13 @@ module _ (sites : List Shown) (node : ℕ) (event : Event) (old mid new : Shown)
   made-at = record {
     have = each;
     here = ap listed (set-there sites node new old there)
-        ∙ ap (λ (x : Shown). x.events) same ∙ listed-more
+        ∙ ap (λ (x : SiteView). x.events) same ∙ listed-more
         ∙ ap (λ l. l ++ marks_of event) (sym (ap listed there));
     elsewhere = λ i apart. ap listed (set-elsewhere sites node i new (λ e. apart (sym e)));
   }
 
 -- or it can't make the event, and the call says so
-pub step-says : (sites : List Shown) (node : ℕ) (event : Event) (old mid new : Shown)
+pub step-says : (sites : List SiteView) (node : ℕ) (event : Event) (old mid new : SiteView)
     (sent sent' : List (List ℕ)) (happens : Bool) → slice_get sites node ≡ Some old → IsMadeByEvents old
     → IsConfig old.config → HaveSent sent sites → GoesOnBy sent old mid
     → (IsTrue happens → mid.events ≡ old.events ++ marks_of event)
@@ -134,5 +134,5 @@ step-says sites node event old mid new sent sent' true there was limits have on 
     made-at sites node event old mid new sent sent' there was have on (more refl) (says limits) same kept taken
     none
 step-says sites node event old mid new sent sent' false there was limits have on more says same kept taken none =
-    λ s at. subst (λ (x : Shown). NeverHappen x.config x.me x.node (marks_of event))
+    λ s at. subst (λ (x : SiteView). NeverHappen x.config x.me x.node (marks_of event))
     (same_Some old s (sym there ∙ at)) (says limits (have node old there).none)

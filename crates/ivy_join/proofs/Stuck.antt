@@ -14,20 +14,20 @@ use Rattle.ivy_program.specs.Programs.{Program}
 use Rattle.ivy_site.specs.ivy_host.Hosts.{Host, host_rules}
 use Rattle.ivy_site.specs.ivy_host.Managers.{Managed, managed_ops}
 use Rattle.ivy_site.specs.ivy_host.Openings.{first_node, opening}
-use Rattle.ivy_site.proofs.of_ivy_host.Tame.{first_length}
-use Rattle.ivy_site.specs.Shown.{Shown}
+use Rattle.ivy_site.proofs.of_ivy_host.WellBehaved.{first_length}
+use Rattle.ivy_site.specs.SiteView.{SiteView}
 use Rattle.ivy_world.specs.WorldSites.{programs_of}
 use Rattle.ivy_join.specs.Exact.{AreMadeTo, AreToOthers, AreStuck, HaveSent, IsMadeTo, IsNoPart, IsOneLeft, IsStuck, NeverHappen}
 use Rattle.ivy_join.specs.Joined.{list_of, part_in, AreNoParts}
 use Rattle.ivy_join.specs.Joining.{program_in, events_at, listed, IsNode, ArePlayed}
-use Rattle.ivy_join.proofs.Counted.{drop-at, marks-cut}
+use Rattle.ivy_join.proofs.Counted.{drop_at, marks-cut}
 use Rattle.ivy_join.proofs.Handed.{there_is}
 use Rattle.ivy_join.proofs.Others.{others-left, others-right}
 use Rattle.ivy_join.proofs.Played.{first_there}
-use Rattle.ivy_join.proofs.Within.{all-made, AreBlocked}
+use Rattle.ivy_join.proofs.Within.{all_made, AreBlocked}
 
 -- the events of a site, as those of node i
-site-happens : (c : Config) (sent : List (List ℕ)) (i : ℕ) (s : Shown) → (own : IsNode c sent i s)
+site-happens : (c : Config) (sent : List (List ℕ)) (i : ℕ) (s : SiteView) → (own : IsNode c sent i s)
     → AllHappen (host_rules managed_ops) c (first_node managed_ops c i (program_in s)) s.events
     own.made.effect
 site-happens c sent i s own =
@@ -37,7 +37,7 @@ site-happens c sent i s own =
     (first_node managed_ops s.config j (program_in s)) s.events own.made.effect) own.me own.made.happen)
 
 -- an event that can't follow the first ones of a log
-pub never-part : (c : Config) (sent : List (List ℕ)) (sites : List Shown) (i : ℕ) (s : Shown)
+pub never-part : (c : Config) (sent : List (List ℕ)) (sites : List SiteView) (i : ℕ) (s : SiteView)
     (log : List Event) (m : ℕ) (event : Event) → ArePlayed c sites sent → slice_get sites i ≡ Some s
     → IsMadeTo log m (events_at sites i) → m < length log → event ≡ get_or log m event
     → NeverHappen s.config s.me s.node (marks_of event) → IsNoPart c (programs_of sites) i (marks log)
@@ -50,7 +50,7 @@ never-part c sent sites i s log m event played there to below is never program a
     let rest : List Mark = marks (drop (m + 1) log) in
     let parts : marks log ≡ s.events ++ (marks_of event ++ rest) =
     marks-cut log m ∙ ap (λ l. l ++ marks (drop m log)) (sym to.are ∙ ap listed there)
-    ∙ ap (λ l. s.events ++ marks l) (drop-at log m event below is) in
+    ∙ ap (λ l. s.events ++ marks l) (drop_at log m event below is) in
     let all : AllHappen (host_rules managed_ops) c (first_node managed_ops c i (program_in s))
     (s.events ++ (marks_of event ++ marks (drop (m + 1) log))) effect =
     subst (λ l. AllHappen (host_rules managed_ops) c (first_node managed_ops c i (program_in s)) l effect)
@@ -90,12 +90,12 @@ stuck-some sent (Delivered bytes ∷ rest) stuck some none =
     (let one : Delivery bytes ∷ marks rest ≡ [] = none in absurd cc)
 stuck-some sent (Pulsed to ∷ rest) stuck some none = stuck tt
 
-none-early : (c : Config) (programs : List Program) (j : ℕ) → early_of (opening managed_ops c programs) j ≡ []
-none-early c [] j = refl
-none-early c (p ∷ ps) zero = refl
-none-early c (p ∷ ps) (suc j) = none-early c ps j
+none_early : (c : Config) (programs : List Program) (j : ℕ) → early_of (opening managed_ops c programs) j ≡ []
+none_early c [] j = refl
+none_early c (p ∷ ps) zero = refl
+none_early c (p ∷ ps) (suc j) = none_early c ps j
 
-module _ {X : Type 0} (f : X → List Event) (c : Config) (sites : List Shown) (sent : List (List ℕ))
+module _ {X : Type 0} (f : X → List Event) (c : Config) (sites : List SiteView) (sent : List (List ℕ))
     (logs : List X) (made : List ℕ) (played : ArePlayed c sites sent) (have : HaveSent sent sites)
     (each : length logs ≡ length sites) (count : length made ≡ length sites)
     (to : AreMadeTo (map f logs) made sites) (stuck : AreStuck sent (map f logs) made) where
@@ -114,7 +114,7 @@ module _ {X : Type 0} (f : X → List Event) (c : Config) (sites : List Shown) (
   log-at : (i : ℕ) (x : X) → slice_get logs i ≡ Some x → slice_get (map f logs) i ≡ Some (f x)
   log-at i x there = slice_get-map f logs i ∙ ap (option_map f) there
 
-  past-all : (i : ℕ) (o : Option Shown) → slice_get sites i ≡ o → length sites ≤ i → listed o ≡ []
+  past-all : (i : ℕ) (o : Option SiteView) → slice_get sites i ≡ o → length sites ≤ i → listed o ≡ []
   past-all i None at past = refl
   past-all i (Some s) at past =
       absurd (let l = slice_get_within sites i s at in omega (arith, l, past))
@@ -158,7 +158,7 @@ module _ {X : Type 0} (f : X → List Event) (c : Config) (sites : List Shown) (
       let many = first_length managed_ops c 0 (programs_of sites) in
       let size = length-map sites program_in in
       let found = there_is sites i (omega (arith, l, many, size)) in
-      let s : Shown = found.0 in
+      let s : SiteView = found.0 in
       let there : slice_get sites i ≡ Some found.0 = found.1 in
       let own = played.each i found.0 there in
       let is : first_node managed_ops c i (program_in found.0) ≡ n =
@@ -179,11 +179,11 @@ module _ {X : Type 0} (f : X → List Event) (c : Config) (sites : List Shown) (
   stuck-no-parts left end run =
       let i = left.node in
       let nothing : rest_at left.node ≡ [] =
-      all-made (host_rules managed_ops) c (opening managed_ops c (programs_of sites)) sent (events_at sites)
+      all_made (host_rules managed_ops) c (opening managed_ops c (programs_of sites)) sent (events_at sites)
       (part_in lists) rest_at whole
       (λ j. stop-at j (slice_get logs j) (slice_get made j) refl refl) happened end
       (λ b from. absurd (none-in b from))
-      (λ j b from. absurd (none-in b (subst (λ l. Contains l b) (none-early c (programs_of sites) j) from)))
+      (λ j b from. absurd (none-in b (subst (λ l. Contains l b) (none_early c (programs_of sites) j) from)))
       run left.node in
       let own = found-log logs left.node left.log left.there in
       let x : X = own.0 in

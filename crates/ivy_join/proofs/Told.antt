@@ -5,7 +5,7 @@ use Rattle.std.proofs.lemmas.Option.{slice_get-map, slice_get_cases}
 use Rattle.ivy_model.specs.declared.Record.{Record}
 use Rattle.ivy_lines.specs.ivy_calls.Answers.{answer, answers}
 use Rattle.ivy_lines.specs.Own.{Entry, answers_in}
-use Rattle.ivy_site.specs.Shown.{Shown}
+use Rattle.ivy_site.specs.SiteView.{SiteView}
 use Rattle.ivy_join.specs.Owned.{IsTold, AreTold, Tells}
 
 -- the records past this place are those that the entries lack
@@ -20,15 +20,15 @@ tells entries history place few are = record {
       ∙ ap (λ l. l ++ answers (drop place history)) are;
 }
 
-pub told-at : {X : Type 0} (f : X → List Entry) (logs : List X) (sites : List Shown) (i : ℕ) (x : X)
-    (s : Shown) → slice_get logs i ≡ Some x → slice_get sites i ≡ Some s
+pub told_at : {X : Type 0} (f : X → List Entry) (logs : List X) (sites : List SiteView) (i : ℕ) (x : X)
+    (s : SiteView) → slice_get logs i ≡ Some x → slice_get sites i ≡ Some s
     → Tells (f x) s.node.core.history → IsTold (slice_get (map f logs) i) (slice_get sites i)
-told-at f logs sites i x s log site told =
+told_at f logs sites i x s log site told =
     subst (λ o. IsTold o (slice_get sites i)) (sym (slice_get-map f logs i ∙ ap (option_map f) log))
     (subst (IsTold (Some (f x))) (sym site) told)
 
 -- where there is no log nothing is said
-pub told-all : {X : Type 0} (f : X → List Entry) (logs : List X) (sites : List Shown)
+pub told-all : {X : Type 0} (f : X → List Entry) (logs : List X) (sites : List SiteView)
     → ((i : ℕ) → i < length logs → IsTold (slice_get (map f logs) i) (slice_get sites i))
     → AreTold (map f logs) sites
 told-all f logs sites h i = elim (slice_get_cases logs i).1 [

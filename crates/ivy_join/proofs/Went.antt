@@ -6,31 +6,31 @@ use Rattle.ivy_model.specs.declared.Config.{Config}
 use Rattle.ivy_moves.specs.Events.{Event}
 use Rattle.ivy_moves.specs.Marks.{marks}
 use Rattle.ivy_program.specs.Programs.{Program}
-use Rattle.ivy_site.specs.Shown.{Shown}
+use Rattle.ivy_site.specs.SiteView.{SiteView}
 use Rattle.ivy_world.specs.WorldSites.{programs_of}
 use Rattle.ivy_join.specs.Exact.{HaveSent, IsMadeAt, IsMadeTo, IsNeverAt, IsNoPart, IsStuck, IsWaiting, PlaysTo}
 use Rattle.ivy_join.specs.Joining.{events_at, ArePlayed}
-use Rattle.ivy_join.proofs.Counted.{drop-at, made-more}
+use Rattle.ivy_join.proofs.Counted.{drop_at, made_more}
 use Rattle.ivy_join.proofs.Handed.{there_is}
 use Rattle.ivy_join.proofs.Stuck.{never-part}
 
 -- so far
-module _ (node : ℕ) (log : List Event) (first place : ℕ) (old cur : List Shown)
+module _ (node : ℕ) (log : List Event) (first place : ℕ) (old cur : List SiteView)
     (sent0 sent : List (List ℕ)) (from : first ≤ place) (have : HaveSent sent cur)
     (here : IsMadeTo log place (events_at cur node))
     (elsewhere : (i : ℕ) → i ≢ node → events_at cur i ≡ events_at old i)
     (sites : place ≡ first → cur ≡ old) (strings : place ≡ first → sent ≡ sent0) where
   -- whether a further event was made
-  went-more : (made : ℕ) → made ≡ place → IsTrue (not (made == first)) → first < made
-  went-more made at is =
+  went_more : (made : ℕ) → made ≡ place → IsTrue (not (made == first)) → first < made
+  went_more made at is =
       let apart = eqb-false made first (not-true (made == first) is) in
       omega (arith, from, at, apart)
 
-  none-more : (made : ℕ) → made ≡ place → not (made == first) ≡ false → place ≡ first
-  none-more made at is = sym at ∙ eqb-true made first (not-false (made == first) is)
+  none_more : (made : ℕ) → made ≡ place → not (made == first) ≡ false → place ≡ first
+  none_more made at is = sym at ∙ eqb-true made first (not-false (made == first) is)
 
   -- its next event waits
-  pub plays-waits : (made : ℕ) (event : Event) (new : List Shown) (sent' : List (List ℕ)) → made ≡ place
+  pub plays-waits : (made : ℕ) (event : Event) (new : List SiteView) (sent' : List (List ℕ)) → made ≡ place
       → place < length log → event ≡ get_or log place event → IsWaiting event cur new sent sent'
       → PlaysTo node log first made old new sent0 sent' (not (made == first))
   plays-waits made event new sent' at below is w = record {
@@ -38,13 +38,13 @@ module _ (node : ℕ) (log : List Event) (first place : ℕ) (old cur : List Sho
     here = subst (λ m. IsMadeTo log m (events_at new node)) (sym at)
         (subst (λ l. IsMadeTo log place (events_at l node)) (sym w.sites) here);
     elsewhere = λ i apart. ap (λ l. events_at l i) w.sites ∙ elsewhere i apart;
-    more = went-more made at;
-    sites = λ same. w.sites ∙ sites (none-more made at same);
-    strings = λ same. w.strings ∙ strings (none-more made at same);
-    place = λ same. at ∙ none-more made at same;
-    stuck = λ same. subst (λ m. IsStuck sent0 (drop m log)) (none-more made at same)
-        (subst (λ l. IsStuck l (drop place log)) (strings (none-more made at same))
-        (subst (IsStuck sent) (sym (drop-at log place event below is)) w.unsent));
+    more = went_more made at;
+    sites = λ same. w.sites ∙ sites (none_more made at same);
+    strings = λ same. w.strings ∙ strings (none_more made at same);
+    place = λ same. at ∙ none_more made at same;
+    stuck = λ same. subst (λ m. IsStuck sent0 (drop m log)) (none_more made at same)
+        (subst (λ l. IsStuck l (drop place log)) (strings (none_more made at same))
+        (subst (IsStuck sent) (sym (drop_at log place event below is)) w.unsent));
   }
 
   -- it can't be made
@@ -57,12 +57,12 @@ module _ (node : ℕ) (log : List Event) (first place : ℕ) (old cur : List Sho
       (never-part c sent cur node at.0 log place event played at.1 here below is (never at.0 at.1))
 
   -- it is made
-  pub plays-more : (event : Event) (new : List Shown) (sent' : List (List ℕ)) → place < length log
+  pub plays_more : (event : Event) (new : List SiteView) (sent' : List (List ℕ)) → place < length log
       → event ≡ get_or log place event → IsMadeAt node event cur new sent'
       → IsMadeTo log (place + 1) (events_at new node)
-  plays-more event new sent' below is m =
-      made-more log place event (events_at cur node) (events_at new node) below is here m.here
+  plays_more event new sent' below is m =
+      made_more log place event (events_at cur node) (events_at new node) below is here m.here
 
-  pub plays-elsewhere : (event : Event) (new : List Shown) (sent' : List (List ℕ))
+  pub plays-elsewhere : (event : Event) (new : List SiteView) (sent' : List (List ℕ))
       → IsMadeAt node event cur new sent' → (i : ℕ) → i ≢ node → events_at new i ≡ events_at old i
   plays-elsewhere event new sent' m i apart = m.elsewhere i apart ∙ elsewhere i apart

@@ -55,11 +55,11 @@ taken-rest sent Turn ms taken = taken
 taken-rest sent (Delivery bytes) ms taken = taken.1
 taken-rest sent (Pulse to) ms taken = taken
 
-first-of : (x y : Mark) (xs ys : List Mark) → x ∷ xs ≡ y ∷ ys → x ≡ y
-first-of x y xs ys same = cc
+first_of : (x y : Mark) (xs ys : List Mark) → x ∷ xs ≡ y ∷ ys → x ≡ y
+first_of x y xs ys same = cc
 
-rest-of : (x y : Mark) (xs ys : List Mark) → x ∷ xs ≡ y ∷ ys → xs ≡ ys
-rest-of x y xs ys same = cc
+rest_of : (x y : Mark) (xs ys : List Mark) → x ∷ xs ≡ y ∷ ys → xs ≡ ys
+rest_of x y xs ys same = cc
 
 before-blocked : (sent : List (List ℕ)) (ms own l rest : List Mark) → own ++ l ≡ ms ++ rest
     → AreTaken sent ms → AreBlocked sent l → (left : List Mark) × (own ≡ ms ++ left)
@@ -67,15 +67,15 @@ before-blocked sent [] own l rest same taken blocked = (own, refl)
 before-blocked sent (m ∷ ms) [] l rest same taken blocked =
     absurd (taken-blocked sent m ms taken l (ms ++ rest) blocked same)
 before-blocked sent (m ∷ ms) (x ∷ own) l rest same taken blocked =
-    let further = before-blocked sent ms own l rest (rest-of x m (own ++ l) (ms ++ rest) same)
+    let further = before-blocked sent ms own l rest (rest_of x m (own ++ l) (ms ++ rest) same)
     (taken-rest sent m ms taken) blocked in (
       further.0,
-      ap (λ y. y ∷ own) (first-of x m (own ++ l) (ms ++ rest) same) ∙ ap (λ k. m ∷ k) further.1,
+      ap (λ y. y ∷ own) (first_of x m (own ++ l) (ms ++ rest) same) ∙ ap (λ k. m ∷ k) further.1,
     )
 
 cancel : (p xs ys : List Mark) → p ++ xs ≡ p ++ ys → xs ≡ ys
 cancel [] xs ys same = same
-cancel (x ∷ p) xs ys same = cancel p xs ys (rest-of x x (p ++ xs) (p ++ ys) same)
+cancel (x ∷ p) xs ys same = cancel p xs ys (rest_of x x (p ++ xs) (p ++ ys) same)
 
 -- what a move delivers
 
@@ -114,10 +114,10 @@ module _ {C : Type 0} (rules : Core C) (c : Config) (sent : List (List ℕ)) whe
   pulse-given-taken to None = tt
   pulse-given-taken to (Some n) = pulsed-taken to (pulsing n to).sent
 
-  read-sent : (w : World C) (index : ℕ) (bytes : List ℕ)
+  read_sent : (w : World C) (index : ℕ) (bytes : List ℕ)
       → ((s : List ℕ) → Contains w.sent s → Contains sent s) → slice_get w.sent index ≡ Some bytes
       → Contains sent bytes
-  read-sent w index bytes all is =
+  read_sent w index bytes all is =
       all bytes
       (index, slice_get_within w.sent index bytes is, get_or_from_slice_get w.sent index bytes bytes is)
 
@@ -126,7 +126,7 @@ module _ {C : Type 0} (rules : Core C) (c : Config) (sent : List (List ℕ)) whe
   given-taken w (move.Turn i) all = turn-given-taken (slice_get w.nodes i)
   given-taken w (move.Deliver index to) all =
       delivery-given-taken (slice_get w.nodes to) (slice_get w.sent index)
-      (λ bytes is. read-sent w index bytes all is)
+      (λ bytes is. read_sent w index bytes all is)
   given-taken w (move.Pulse from to) all = pulse-given-taken to (slice_get w.nodes from)
 
   -- what came too early then is among the strings too
@@ -146,28 +146,28 @@ module _ {C : Type 0} (rules : Core C) (c : Config) (sent : List (List ℕ)) whe
       ])
       (before j s) own
 
-  delivery-early : (w mid : World C) (i : ℕ) (o : Option (Node C)) (s : Option (List ℕ))
+  delivery_early : (w mid : World C) (i : ℕ) (o : Option (Node C)) (s : Option (List ℕ))
       → delivery_of rules c w i o s ≡ Some mid → IsEarly w
       → ((bytes : List ℕ) → s ≡ Some bytes → Contains sent bytes) → IsEarly mid
-  delivery-early w mid i None s eq before there = absurd (none-some mid eq)
-  delivery-early w mid i (Some n) None eq before there = absurd (none-some mid eq)
-  delivery-early w mid i (Some n) (Some bytes) eq before there =
+  delivery_early w mid i None s eq before there = absurd (none-some mid eq)
+  delivery_early w mid i (Some n) None eq before there = absurd (none-some mid eq)
+  delivery_early w mid i (Some n) (Some bytes) eq before there =
       let v = verdict_of c n bytes in
       let e = remembered-went w i v bytes (delivered rules c n bytes) mid eq in
       λ j s own. remembered-early v w.early i bytes (there bytes refl) before j s
       (subst (λ (u : World C). Contains (early_of u j) s) (sym e.2) own)
 
-  turn-early : (w mid : World C) (i : ℕ) (o : Option (Node C)) → turn_of rules c w i o ≡ Some mid
+  turn_early : (w mid : World C) (i : ℕ) (o : Option (Node C)) → turn_of rules c w i o ≡ Some mid
       → IsEarly w → IsEarly mid
-  turn-early w mid i None eq before = absurd (none-some mid eq)
-  turn-early w mid i (Some n) eq before =
+  turn_early w mid i None eq before = absurd (none-some mid eq)
+  turn_early w mid i (Some n) eq before =
       let e = went w i (turned rules n) mid eq in
       λ j s own. before j s (subst (λ (u : World C). Contains (early_of u j) s) (sym e.2) own)
 
-  pulse-early : (w mid : World C) (i to : ℕ) (o : Option (Node C))
+  pulse_early : (w mid : World C) (i to : ℕ) (o : Option (Node C))
       → pulse_of rules c w i to o ≡ Some mid → IsEarly w → IsEarly mid
-  pulse-early w mid i to None eq before = absurd (none-some mid eq)
-  pulse-early w mid i to (Some n) eq before =
+  pulse_early w mid i to None eq before = absurd (none-some mid eq)
+  pulse_early w mid i to (Some n) eq before =
       λ j s own. before j s
       (subst (λ (u : World C). Contains (early_of u j) s) (sym (same_Some _ mid eq)) own)
 
@@ -175,14 +175,14 @@ module _ {C : Type 0} (rules : Core C) (c : Config) (sent : List (List ℕ)) whe
       → ((s : List ℕ) → Contains w.sent s → Contains sent s) → IsEarly mid
   unfolding moved
   moved-early w mid (move.Turn i) eq before all =
-      turn-early w mid i (slice_get w.nodes i)
+      turn_early w mid i (slice_get w.nodes i)
       (guarded (is_named w (move.Turn i)) (made_by rules c w (move.Turn i)) mid eq).1 before
   moved-early w mid (move.Deliver index to) eq before all =
-      delivery-early w mid to (slice_get w.nodes to) (slice_get w.sent index)
+      delivery_early w mid to (slice_get w.nodes to) (slice_get w.sent index)
       (guarded (is_named w (move.Deliver index to)) (made_by rules c w (move.Deliver index to)) mid eq).1
-      before (λ bytes is. read-sent w index bytes all is)
+      before (λ bytes is. read_sent w index bytes all is)
   moved-early w mid (move.Pulse from to) eq before all =
-      pulse-early w mid from to (slice_get w.nodes from)
+      pulse_early w mid from to (slice_get w.nodes from)
       (guarded (is_named w (move.Pulse from to)) (made_by rules c w (move.Pulse from to)) mid eq).1 before
 
   -- what the node goes on with
@@ -191,7 +191,7 @@ module _ {C : Type 0} (rules : Core C) (c : Config) (sent : List (List ℕ)) whe
   further-taken w end i [] on before = (tt, subst IsEarly (sym on) before)
   further-taken w end i (bytes ∷ more) on before =
       let there : Contains sent bytes = before i bytes on.0 in
-      let mid = delivery-early w on.1.0 i (slice_get w.nodes i) (Some bytes) on.1.1 before
+      let mid = delivery_early w on.1.0 i (slice_get w.nodes i) (Some bytes) on.1.1 before
       (λ b is. subst (Contains sent) (same_Some bytes b is) there) in
       let rest = further-taken on.1.0 end i more on.1.2 mid in (
         taken-append sent (delivery_given rules c (slice_get w.nodes i) (Some bytes))
@@ -263,8 +263,8 @@ module _ {C : Type 0} (rules : Core C) (c : Config) (begins : World C) (sent : L
     taken = move-taken rules c sent w end m moves stands.early stands.all
 
     -- what the move gives was made too
-    left-here : (left : List Mark) × (made (node_of m) ≡ parts (node_of m) ++ ms ++ left)
-    left-here =
+    left_here : (left : List Mark) × (made (node_of m) ≡ parts (node_of m) ++ ms ++ left)
+    left_here =
         let i : ℕ = node_of m in
         let own = stands.within i in
         let same : own.0 ++ blocked i ≡ ms ++ rest i =
@@ -279,8 +279,8 @@ module _ {C : Type 0} (rules : Core C) (c : Config) (begins : World C) (sent : L
     within-then j = elim (cases_eq (node_of m) j) [
       | inl same ↦
           subst (λ i. (left : List Mark) × (made i ≡ parts i ++ given i ++ left)) same (
-            left-here.0,
-            left-here.1 ∙ ap (λ l. parts (node_of m) ++ l ++ left-here.0) (sym here),
+            left_here.0,
+            left_here.1 ∙ ap (λ l. parts (node_of m) ++ l ++ left_here.0) (sym here),
           )
       | inr apart ↦
           (let own = stands.within j in (
@@ -293,8 +293,8 @@ module _ {C : Type 0} (rules : Core C) (c : Config) (begins : World C) (sent : L
     gone : IsGone rules c w (node_of m) ms end
     gone = move-gone rules c w end m moves
 
-    at-node : IsAt (node_of m) gone.effect.after (parts (node_of m) ++ ms)
-    at-node =
+    at_node : IsAt (node_of m) gone.effect.after (parts (node_of m) ++ ms)
+    at_node =
         let own = stands.nodes (node_of m) gone.node gone.there in
         record {
           first = own.first;
@@ -315,7 +315,7 @@ module _ {C : Type 0} (rules : Core C) (c : Config) (begins : World C) (sent : L
           ∙ ap (slice_get end.nodes) same ∙ at) in
           subst (λ i. IsAt i n (parts i ++ given i)) same
           (subst (λ l. IsAt (node_of m) n (parts (node_of m) ++ l)) (sym here)
-          (subst (λ x. IsAt (node_of m) x (parts (node_of m) ++ ms)) is at-node)))
+          (subst (λ x. IsAt (node_of m) x (parts (node_of m) ++ ms)) is at_node)))
       | inr apart ↦
           (let was : slice_get w.nodes j ≡ Some n =
           sym (ap (λ ns. slice_get ns j) gone.nodes
@@ -327,15 +327,15 @@ module _ {C : Type 0} (rules : Core C) (c : Config) (begins : World C) (sent : L
 
     -- what the move sends was sent by what was made
     sent-now : (s : List ℕ) → Contains gone.effect.sent s → Contains sent s
-    unfolding at-node
+    unfolding at_node
     sent-now s own =
         let before = stands.nodes (node_of m) gone.node gone.there in
         let all = happened (node_of m) before.first before.there in
-        let split = all-split rules c before.first (parts (node_of m) ++ ms) left-here.0 all.0
-        (subst (λ l. AllHappen rules c before.first l all.0) left-here.1 all.1) in
+        let split = all-split rules c before.first (parts (node_of m) ++ ms) left_here.0 all.0
+        (subst (λ l. AllHappen rules c before.first l all.0) left_here.1 all.1) in
         let same : split.first ≡ followed_by before.effect gone.effect =
         same-effect rules c before.first (parts (node_of m) ++ ms) split.first
-        (followed_by before.effect gone.effect) split.happen at-node.happen in
+        (followed_by before.effect gone.effect) split.happen at_node.happen in
         let text : all.0.sent ≡ split.first.sent ++ split.rest.sent =
         ap (λ (e : Effect C). e.sent) split.whole in
         all.2 s
@@ -344,8 +344,8 @@ module _ {C : Type 0} (rules : Core C) (c : Config) (begins : World C) (sent : L
         (subst (λ (e : Effect C). Contains e.sent s) (sym same)
         (Contains-append_right before.effect.sent gone.effect.sent s own))))
 
-    all-then : (s : List ℕ) → Contains end.sent s → Contains sent s
-    all-then s own =
+    all_then : (s : List ℕ) → Contains end.sent s → Contains sent s
+    all_then s own =
         elim (Contains-append_cases w.sent gone.effect.sent s (subst (λ l. Contains l s) gone.sent own)) [
           | inl was ↦ stands.all s was
           | inr now ↦ sent-now s now
@@ -355,30 +355,30 @@ module _ {C : Type 0} (rules : Core C) (c : Config) (begins : World C) (sent : L
     stands-then = record {
       nodes = nodes-then;
       within = within-then;
-      all = all-then;
+      all = all_then;
       early = taken.1;
     }
 
-  ends-within : (moves : List Move) (w end : World C) (lead : Leads rules c w moves end)
+  ends_within : (moves : List Move) (w end : World C) (lead : Leads rules c w moves end)
       (parts : ℕ → List Mark) → Stands w parts
       → ((j : ℕ) → lists j ≡ parts j ++ parts_of rules c moves w end lead j)
       → (j : ℕ) → (left : List Mark) × (made j ≡ lists j ++ left)
-  ends-within [] w end lead parts stands are j =
+  ends_within [] w end lead parts stands are j =
       let own = stands.within j in
       (own.0, own.1 ∙ ap (λ l. l ++ own.0) (sym (are j ∙ append-nil (parts j))))
-  ends-within (m ∷ moves) w end lead parts stands are j =
+  ends_within (m ∷ moves) w end lead parts stands are j =
       let rest : ℕ → List Mark = parts_of rules c moves lead.0 end lead.2 in
-      ends-within moves lead.0 end lead.2 (λ i. parts i ++ given_at rules c w m lead.0 lead.1 i)
+      ends_within moves lead.0 end lead.2 (λ i. parts i ++ given_at rules c w m lead.0 lead.1 i)
       (stands-then w lead.0 m lead.1 parts rest stands are)
       (λ i. are i
       ∙ sym (append_assoc (parts i) (given_at rules c w m lead.0 lead.1 i) (rest i))) j
 
   -- so nothing is blocked
-  pub all-made : (end : World C) → ((s : List ℕ) → Contains begins.sent s → Contains sent s)
+  pub all_made : (end : World C) → ((s : List ℕ) → Contains begins.sent s → Contains sent s)
       → ((j : ℕ) (s : List ℕ) → Contains (early_of begins j) s → Contains sent s)
       → AreParts rules c begins lists end → (j : ℕ) → blocked j ≡ []
-  all-made end sent-first early-first run j =
-      let ends = ends-within run.moves begins end run.leads (λ i. []) (record {
+  all_made end sent-first early-first run j =
+      let ends = ends_within run.moves begins end run.leads (λ i. []) (record {
         nodes = λ i n at. record {
           first = n;
           there = at;

@@ -11,7 +11,7 @@ use Rattle.ivy_program.specs.Programs.{Program}
 use Rattle.ivy_site.specs.ivy_host.Hosts.{Host, host_rules}
 use Rattle.ivy_site.specs.ivy_host.Managers.{Managed, managed_ops}
 use Rattle.ivy_site.specs.ivy_host.Openings.{first_node}
-use Rattle.ivy_site.specs.Shown.{Shown}
+use Rattle.ivy_site.specs.SiteView.{SiteView}
 use Rattle.ivy_join.specs.declared.playing.Outcome.{Outcome}
 use Rattle.ivy_join.specs.declared.playing.Outcome.TheVariants.{Made, Waits, Never}
 use Rattle.ivy_join.specs.Joining.{events_at, CanBeTaken, Sends}
@@ -32,48 +32,48 @@ NeverHappen c i n events = AreToOthers c.nodes i events → (effect : Effect (Ho
     → AllHappen (host_rules managed_ops) c n events effect → ⊥
 
 -- the site made these events, and what they send waits behind what waited
-pub record Makes (events : List Mark) (old new : Shown) : Type 0 where
+pub record Makes (events : List Mark) (old new : SiteView) : Type 0 where
   pub effect : Effect (Host Managed)
   pub happen : AllHappen (host_rules managed_ops) old.config old.node events effect
   pub node : new.node ≡ effect.after
   pub waiting : new.waiting ≡ old.waiting ++ effect.sent
 
 -- so it did; or it can't make them, where no string waited
-abbrev pub SaysMade : List Mark → Shown → Shown → Bool → Type 0
+abbrev pub SaysMade : List Mark → SiteView → SiteView → Bool → Type 0
 SaysMade events old new true = IsConfig old.config → Makes events old new
 SaysMade events old new false = IsConfig old.config → old.waiting ≡ []
     → NeverHappen old.config old.me old.node events
 
 -- all that the site's events sent is among these strings, and none waits
-pub record HasSent (sent : List (List ℕ)) (s : Shown) : Type 0 where
+pub record HasSent (sent : List (List ℕ)) (s : SiteView) : Type 0 where
   pub none : s.waiting ≡ []
   pub all : (bytes : List ℕ) → Sends s bytes → Contains sent bytes
 
 -- so it is for each of the sites
-abbrev pub HaveSent : List (List ℕ) → List Shown → Type 0
-HaveSent sent sites = (i : ℕ) (s : Shown) → slice_get sites i ≡ Some s → HasSent sent s
+abbrev pub HaveSent : List (List ℕ) → List SiteView → Type 0
+HaveSent sent sites = (i : ℕ) (s : SiteView) → slice_get sites i ≡ Some s → HasSent sent s
 
 -- the site in this place made the event, and the others none; what it sent is among the strings
-pub record IsMadeAt (node : ℕ) (e : Event) (old new : List Shown) (sent : List (List ℕ)) : Type 0
+pub record IsMadeAt (node : ℕ) (e : Event) (old new : List SiteView) (sent : List (List ℕ)) : Type 0
   where
     pub have : HaveSent sent new
     pub here : events_at new node ≡ events_at old node ++ marks_of e
     pub elsewhere : (i : ℕ) → i ≢ node → events_at new i ≡ events_at old i
 
 -- the site in this place can't make the event
-abbrev pub IsNeverAt : ℕ → Event → List Shown → Type 0
-IsNeverAt node event sites = (s : Shown) → slice_get sites node ≡ Some s
+abbrev pub IsNeverAt : ℕ → Event → List SiteView → Type 0
+IsNeverAt node event sites = (s : SiteView) → slice_get sites node ≡ Some s
     → NeverHappen s.config s.me s.node (marks_of event)
 
 -- the string that the event delivers is none of these, and all is as it was
-pub record IsWaiting (e : Event) (old new : List Shown) (sent sent' : List (List ℕ)) : Type 0 where
+pub record IsWaiting (e : Event) (old new : List SiteView) (sent sent' : List (List ℕ)) : Type 0 where
   pub unsent : CanBeTaken sent e → ⊥
   pub sites : new ≡ old
   pub strings : sent' ≡ sent
 
 -- what became of the event
-abbrev pub CameTo : ℕ → Event → List Shown → List Shown → List (List ℕ) → List (List ℕ) → Outcome
-    → Type 0
+abbrev pub CameTo : ℕ → Event → List SiteView → List SiteView → List (List ℕ) → List (List ℕ)
+    → Outcome → Type 0
 CameTo node event old new sent sent' Made = IsMadeAt node event old new sent'
 CameTo node event old new sent sent' Waits = IsWaiting event old new sent sent'
 CameTo node event old new sent sent' Never = IsNeverAt node event old
@@ -84,7 +84,7 @@ pub record IsMadeTo (log : List Event) (made : ℕ) (events : List Mark) : Type 
   pub are : events ≡ marks (take made log)
 
 -- so it is of each log, at the site of its place
-abbrev pub AreMadeTo : List (List Event) → List ℕ → List Shown → Type 0
+abbrev pub AreMadeTo : List (List Event) → List ℕ → List SiteView → Type 0
 AreMadeTo logs made sites = (i : ℕ) (log : List Event) (m : ℕ) → slice_get logs i ≡ Some log
     → slice_get made i ≡ Some m → IsMadeTo log m (events_at sites i)
 
@@ -105,7 +105,7 @@ left_of (log ∷ logs) [] = 0
 left_of (log ∷ logs) (m ∷ made) = (length log - m) + left_of logs made
 
 -- a node's log was gone on with; where it was not, it is stuck, and all is as it was
-pub record PlaysTo (node : ℕ) (log : List Event) (made made' : ℕ) (old new : List Shown)
+pub record PlaysTo (node : ℕ) (log : List Event) (made made' : ℕ) (old new : List SiteView)
     (sent sent' : List (List ℕ)) (went : Bool) : Type 0 where
   pub have : HaveSent sent' new
   pub here : IsMadeTo log made' (events_at new node)
@@ -117,7 +117,7 @@ pub record PlaysTo (node : ℕ) (log : List Event) (made made' : ℕ) (old new :
   pub stuck : went ≡ false → IsStuck sent (drop made log)
 
 -- each log was gone on with; where none was, all are stuck
-pub record PlaysAll (logs : List (List Event)) (made made' : List ℕ) (new : List Shown)
+pub record PlaysAll (logs : List (List Event)) (made made' : List ℕ) (new : List SiteView)
     (sent' : List (List ℕ)) (went : Bool) : Type 0 where
   pub have : HaveSent sent' new
   pub each : AreMadeTo logs made' new

@@ -8,7 +8,7 @@ use Rattle.ivy_moves.specs.Worlds.{World}
 use Rattle.ivy_site.specs.ivy_host.Hosts.{Host, host_rules}
 use Rattle.ivy_site.specs.ivy_host.Managers.{Managed, managed_ops}
 use Rattle.ivy_site.specs.ivy_host.Openings.{opening}
-use Rattle.ivy_site.specs.Shown.{Shown}
+use Rattle.ivy_site.specs.SiteView.{SiteView}
 use Rattle.proof_headline.specs.Keeping.{Keeps}
 use Rattle.proof_headline.specs.RunState.{Run}
 use Rattle.ivy_program.specs.Programs.{Program}
@@ -35,13 +35,13 @@ module _ (c : Config) (programs : List Program) where
 
   -- the lists, one a node, are the parts of one run of these programs under this configuration; what
   -- is promised of every run holds at its end; and the sites are its nodes there
-  pub record AreJoined (lists : List (List Mark)) (sites : List Shown) : Type 0 where
+  pub record AreJoined (lists : List (List Mark)) (sites : List SiteView) : Type 0 where
     pub each : length lists ≡ c.nodes
     pub count : length sites ≡ c.nodes
     pub end : World (Host Managed)
     pub run : AreParts (host_rules managed_ops) c (opening managed_ops c programs) (part_in lists) end
     pub keeps : Keeps (run_to end)
-    pub nodes : (i : ℕ) (s : Shown) → slice_get sites i ≡ Some s
+    pub nodes : (i : ℕ) (s : SiteView) → slice_get sites i ≡ Some s
         → slice_get end.nodes i ≡ Some s.node
 
   -- the lists are not: no run of these programs under this configuration has them as its parts,

@@ -11,31 +11,31 @@ use Rattle.ivy_moves.specs.Worlds.{World}
 use Rattle.ivy_site.specs.ivy_host.Hosts.{Host, host_rules}
 use Rattle.ivy_site.specs.ivy_host.Managers.{Managed, managed_ops}
 use Rattle.ivy_site.specs.ivy_host.Openings.{first_node, opening}
-use Rattle.ivy_site.specs.Shown.{Shown}
+use Rattle.ivy_site.specs.SiteView.{SiteView}
 use Rattle.ivy_moves.specs.declared.keep.Keep.TheVariants.{All}
 use Rattle.ivy_site.specs.Sites.{first_shown, IsMadeByEvents}
 use Rattle.ivy_world.specs.WorldSites.{programs_of}
 use Rattle.ivy_program.specs.Programs.{Program}
 
 -- the sites of the programs as they begin, of which each keeps its lists
-abbrev pub kept_from : Config → ℕ → List Program → List Shown
+abbrev pub kept_from : Config → ℕ → List Program → List SiteView
 kept_from c me [] = []
 kept_from c me (p ∷ ps) = first_shown c me p ∷ kept_from c (me + 1) ps
 
 -- each of the sites keeps its lists
-abbrev pub AreKept : List Shown → Type 0
-AreKept sites = (i : ℕ) (s : Shown) → slice_get sites i ≡ Some s → s.keep ≡ All
+abbrev pub AreKept : List SiteView → Type 0
+AreKept sites = (i : ℕ) (s : SiteView) → slice_get sites i ≡ Some s → s.keep ≡ All
 
 -- the program of a site
-abbrev pub program_in : Shown → Program
+abbrev pub program_in : SiteView → Program
 program_in s = s.node.core.process.program
 
 -- the events of the site in this place; none where there is no site
-abbrev pub listed : Option Shown → List Mark
+abbrev pub listed : Option SiteView → List Mark
 listed None = []
 listed (Some s) = s.events
 
-abbrev pub events_at : List Shown → ℕ → List Mark
+abbrev pub events_at : List SiteView → ℕ → List Mark
 events_at sites i = listed (slice_get sites i)
 
 -- a string that the event delivers is one of these
@@ -54,7 +54,7 @@ abbrev pub taken_by : List Event → List (List ℕ)
 taken_by events = flat_map taken_in events
 
 -- the site went on by further events, which deliver none but these strings, and pulse to other nodes
-pub record GoesOnBy (sent : List (List ℕ)) (old new : Shown) : Type 0 where
+pub record GoesOnBy (sent : List (List ℕ)) (old new : SiteView) : Type 0 where
   pub me : new.me ≡ old.me
   pub config : new.config ≡ old.config
   pub program : program_in new ≡ program_in old
@@ -65,7 +65,7 @@ pub record GoesOnBy (sent : List (List ℕ)) (old new : Shown) : Type 0 where
 
 -- whatever strings those are: where what was delivered to the site before is among them, and what the
 -- event delivers, it went on so
-abbrev pub CanGoOnBy : Event → Shown → Shown → Type 0
+abbrev pub CanGoOnBy : Event → SiteView → SiteView → Type 0
 CanGoOnBy event old new = (sent : List (List ℕ)) → IsConfig old.config
     → AllCanBeMade sent old.config.nodes old.me old.events → CanBeTaken sent event
     → GoesOnBy sent old new
@@ -75,20 +75,20 @@ abbrev pub AddsOne : List ℕ → List (List ℕ) → List (List ℕ) → Type 0
 AddsOne bytes old new = (new ≡ old) ⊎ (new ≡ old ++ bytes ∷ [])
 
 -- the site's events send the string
-abbrev pub Sends : Shown → List ℕ → Type 0
+abbrev pub Sends : SiteView → List ℕ → Type 0
 Sends s bytes = (effect : Effect (Host Managed))
     × AllHappen (host_rules managed_ops) s.config
     (first_node managed_ops s.config s.me (program_in s)) s.events effect
     × Contains effect.sent bytes
 
 -- each of the strings after is one of those before, or the site's events send it
-abbrev pub AddsSent : Shown → List (List ℕ) → List (List ℕ) → Type 0
+abbrev pub AddsSent : SiteView → List (List ℕ) → List (List ℕ) → Type 0
 AddsSent s old new = (bytes : List ℕ) → Contains new bytes → Contains old bytes ⊎ Sends s bytes
 
 module _ (c : Config) where
   -- the site is this node, what its events make of it, and keeps its lists; each string that it was given
   -- is one of these
-  pub record IsNode (sent : List (List ℕ)) (i : ℕ) (s : Shown) : Type 0 where
+  pub record IsNode (sent : List (List ℕ)) (i : ℕ) (s : SiteView) : Type 0 where
     pub config : s.config ≡ c
     pub me : s.me ≡ i
     pub keep : s.keep ≡ All
@@ -97,10 +97,10 @@ module _ (c : Config) where
 
   -- the event lists of the sites are the parts of one run of their programs, in which each of the
   -- strings was sent
-  pub record ArePlayed (sites : List Shown) (sent : List (List ℕ)) : Type 0 where
+  pub record ArePlayed (sites : List SiteView) (sent : List (List ℕ)) : Type 0 where
     pub limits : IsConfig c
     pub count : length sites ≡ c.nodes
-    pub each : (i : ℕ) (s : Shown) → slice_get sites i ≡ Some s → IsNode sent i s
+    pub each : (i : ℕ) (s : SiteView) → slice_get sites i ≡ Some s → IsNode sent i s
     pub end : World (Host Managed)
     pub run : AreParts (host_rules managed_ops) c (opening managed_ops c (programs_of sites))
         (events_at sites) end
@@ -108,7 +108,7 @@ module _ (c : Config) where
 
 -- the site went on from its first event by those of the log, and by no other one, and is what they make of
 -- it
-pub record IsMadeByLog (log : List Event) (old new : Shown) : Type 0 where
+pub record IsMadeByLog (log : List Event) (old new : SiteView) : Type 0 where
   pub me : new.me ≡ old.me
   pub config : new.config ≡ old.config
   pub program : program_in new ≡ program_in old

@@ -9,7 +9,7 @@ use Rattle.ivy_lines.specs.ivy_calls.Answers.{answers, answers_of}
 use Rattle.ivy_lines.specs.Own.{Entry, answers_in, call_in, calls_in, events_in}
 use Rattle.ivy_moves.specs.Marks.{marks}
 use Rattle.ivy_program.specs.Programs.{Program, Called, one_by_one}
-use Rattle.ivy_site.specs.Shown.{Shown}
+use Rattle.ivy_site.specs.SiteView.{SiteView}
 use Rattle.ivy_join.specs.declared.playing.Outcome.{Outcome}
 use Rattle.ivy_join.specs.declared.playing.Outcome.TheVariants.{Made, Waits, Never}
 use Rattle.ivy_join.specs.Joined.{AreJoined}
@@ -30,25 +30,25 @@ pub record Tells (entries : List Entry) (history : List Record) : Type 0 where
   pub are : answers history ≡ answers_in entries ++ more
 
 -- the site was answered what its log says
-abbrev pub IsTold : Option (List Entry) → Option Shown → Type 0
+abbrev pub IsTold : Option (List Entry) → Option SiteView → Type 0
 IsTold (Some entries) (Some s) = Tells entries s.node.core.history
 IsTold (Some entries) None = Unit {0}
 IsTold None s = Unit {0}
 
 -- so was each of the sites
-abbrev pub AreTold : List (List Entry) → List Shown → Type 0
+abbrev pub AreTold : List (List Entry) → List SiteView → Type 0
 AreTold logs sites = (i : ℕ) → IsTold (slice_get logs i) (slice_get sites i)
 
 -- the events of the logs, one a node, are the parts of one run of the programs that the calls in the logs
 -- are, under this configuration; what is promised of every run holds at its end; the sites are its nodes
 -- there; and each was answered what its log says
-pub record AreOwnJoined (c : Config) (logs : List (List Entry)) (sites : List Shown) : Type 0 where
+pub record AreOwnJoined (c : Config) (logs : List (List Entry)) (sites : List SiteView) : Type 0 where
   pub joined : AreJoined c (programs_by logs) (map (λ entries. marks (events_in entries)) logs) sites
   pub told : AreTold logs sites
 
 -- no node has a call in progress, and each has in its log all that it was answered
-abbrev pub AreAllTold : List (List Entry) → List Shown → Type 0
-AreAllTold logs sites = (i : ℕ) (entries : List Entry) (s : Shown) → slice_get logs i ≡ Some entries
+abbrev pub AreAllTold : List (List Entry) → List SiteView → Type 0
+AreAllTold logs sites = (i : ℕ) (entries : List Entry) (s : SiteView) → slice_get logs i ≡ Some entries
     → slice_get sites i ≡ Some s
     → (s.node.core.memory.asked ≡ None) × (length s.node.core.history ≡ length (answers_in entries))
 

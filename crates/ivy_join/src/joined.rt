@@ -23,12 +23,12 @@ impl<A: Allocator> Drop for Joined<A> {
 
 impl<A: Allocator> Model for Joined<A> {
     ghost use Rattle.std.specs.Prelude.{List};
-    ghost use Rattle.ivy_site.specs.Shown.{Shown};
+    ghost use Rattle.ivy_site.specs.SiteView.{SiteView};
     ghost use Rattle.std.specs.Coded.{codes};
     ghost use Rattle.ivy_pagetable.specs.NodeSets.{nodes_code};
     ghost use Rattle.ivy_site.specs.ivy_alloc.Heap.{heap_state_code};
 
-    ghost Value = { List Shown };
+    ghost Value = { List SiteView };
 
     ghost coded = { Prim.hlevel (codes, nodes_code, heap_state_code) };
 

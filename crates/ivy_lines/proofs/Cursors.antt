@@ -103,9 +103,9 @@ entry-before xs i x at there place none = (
 )
 
 -- behind all turns of the last entry
-pub all-turns : (xs : List Event) (all : ℕ) (at : Cursor) → slice_get xs at.place ≡ Some (Turns all)
+pub all_turns : (xs : List Event) (all : ℕ) (at : Cursor) → slice_get xs at.place ≡ Some (Turns all)
     → at.place + 1 ≡ length xs → at.turns ≡ all → marks_to xs at ≡ marks xs
-all-turns xs all at there last turned =
+all_turns xs all at there last turned =
     ap (λ t. marks (take at.place xs) ++ turns t) turned ∙ sym (marks-taken xs at.place (Turns all) there)
     ∙ ap (λ n. marks (take n xs)) last ∙ ap marks (take_all (length xs) xs (omega arith))
 

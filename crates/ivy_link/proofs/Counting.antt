@@ -23,9 +23,9 @@ count-here p ps j e =
     let one : one_if (p.dest == j) ≡ 1 = ap one_if (eq-eqb p.dest j e) in
     omega (arith, one, sum_by-cons (λ q. one_if (q.dest == j)) p ps)
 
-pub count-other : (p : Parcel) (ps : List Parcel) (j : ℕ) → p.dest ≢ j
+pub count_other : (p : Parcel) (ps : List Parcel) (j : ℕ) → p.dest ≢ j
     → count_to (p ∷ ps) j ≡ count_to ps j
-count-other p ps j ne =
+count_other p ps j ne =
     let none : one_if (p.dest == j) ≡ 0 = ap one_if (ne_eqb p.dest j ne) in
     omega (arith, none, sum_by-cons (λ q. one_if (q.dest == j)) p ps)
 
@@ -42,7 +42,7 @@ sent-shift l p ps j lt =
     (λ e.
     let same : (peer_at l j).sent ≡ (peer_at l p.dest).sent = ap (λ k. (peer_at l k).sent) e in
     omega (arith, same, count-here p ps j (sym e)))
-    (λ ne. omega (arith, count-other p ps j (λ e. ne (sym e))))
+    (λ ne. omega (arith, count_other p ps j (λ e. ne (sym e))))
 
 pub sent-count : (l : Linked) (ps : List Parcel) → AreWithin l ps → (j : ℕ)
     → (peer_at (after_sends l ps) j).sent ≡ (peer_at l j).sent + count_to ps j
@@ -96,7 +96,7 @@ numbers-within l (p ∷ ps) within all j some =
           elim (cases_eq p.dest j) [
             | inl e ↦
                 omega (arith, both.0, none, count-here p ps j e, ap (λ k. (peer_at l k).sent) e)
-            | inr ne ↦ absurd (omega (arith, some, none, count-other p ps j ne))
+            | inr ne ↦ absurd (omega (arith, some, none, count_other p ps j ne))
           ]
     ]
 
@@ -145,7 +145,7 @@ within-take l ps i within k d lt =
     rw (get_or-take i ps k d (omega (arith, length-take i ps)))
     (within k d (omega (arith, length-take i ps)))
 
-pub frame-at : (l : Linked) (ps : List Parcel) (i : ℕ) (p : Parcel) → AreWithin l ps → i < length ps
+pub frame_at : (l : Linked) (ps : List Parcel) (i : ℕ) (p : Parcel) → AreWithin l ps → i < length ps
     → p ≡ get_or ps i p
     → slice_get (frames_of l ps) i
     ≡ Some (record {
@@ -155,7 +155,7 @@ pub frame-at : (l : Linked) (ps : List Parcel) (i : ℕ) (p : Parcel) → AreWit
       ack = (peer_at l p.dest).delivered;
       body = Some p.message;
     })
-frame-at l ps i p within lt read =
+frame_at l ps i p within lt read =
     let now : Linked = after_sends l (take i ps) in
     let after : IsAfter l now = sends-after l (take i ps) (within-take l ps i within) in
     let count : (peer_at now p.dest).sent ≡ (peer_at l p.dest).sent + count_to (take i ps) p.dest =

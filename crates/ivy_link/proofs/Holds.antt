@@ -100,9 +100,9 @@ accepted-elsewhere l f j mine ne =
     ∙ ap (λ (r : Peer). r.delivered) (get_or-set_other l.peers f.source j q fresh ne)
 
 -- a first string that is taken out and put back
-pub put-back : (w : Window) (s : List ℕ) → place_at w 0 ≡ Some s → set (set w 0 None) 0 (Some s) ≡ w
-put-back [] s is = absurd (none-some s is)
-put-back (x ∷ w) s is = ap (λ y. y ∷ w) (sym is)
+pub put_back : (w : Window) (s : List ℕ) → place_at w 0 ≡ Some s → set (set w 0 None) 0 (Some s) ≡ w
+put_back [] s is = absurd (none-some s is)
+put_back (x ∷ w) s is = ap (λ y. y ∷ w) (sym is)
 
 -- what a place holds once another is written
 pub put-place : (w : Window) (k j : ℕ) (o : Option (List ℕ)) (s : List ℕ)

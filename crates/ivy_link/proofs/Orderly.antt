@@ -16,7 +16,7 @@ use Rattle.ivy_link.specs.Pulsed.{owing_nothing, after_pulse}
 use Rattle.ivy_link.specs.Paired.{link_at, posted, extended, IsBeginning, IsPaired, IsMade}
 use Rattle.ivy_link.specs.InOrder.{LinkNet, Action, Send, Accept, Pulse, MayDo, handed, done, all_done, MayDoAll, links_from, first_net, DeliversInOrder}
 use Rattle.ivy_link.proofs.Peers.{at-with, accepted-mine, accepted-other}
-use Rattle.ivy_link.proofs.Pairs.{link_at-with, sent-to, sends-paired, accepted-paired, pulsed-paired, next-first, made-longer}
+use Rattle.ivy_link.proofs.Pairs.{link_at-with, sent_to, sends-paired, accepted-paired, pulsed-paired, next-first, made-longer}
 use Rattle.ivy_link.proofs.Making.{sends-made, pulsed-made}
 
 -- what each pair was delivered, by the count of its link
@@ -64,7 +64,7 @@ send-good n i ps h may =
           let count : ℕ = (peer_at (link_at n.links b) a).delivered in
           let same : (peer_at (link_at (set n.links i (after_sends l ps)) b) a).delivered ≡ count =
           link_at-with (λ m. (peer_at m a).delivered ≡ count) n.links i b (after_sends l ps) may.0
-          (λ e. (sent-to i a (length n.links) l ps (h.paired.peers i may.0) may.1).unchanged
+          (λ e. (sent_to i a (length n.links) l ps (h.paired.peers i may.0) may.1).unchanged
           ∙ ap (λ k. (peer_at (link_at n.links k) a).delivered) (sym e))
           (λ _. refl) in
           h.inside a b ina inb
@@ -177,22 +177,22 @@ take-next (x ∷ ms) (suc k) m h =
     ap (λ n. take n (x ∷ ms)) next ∙ ap (λ xs. x ∷ xs) (take-next ms k m h)
 
 -- what accepting a frame of this pair hands over
-handed-step : (links : List Linked) (sent delivered : ℕ → ℕ → List Message) (j : ℕ) (f : Frame)
+handed_step : (links : List Linked) (sent delivered : ℕ → ℕ → List Message) (j : ℕ) (f : Frame)
     → IsPaired links sent → j < length links → IsMade (length links) sent f
     → delivered f.source j ≡ take (peer_at (link_at links j) f.source).delivered (sent f.source j)
     → (v : Verdict) → offered (link_at links j) f ≡ v
     → handed v delivered j f f.source j
     ≡ take (delivered_then v (peer_at (link_at links j) f.source).delivered) (sent f.source j)
-handed-step links sent delivered j f p lt made before Next e =
+handed_step links sent delivered j f p lt made before Next e =
     let count : ℕ = (peer_at (link_at links j) f.source).delivered in
     let first = next-first links sent j f p lt made e in
     handed-here delivered j f f.source j refl refl
     ∙ (ap (λ ms. ms ++ option_to_list f.body) before
     ∙ (ap (λ b. take count (sent f.source j) ++ option_to_list b) first.1
     ∙ sym (take-next (sent f.source j) count first.0 first.2)))
-handed-step links sent delivered j f p lt made before Repeat e = before
-handed-step links sent delivered j f p lt made before Ahead e = before
-handed-step links sent delivered j f p lt made before NotMine e = before
+handed_step links sent delivered j f p lt made before Repeat e = before
+handed_step links sent delivered j f p lt made before Ahead e = before
+handed_step links sent delivered j f p lt made before NotMine e = before
 
 accept-good : (n : LinkNet) (j : ℕ) (f : Frame) → IsGood n → MayDo n (Accept j f)
     → IsGood (done n (Accept j f))
@@ -218,7 +218,7 @@ accept-good n j f h may =
                 let here : after f.source j
                 ≡ take (delivered_then (offered l f) (peer_at l f.source).delivered)
                 (n.sent f.source j) =
-                handed-step n.links n.sent n.delivered j f h.paired may.0 made
+                handed_step n.links n.sent n.delivered j f h.paired may.0 made
                 (h.inside f.source j made.source may.0) (offered l f) refl in
                 rw (ea, eb)
                 (here ∙ ap (λ k. take k (n.sent f.source j))
@@ -238,19 +238,19 @@ accept-good n j f h may =
     }
 
 -- at first
-first-length : (nodes n from : ℕ) → length (links_from nodes n from) ≡ n
-first-length nodes zero from = refl
-first-length nodes (suc n) from = ap suc (first-length nodes n (suc from))
+first_length : (nodes n from : ℕ) → length (links_from nodes n from) ≡ n
+first_length nodes zero from = refl
+first_length nodes (suc n) from = ap suc (first_length nodes n (suc from))
 
-first-at : (nodes n from k : ℕ) → k < n
+first_at : (nodes n from k : ℕ) → k < n
     → link_at (links_from nodes n from) k ≡ first_link (from + k) nodes
-first-at nodes zero from k lt = absurd (omega (arith, lt))
-first-at nodes (suc n) from zero lt = ap (λ m. first_link m nodes) (omega arith)
-first-at nodes (suc n) from (suc k) lt =
+first_at nodes zero from k lt = absurd (omega (arith, lt))
+first_at nodes (suc n) from zero lt = ap (λ m. first_link m nodes) (omega arith)
+first_at nodes (suc n) from (suc k) lt =
     let next : suc from + k ≡ from + suc k = omega arith in
     later nodes (links_from nodes n (suc from)) k
-    (omega (arith, lt, first-length nodes n (suc from)))
-    ∙ (first-at nodes n (suc from) k (omega (arith, lt)) ∙ ap (λ m. first_link m nodes) next)
+    (omega (arith, lt, first_length nodes n (suc from)))
+    ∙ (first_at nodes n (suc from) k (omega (arith, lt)) ∙ ap (λ m. first_link m nodes) next)
 
 first-peer : (me nodes j : ℕ) → peer_at (first_link me nodes) j ≡ fresh
 first-peer me nodes j =
@@ -264,9 +264,9 @@ first-peer me nodes j =
 first-good : (nodes : ℕ) → IsGood (first_net nodes)
 first-good nodes =
     let links : List Linked = links_from nodes nodes 0 in
-    let len : length links ≡ nodes = first-length nodes nodes 0 in
+    let len : length links ≡ nodes = first_length nodes nodes 0 in
     let at : (i : ℕ) → i < length links → link_at links i ≡ first_link i nodes =
-    λ i lt. first-at nodes nodes 0 i (omega (arith, lt, len))
+    λ i lt. first_at nodes nodes 0 i (omega (arith, lt, len))
     ∙ ap (λ m. first_link m nodes) (zero-add i) in
     let peer : (i j : ℕ) → i < length links → peer_at (link_at links i) j ≡ fresh =
     λ i j lt. ap (λ (l : Linked). peer_at l j) (at i lt) ∙ first-peer i nodes j in

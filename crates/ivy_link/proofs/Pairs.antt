@@ -97,17 +97,17 @@ pub record IsSentTo (p q : Peer) (ms : List Message) : Type 0 where
   pub added : q.kept ≡ p.kept ++ ms
   pub unchanged : q.delivered ≡ p.delivered
 
-pub sent-to : (i j nodes : ℕ) (l : Linked) (ps : List Parcel) → length l.peers ≡ nodes
+pub sent_to : (i j nodes : ℕ) (l : Linked) (ps : List Parcel) → length l.peers ≡ nodes
     → All (IsParcelOf nodes i) ps
     → IsSentTo (peer_at l j) (peer_at (after_sends l ps) j) (posted i j ps)
-sent-to i j nodes l [] len of =
+sent_to i j nodes l [] len of =
     record { count = omega arith; added = sym (append-nil (peer_at l j).kept); unchanged = refl }
-sent-to i j nodes l (p ∷ ps) len of =
+sent_to i j nodes l (p ∷ ps) len of =
     let own : IsParcelOf nodes i p = All-head (IsParcelOf nodes i) p ps of in
     let next : Linked = sent_one l p in
     let there : p.dest < length l.peers = omega (arith, len, own.dest) in
     let rest : IsSentTo (peer_at next j) (peer_at (after_sends next ps) j) (posted i j ps) =
-    sent-to i j nodes next ps
+    sent_to i j nodes next ps
     (length-set l.peers p.dest (with_message (peer_at l p.dest) p.message) ∙ len)
     (All-tail (IsParcelOf nodes i) p ps of) in
     elim (cases_eq j p.dest) [
@@ -160,7 +160,7 @@ pub sends-paired : (links : List Linked) (sent : ℕ → ℕ → List Message) (
 sends-paired links sent i ps p lt of =
     let l : Linked = link_at links i in
     let to : (j : ℕ) → IsSentTo (peer_at l j) (peer_at (after_sends l ps) j) (posted i j ps) =
-    λ j. sent-to i j (length links) l ps (p.peers i lt) of in
+    λ j. sent_to i j (length links) l ps (p.peers i lt) of in
     let fixed : IsFixed l (after_sends l ps) = sends-fixed l ps in
     paired-step links i sent (extended sent ps) (after_sends l ps) lt p (record {
       me = fixed.me ∙ p.me i lt;
@@ -217,9 +217,9 @@ ahead-next e = cc
 repeat-next : Next ≡ Repeat → ⊥
 repeat-next e = cc
 
-pub next-number : (delivered number : ℕ) → verdict_on delivered number ≡ Next
+pub next_number : (delivered number : ℕ) → verdict_on delivered number ≡ Next
     → number ≡ delivered + 1
-next-number delivered number h =
+next_number delivered number h =
     elim (cases_eq number (delivered + 1)) [
       | inl e ↦ e
       | inr ne ↦
@@ -254,7 +254,7 @@ pub next-body : (links : List Linked) (sent : ℕ → ℕ → List Message) (j :
     × (slice_get (sent f.source j) (peer_at (link_at links j) f.source).delivered ≡ Some m)
 next-body links sent j f p lt made mine next =
     let delivered : ℕ = (peer_at (link_at links j) f.source).delivered in
-    let number : f.number ≡ delivered + 1 = next-number delivered f.number next in
+    let number : f.number ≡ delivered + 1 = next_number delivered f.number next in
     let there =
     body-there (sent f.source f.dest) f.number f.body made.body (omega (arith, number)) in
     let place : f.number - 1 ≡ delivered = omega (arith, number) in (
@@ -374,11 +374,11 @@ pulsed-paired links sent i to p lt there =
     })
 
 -- the messages in a list stay there when it grows
-get-longer : (ms more : List Message) (k : ℕ) (m : Message) → slice_get ms k ≡ Some m
+get_longer : (ms more : List Message) (k : ℕ) (m : Message) → slice_get ms k ≡ Some m
     → slice_get (ms ++ more) k ≡ Some m
-get-longer [] more k m h = absurd (none-some h)
-get-longer (x ∷ ms) more zero m h = h
-get-longer (x ∷ ms) more (suc k) m h = get-longer ms more k m h
+get_longer [] more k m h = absurd (none-some h)
+get_longer (x ∷ ms) more zero m h = h
+get_longer (x ∷ ms) more (suc k) m h = get_longer ms more k m h
 
 pub get-seam : (front : List Message) (m : Message) (back : List Message)
     → slice_get (front ++ m ∷ back) (length front) ≡ Some m
@@ -388,7 +388,7 @@ get-seam (x ∷ front) m back = get-seam front m back
 body-longer : (ms more : List Message) (number : ℕ) (body : Option Message) → IsBody ms number body
     → IsBody (ms ++ more) number body
 body-longer ms more number None h = h
-body-longer ms more number (Some m) h = (h.0, get-longer ms more (number - 1) m h.1)
+body-longer ms more number (Some m) h = (h.0, get_longer ms more (number - 1) m h.1)
 
 -- a frame that was made is one still when more was sent
 pub made-longer : (nodes : ℕ) (sent : ℕ → ℕ → List Message) (ps : List Parcel) (f : Frame)

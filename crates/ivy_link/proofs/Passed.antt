@@ -54,8 +54,8 @@ module _ (parcels : List (parcel.Parcel (Bor (List ℕ)))) (i n : ℕ) (counts :
   passed-beyond beyond j within =
       before j within ∙ sym (passed-other j (λ e. omega (arith, beyond, within, e)))
 
-  pub passed-few : n < most_nodes → get_or counts n 0 ≤ i
-  passed-few within =
+  pub passed_few : n < most_nodes → get_or counts n 0 ≤ i
+  passed_few within =
       omega (
         arith,
         before n within,

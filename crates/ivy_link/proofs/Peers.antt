@@ -105,10 +105,10 @@ module _ (l : Linked) (me : ℕ) (sides : List Sided) (view : linked me sides �
       ∙ ap (λ (k : Linked). with_peer k i (f (peer_at k i))) view
 
 -- a side written of which this stays
-pub stays-same : {X : Type 0} (f : Sided → X) (start sides : List Sided) (i : ℕ) (s new : Sided)
+pub stays_same : {X : Type 0} (f : Sided → X) (start sides : List Sided) (i : ℕ) (s new : Sided)
     → map f sides ≡ map f start → i < length sides → s ≡ get_or sides i s → f new ≡ f s
     → map f (set sides i new) ≡ map f start
-stays-same f start sides i s new same lt read equal =
+stays_same f start sides i s new same lt read equal =
     let now : f s ≡ get_or (map f sides) i (f s) = read-map f sides i s read in
     map-set f sides i new
     ∙ (ap (set (map f sides) i) (equal ∙ now) ∙ (set-get_or (map f sides) i (f s) ∙ same))

@@ -14,7 +14,7 @@ use Rattle.ivy_wire.specs.Lent.{owned_parcel}
 use Rattle.ivy_link.specs.Linked.{Peer, Linked, fresh, peer_at, with_message, sent_one, after_sends, frames_of, has_numbers, AreWithin}
 use Rattle.ivy_link.specs.Sides.{Sided, peer_of, message_of, linked, side_at, count_to, HasRoomFor}
 use Rattle.ivy_link.proofs.Peers.{within-head, within-rest, with_side, view-length}
-use Rattle.ivy_link.proofs.Counting.{count-here, count-other, count-part, has-number, numbers-within, numbers-spent, frame-at}
+use Rattle.ivy_link.proofs.Counting.{count-here, count_other, count-part, has-number, numbers-within, numbers-spent, frame_at}
 
 drop_one : (ps : List Parcel) (i : ℕ) (p : Parcel) → i < length ps → p ≡ get_or ps i p
     → drop i ps ≡ p ∷ drop (i + 1) ps
@@ -73,7 +73,7 @@ room-less sides p ps j old new lt read less roomy =
           ))
       | inr ne ↦
           rw (get_or-set_other sides p.dest j new (side_at [] 0) ne)
-          (omega (arith, roomy, count-other p ps j (λ e. ne (sym e))))
+          (omega (arith, roomy, count_other p ps j (λ e. ne (sym e))))
     ]
 
 pub keeping-more : (start : List Sided) (all : List Parcel) (sides : List Sided) (p : Parcel)
@@ -193,7 +193,7 @@ module _ (l : Linked) (parcels : List (parcel.Parcel (Bor (List ℕ)))) (i n : �
       })
   here-frame source sent earlier ack me count before heard =
       rw (me, count, here-earlier earlier before, heard, here)
-      (frame-at l (map owned_parcel parcels) i (parcel_at parcels i) within
+      (frame_at l (map owned_parcel parcels) i (parcel_at parcels i) within
       (parcel-inside parcels i lt) (parcel-here parcels i lt))
 
 -- the same where the sides had room made
@@ -242,13 +242,13 @@ module _ (start : List Sided) (parcels : List (parcel.Parcel (Bor (List ℕ)))) 
       (drop (i + 1) (map owned_parcel parcels)) s (at-here h) (rw here at read) in
       (facts.1, facts.2)
 
-  pub kept-more : (old new : Sided)
+  pub kept_more : (old new : Sided)
       → IsKeeping start (map owned_parcel parcels) sides (drop i (map owned_parcel parcels))
       → old ≡ get_or sides n old → new.peer ≡ with_message old.peer (parcel_at parcels i).message
       → new.room + 1 ≡ old.room
       → IsKeeping start (map owned_parcel parcels) (set sides n new)
       (drop (i + 1) (map owned_parcel parcels))
-  kept-more old new h read written less =
+  kept_more old new h read written less =
       rw here (keeping-more start (map owned_parcel parcels) sides (parcel_at parcels i)
       (drop (i + 1) (map owned_parcel parcels)) old new (at-here h) (rw here at read) written
       less)
@@ -264,9 +264,9 @@ module _ (start : List Sided) (parcels : List (parcel.Parcel (Bor (List ℕ)))) 
       sym first ∙ (h ∙ ap (map message_of) rest-here) in
       (ap (λ ms. get_or ms 0 copy) both, ap (drop 1) both)
 
-  pub copy-there : (copies : List Message)
+  pub copy_there : (copies : List Message)
       → copies ≡ map message_of (drop i (map owned_parcel parcels)) → copies ≡ [] → ⊥
-  copy-there copies h none =
+  copy_there copies h none =
       let both : []
       ≡ (parcel_at parcels i).message ∷ map message_of
       (drop (i + 1) (map owned_parcel parcels)) =

@@ -1,6 +1,6 @@
 //! The link of one node to all others.
 ghost use Rattle.std.specs.Prelude.{◌≡◌, ◌≢◌, ◌↔◌, ℕ, ◌<◌, List, [], ◌∷◌, ◌+◌, ◌++◌, length, map, take, slice_get, true, false, Some, IsTrue, IfOk, IfErr, IsOk, OnOk, OnErr, IsErrOf, IsOkUnless};
-ghost use Rattle.ivy_model.specs.Wants.{IsWant};
+ghost use Rattle.ivy_model.specs.Wants.{RanOut};
 ghost use Rattle.ivy_model.specs.declared.Fault.TheVariants.{Memory, NumbersSpent};
 ghost use Rattle.ivy_wire.specs.Lent.{owned_message, owned_parcel, owned_frame};
 ghost use Rattle.ivy_link.specs.Linked.{peer_at};
@@ -213,7 +213,7 @@ impl<A: Allocator + Copy> Link<A> {
         ensures ok { IfOk result (λ frames. map owned_frame frames.items ≡ frames_for self.now (map owned_parcel parcels.now)) }
         ensures spent { IsErrOf result NumbersSpent ↔ (has_numbers_for self.now (map owned_parcel parcels.now) ≡ false) }
         ensures sure { length parcels.now ≡ 0 → IsOk result }
-        ensures want { IfErr result IsWant }
+        ensures want { IfErr result RanOut }
     {
         if self.has_numbers(parcels) {
             Ok(self.numbered(parcels)?)
@@ -236,7 +236,7 @@ impl<A: Allocator + Copy> Link<A> {
         ensures err { OnErr result (self.new ≡ self.old) }
         ensures spent { IsErrOf result NumbersSpent ↔ (has_numbers_for self.old (map owned_parcel parcels.now) ≡ false) }
         ensures sure { length parcels.now ≡ 0 → IsOk result }
-        ensures want { IfErr result IsWant }
+        ensures want { IfErr result RanOut }
     {
         if !self.has_numbers(parcels) {
             return Err(Fault::NumbersSpent);
@@ -260,7 +260,7 @@ impl<A: Allocator + Copy> Link<A> {
         ensures err { OnErr result (self.new ≡ self.old) }
         ensures spent { IsErrOf result NumbersSpent ↔ (has_numbers_for self.old (map owned_parcel parcels.now) ≡ false) }
         ensures sure { length parcels.now ≡ 0 → IsOk result }
-        ensures want { IfErr result IsWant }
+        ensures want { IfErr result RanOut }
     {
         let frames = self.frames(parcels)?;
         self.keep(parcels)?;

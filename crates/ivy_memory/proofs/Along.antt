@@ -16,7 +16,7 @@ use Rattle.ivy_pagetable.specs.Words.{IsWord, needs_write}
 use Rattle.ivy_pagetable.specs.Manager.{Ops}
 use Rattle.ivy_coherence.specs.declared.Need.TheVariants as need
 use Rattle.ivy_coherence.specs.Coherent.{Coherent}
-use Rattle.ivy_coherence.specs.Faults.{Begun, along, started, begun}
+use Rattle.ivy_coherence.specs.PageFaults.{Begun, along, started, begun}
 use Rattle.ivy_coherence.specs.Sound.{Waits, WaitAlong, IsSound}
 use Rattle.ivy_coherence.proofs.Changing.{entry_with}
 use Rattle.ivy_coherence.proofs.Rows.{AccessRows, begun-by_rows}
@@ -87,15 +87,15 @@ goes c page first (asked.Heap k) w can is = absurd (none-some w is)
 
 -- they are the first ones of those made
 module _ (c : Config) (page : ℕ) (first : Word) where
-  with-first : (call : Call) (calls : List Call) (o : Option Word) (more : Beside)
+  with_first : (call : Call) (calls : List Call) (o : Option Word) (more : Beside)
       → AreFirst more.calls calls → AreFirst (beside_with call o more).calls (call ∷ calls)
-  with-first call calls None more are = (call ∷ calls, refl)
-  with-first call calls (Some w) more are = (are.0, ap (λ cs. call ∷ cs) are.1)
+  with_first call calls None more are = (call ∷ calls, refl)
+  with_first call calls (Some w) more are = (are.0, ap (λ cs. call ∷ cs) are.1)
 
   all-first : (calls : List Call) → AreFirst (all_beside c page first calls).calls calls
   all-first [] = ([], refl)
   all-first (call ∷ calls) =
-      with-first call calls (word_along page first (asked_of c call)) _ (all-first calls)
+      with_first call calls (word_along page first (asked_of c call)) _ (all-first calls)
 
   if-first : (b : Bool) (calls : List Call)
       → AreFirst (if b then all_beside c page first calls else nothing_beside).calls calls

@@ -32,11 +32,11 @@ aligned_of true o h = refl
 aligned_of false o h = absurd (none-some 3 (sym h))
 
 -- an access that is not refused is that of an aligned word of a page
-pub access-word : (c : Config) (width addr : ℕ) → IsConfig c → IsWidth width
+pub access_word : (c : Config) (width addr : ℕ) → IsConfig c → IsWidth width
     → access_refusal c width addr ≡ None
     → (addr / c.page_size < c.pages) × (addr % c.page_size % width ≡ 0)
     × (addr % c.page_size + width ≤ c.page_size)
-access-word c width addr config w none =
+access_word c width addr config w none =
     let placed : IsPlaced c width addr = access_placed c width addr config w none in
     let s = page_has_words c.page_size config.page_size in
     let page : ℕ = addr / c.page_size in
@@ -54,9 +54,9 @@ access-word c width addr config w none =
     )
 
 -- a count that is there is an aligned word of page 0
-count-word : (c : Config) (k : ℕ) → IsConfig c → nat_lt k (count_len c) ≡ true
+count_word : (c : Config) (k : ℕ) → IsConfig c → nat_lt k (count_len c) ≡ true
     → (0 < c.pages) × (8 * k % 8 ≡ 0) × (8 * k + 8 ≤ c.page_size)
-count-word c k config there =
+count_word c k config there =
     let s = page_has_words c.page_size config.page_size in
     let below : k < count_len c = ltb-true k (count_len c) there in
     let words = s.words in
@@ -80,7 +80,7 @@ counted : (c : Config) (k : ℕ) (w : Word) → IsConfig c → width_of w ≡ 8 
     → CanAsk c (count_asked (if nat_lt k (count_len c) then Ok w else Err NoSuchCount))
 counted c k w config eight at =
     there c (nat_lt k (count_len c)) w
-    (λ below. (let placed = count-word c k config below in (
+    (λ below. (let placed = count_word c k config below in (
       placed.0,
       record {
         width = rw eight width_of_count;
@@ -94,7 +94,7 @@ accessed : (c : Config) (width addr : ℕ) (w : Word) → IsConfig c → IsWidth
     → CanAsk c (word_unless (access_refusal c width addr) (addr / c.page_size) w)
 accessed c width addr w config legal wide at =
     unless c (access_refusal c width addr) (addr / c.page_size) w
-    (λ none. (let there = access-word c width addr config legal none in (
+    (λ none. (let there = access_word c width addr config legal none in (
       there.0,
       record {
         width = rw wide legal;

@@ -20,7 +20,7 @@ use Rattle.ivy_pagetable.specs.Manager.{Ops}
 use Rattle.ivy_pagetable.specs.Rows.{word_in, out_in}
 use Rattle.ivy_coherence.specs.declared.Need.TheVariants as need
 use Rattle.ivy_coherence.specs.Coherent.{Coherent}
-use Rattle.ivy_coherence.specs.Faults.{Begun, begun}
+use Rattle.ivy_coherence.specs.PageFaults.{Begun, begun}
 use Rattle.ivy_coherence.specs.Hits.{AreHits}
 use Rattle.ivy_coherence.proofs.Same.{begun-same}
 use Rattle.ivy_heap.specs.HeapCalls.{HeapSide}
@@ -32,7 +32,7 @@ use Rattle.ivy_memory.specs.AtOnce.{AnswerAtOnce, IsRowAt}
 use Rattle.ivy_memory.specs.Beside.{nothing_beside}
 use Rattle.ivy_memory.specs.Memories.{NodeMemory, begun_as, call_begun, needed}
 use Rattle.ivy_memory.specs.Sound.{IsSoundMemory}
-use Rattle.ivy_memory.proofs.Asking.{access-word, width_of_count}
+use Rattle.ivy_memory.proofs.Asking.{access_word, width_of_count}
 
 refused_none : (aligned below reserved : Bool) → aligned ≡ true → below ≡ true → reserved ≡ false
     → cond {A = Option ℕ} aligned (cond below (cond reserved (Some 5) None) (Some 4)) (Some 3)
@@ -164,7 +164,7 @@ pub row_begins : (c : Config) (addr : ℕ) (at : RowPlace) → IsConfig c → Is
 row_begins c addr at config is =
     let placed : IsPlaced c 8 addr =
     access_placed c 8 addr config width_of_count is.permitted in
-    let there = access-word c 8 addr config width_of_count is.permitted in
+    let there = access_word c 8 addr config width_of_count is.permitted in
     record {
       from = subst (λ p. 1 ≤ p) (sym is.page) placed.page_from;
       to = subst (λ p. p < c.pages) (sym is.page) placed.page_to;

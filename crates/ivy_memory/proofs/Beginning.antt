@@ -18,7 +18,7 @@ use Rattle.ivy_coherence.specs.declared.Need.{Need}
 use Rattle.ivy_coherence.specs.declared.Need.TheVariants as need
 use Rattle.ivy_coherence.specs.Coherent.{Coherent}
 use Rattle.ivy_pagetable.specs.Accesses.{suffices}
-use Rattle.ivy_coherence.specs.Faults.{Begun, HasToAsk, MayMakePage, hit, faulted, accessed, begun_at, begun}
+use Rattle.ivy_coherence.specs.PageFaults.{Begun, HasToAsk, MayMakePage, hit, faulted, accessed, begun_at, begun}
 use Rattle.ivy_pagetable.specs.declared.Entry.{Entry}
 use Rattle.ivy_pagetable.specs.declared.Entry.TheVariants as entry
 use Rattle.ivy_pagetable.specs.Entries.{is_locked}
@@ -42,7 +42,7 @@ use Rattle.ivy_memory.specs.Memories.{by_coherence, memory_handled_as, memory_ha
 use Rattle.ivy_memory.proofs.Along.{none_follow}
 use Rattle.ivy_memory.proofs.Asking.{can_ask}
 use Rattle.ivy_memory.specs.Sound.{IsInProgress, IsSoundMemory}
-use Rattle.ivy_memory.proofs.Tame.{Begins, begun-begins, one_wide, had-sound, started-sound, told-sound, needed-posted, call-few, call-sound, told-few}
+use Rattle.ivy_memory.proofs.WellBehaved.{Begins, begun-begins, one_wide, had-sound, started-sound, told-sound, needed-posted, call_few, call-sound, told_few}
 use Rattle.ivy_memory.proofs.Sides.{idle_words, word_words}
 use Rattle.ivy_coherence.specs.Limits.{most_posted}
 
@@ -94,7 +94,7 @@ pub few_posted : {S : Type 0} {ops : Ops S} (n v : NodeMemory S) → v ≡ n →
     → (c : Call) (number : ℕ) → length (call_begun ops n c [] number).posted ≤ most_posted
 few_posted {S} {ops} n v same s c number =
     subst (λ (x : NodeMemory S). length (call_begun ops x c [] number).posted ≤ most_posted) same
-    (call-few ops v c [] number s.coherent)
+    (call_few ops v c [] number s.coherent)
 
 -- where no word waits, a word is carried out, or has to be asked for
 module _ {S : Type 0} (ops : Ops S) (c : Coherent S) (page : ℕ) (w : Word) (number : ℕ) where
@@ -141,8 +141,8 @@ module _ {S : Type 0} {ops : Ops S} (laws : Laws ops) where
     can = subst (CanAsk v.coherence.config) asking
         (can_ask v.coherence.config c l.sound.coherent.limits l.legal)
 
-    access-begins : Begins v.coherence access
-    access-begins = begun-begins ops v.coherence page w number
+    access_begins : Begins v.coherence access
+    access_begins = begun-begins ops v.coherence page w number
 
     access-sound : IsSound ops access.after
     access-sound =
@@ -175,7 +175,7 @@ module _ {S : Type 0} {ops : Ops S} (laws : Laws ops) where
         (record { coherence = new; asked = a; along = x; number = k; side = v.side })) (sym alone)
         (subst (λ x. IsSoundMemory ops
         (record { coherence = x; asked = a; along = []; number = k; side = v.side })) (sym is)
-        (had-sound v access o a k wide least most words l.sound resting access-begins
+        (had-sound v access o a k wide least most words l.sound resting access_begins
         access-sound (sym was ∙ had)))
 
     pub started_memory : (new : Coherent S) → new ≡ access.after
@@ -189,7 +189,7 @@ module _ {S : Type 0} {ops : Ops S} (laws : Laws ops) where
         (record { coherence = x; asked = Some c; along = []; number = number; side = v.side }))
         (sym is)
         (started-sound v access c [] number l.legal l.least
-        (none_follow v.coherence.config number l.most) words_now l.sound resting access-begins
+        (none_follow v.coherence.config number l.most) words_now l.sound resting access_begins
         access-sound))
 
     -- the call in progress is that call
@@ -226,7 +226,7 @@ module _ {S : Type 0} {ops : Ops S} (laws : Laws ops) where
     pub call_posts : access.posted ≡ (call_begun ops n c [] number).posted
     call_posts =
         sym (ap (λ (x : CallBegun S). x.posted) begun_is
-        ∙ needed-posted v c nothing_beside number access access.need access-begins refl)
+        ∙ needed-posted v c nothing_beside number access access.need access_begins refl)
 
 -- A call that begins as one of the heap, as the code has it: `v` is what the fields are seen as,
 -- `n` the value.
@@ -328,7 +328,7 @@ module _ {S : Type 0} {ops : Ops S} (laws : Laws ops) (n v : NodeMemory S) (node
   pub few_answers : length (memory_handled ops n from m).posted ≤ most_posted
   few_answers =
       subst (λ (x : NodeMemory S). length (memory_handled ops x from m).posted ≤ most_posted) l.same
-      (told-few laws v from m l.sound
+      (told_few laws v from m l.sound
       (subst (λ (x : NodeMemory S). from < x.coherence.config.nodes) (sym l.same) l.below)
       (subst (λ (x : NodeMemory S). from ≢ x.coherence.me) (sym l.same) l.foreign)
       (subst (λ (x : NodeMemory S). FitsMessage x.coherence.config m) (sym l.same) l.fits))

@@ -7,7 +7,7 @@ use Rattle.ivy_model.specs.declared.Row.{Row}
 use Rattle.ivy_model.specs.declared.Row.TheVariants.{Loads, Stores}
 use Rattle.ivy_model.specs.Rows.{calls_of, numbers_in, record_in, row}
 use Rattle.ivy_model.proofs.Rows.{length-numbers_in, same_numbers}
-use Rattle.ivy_memory.specs.Rows.{CallsAlong, calls_in, calls_left, first_call}
+use Rattle.ivy_memory.specs.Rows.{CallsAlong, row_calls, calls_left, first_call}
 
 -- there are as many as numbers
 pub length-calls : (kind : Row) (addr : ℕ) (numbers : List ℕ)
@@ -17,12 +17,12 @@ length-calls kind addr (number ∷ more) = ap suc (length-calls kind (addr + 8) 
 
 -- the first of them, and the others
 first_left : (kind : Row) (addr left : ℕ) (bytes : List ℕ) → 1 ≤ left
-    → calls_in kind addr left bytes
-    ≡ first_call kind addr bytes ∷ calls_in kind (addr + 8) (left - 1) (drop 8 bytes)
+    → row_calls kind addr left bytes
+    ≡ first_call kind addr bytes ∷ row_calls kind (addr + 8) (left - 1) (drop 8 bytes)
 first_left kind addr zero bytes some = absurd (omega (arith, some))
 first_left kind addr (suc n) bytes some =
     let less : suc n - 1 ≡ n = omega arith in
-    ap (λ m. first_call kind addr bytes ∷ calls_in kind (addr + 8) m (drop 8 bytes)) (sym less)
+    ap (λ m. first_call kind addr bytes ∷ row_calls kind (addr + 8) m (drop 8 bytes)) (sym less)
 
 -- it reads no byte past its word
 pub first_taken : (kind : Row) (addr m : ℕ) (bytes : List ℕ) → 8 ≤ m
@@ -35,7 +35,7 @@ module _ (kind : Row) (addr left at : ℕ) (bytes : List ℕ) (r : CallsAlong)
   all_left : 1 ≤ left
       → r.calls
       ≡ first_call kind addr (drop at bytes)
-      ∷ calls_in kind (addr + 8) (left - 1) (drop 8 (drop at bytes))
+      ∷ row_calls kind (addr + 8) (left - 1) (drop 8 (drop at bytes))
   all_left some =
       ap (λ (x : CallsAlong). x.calls) (sym is) ∙ first_left kind addr left (drop at bytes) some
 
@@ -55,7 +55,7 @@ module _ (kind : Row) (addr left at : ℕ) (bytes : List ℕ) (r : CallsAlong)
   rest_left some =
       (λ j. record {
         size = (ap (λ (x : CallsAlong). x.size) is) j;
-        calls = calls_in kind (addr + 8) (left - 1) (sym (drop-drop 8 at bytes) j);
+        calls = row_calls kind (addr + 8) (left - 1) (sym (drop-drop 8 at bytes) j);
       })
       ∙ ap (λ (ks : List Call). record { size = r.size; calls = drop 1 ks }) (sym (all_left some))
 
@@ -63,7 +63,7 @@ module _ (kind : Row) (addr left at : ℕ) (bytes : List ℕ) (r : CallsAlong)
   none_left : left ≡ 0 → r.calls ≡ []
   none_left none =
       ap (λ (x : CallsAlong). x.calls) (sym is)
-      ∙ ap (λ m. calls_in kind addr m (drop at bytes)) none
+      ∙ ap (λ m. row_calls kind addr m (drop at bytes)) none
 
   pub no_next : left ≡ 0 → None ≡ slice_get r.calls 0
   no_next none = sym (ap (λ (ks : List Call). slice_get ks 0) (none_left none))
@@ -77,7 +77,7 @@ module _ (kind : Row) (addr left at : ℕ) (bytes : List ℕ) (r : CallsAlong)
 -- the numbers of these bytes stand there from now on
 pub left_now : (kind : Row) (addr n size : ℕ) (own new from : List ℕ) → size ≡ length own
     → length new ≡ length own → take (8 * n) new ≡ take (8 * n) from
-    → calls_left kind addr n 0 new ≡ record { size = size; calls = calls_in kind addr n from }
+    → calls_left kind addr n 0 new ≡ record { size = size; calls = row_calls kind addr n from }
 left_now kind addr n size own new from sized long same =
     (λ j. record {
       size = (long ∙ sym sized) j;
@@ -85,7 +85,7 @@ left_now kind addr n size own new from sized long same =
     })
 
 -- loads have no number
-loads_same : (n addr : ℕ) (xs ys : List ℕ) → calls_in Loads addr n xs ≡ calls_in Loads addr n ys
+loads_same : (n addr : ℕ) (xs ys : List ℕ) → row_calls Loads addr n xs ≡ row_calls Loads addr n ys
 loads_same zero addr xs ys = refl
 loads_same (suc n) addr xs ys =
     ap (λ (ks : List Call). (record_in Loads 0 addr 0).call ∷ ks)
@@ -95,17 +95,17 @@ loads_same (suc n) addr xs ys =
 module _ (kind : Row) (addr left at : ℕ) (bytes : List ℕ) (r : CallsAlong)
     (is : calls_left kind addr left at bytes ≡ r) where
   pub loads_left : (first : ℕ) → kind ≡ Loads → addr ≡ first + 8 → (from : List ℕ)
-      → r.calls ≡ calls_in Loads (first + 8) (length r.calls) from
+      → r.calls ≡ row_calls Loads (first + 8) (length r.calls) from
   loads_left first loads behind from =
       let many = many_left kind addr left at bytes r is in
       sym (ap (λ (x : CallsAlong). x.calls) is)
-      ∙ (λ j. calls_in (loads j) (behind j) (many j) (drop at bytes))
+      ∙ (λ j. row_calls (loads j) (behind j) (many j) (drop at bytes))
       ∙ loads_same (length r.calls) (first + 8) (drop at bytes) from
 
   pub stores_left : (first : ℕ) (from : List ℕ) → kind ≡ Stores → addr ≡ first + 8
       → take (8 * left) (drop at bytes) ≡ take (8 * left) from
-      → r.calls ≡ calls_in Stores (first + 8) (length r.calls) from
+      → r.calls ≡ row_calls Stores (first + 8) (length r.calls) from
   stores_left first from stores behind same =
       sym (ap (λ (x : CallsAlong). x.calls) is)
       ∙ (λ j. calls_of (row (stores j) 0 (behind j) (same_numbers left (drop at bytes) from same j)))
-      ∙ ap (λ n. calls_in Stores (first + 8) n from) (many_left kind addr left at bytes r is)
+      ∙ ap (λ n. row_calls Stores (first + 8) n from) (many_left kind addr left at bytes r is)

@@ -2,12 +2,13 @@ pub mod Asking
 pub mod Placing
 pub mod Along
 pub mod Sides
-pub mod Tame
+pub mod WellBehaved
+pub mod Begun
 pub mod Beginning
 pub mod Polling
 pub mod Same
 pub mod Pages
-pub mod Errands
+pub mod HeapRequests
 pub mod WordsServed
 pub mod CallsServed
 pub mod AtOnce

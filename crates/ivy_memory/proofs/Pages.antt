@@ -23,16 +23,16 @@ use Rattle.ivy_pagetable.specs.Words.{carried_out}
 use Rattle.ivy_coherence.specs.Coherent.{Coherent}
 use Rattle.ivy_coherence.specs.Several.{all_carried}
 use Rattle.ivy_coherence.specs.Steps.{handled}
-use Rattle.ivy_coherence.specs.Faults.{begun}
+use Rattle.ivy_coherence.specs.PageFaults.{begun}
 use Rattle.ivy_memory.specs.declared.asked.Asked.TheVariants as asked
 use Rattle.ivy_heap.specs.declared.HeapCall.{HeapCall}
-use Rattle.ivy_heap.specs.declared.Errand.{Errand}
-use Rattle.ivy_heap.specs.declared.Errand.TheVariants as errand
+use Rattle.ivy_heap.specs.declared.HeapRequest.{HeapRequest}
+use Rattle.ivy_heap.specs.declared.HeapRequest.TheVariants as heap_request
 use Rattle.ivy_memory.specs.Asking.{asked_of}
 pub use Rattle.ivy_heap.specs.HeapCalls.{is_of_pages}
 use Rattle.ivy_heap.specs.HeapCalls.{HeapSide, misfit, heap_told_as, heap_told}
 use Rattle.ivy_memory.specs.Memories.{NodeMemory, by_coherence, memory_handled_as, memory_handled}
-use Rattle.ivy_memory.specs.Sound.{IsErrandOf}
+use Rattle.ivy_memory.specs.Sound.{IsHeapRequestOf}
 use Rattle.ivy_coherence.proofs.Rows.{Rows, AccessRows, handled-by_rows, begun-by_rows}
 
 -- a message about a page, and none of the heap
@@ -153,9 +153,9 @@ page_handled ops m from message h =
     ap (memory_handled_as ops m from message) (page_misfits m.coherence.me m.side from message h)
 
 -- node 0 was asked for no call where the one in progress is none of the heap
-pub no_errand_of : (c : Config) (a : Option Call) (e : Option Errand)
+pub no_heap_request_of : (c : Config) (a : Option Call) (e : Option HeapRequest)
     → ((k : Call) → a ≡ Some k → (h : HeapCall) → asked_of c k ≡ asked.Heap h → ⊥)
-    → IsErrandOf c a e → e ≡ None
-no_errand_of c a None words is = refl
-no_errand_of c a (Some (errand.Asked k number)) words is = absurd (words is.call is.asked k is.of)
-no_errand_of c a (Some (errand.Told r)) words is = absurd (words is.1.call is.1.asked is.0 is.1.of)
+    → IsHeapRequestOf c a e → e ≡ None
+no_heap_request_of c a None words is = refl
+no_heap_request_of c a (Some (heap_request.Asked k number)) words is = absurd (words is.call is.asked k is.of)
+no_heap_request_of c a (Some (heap_request.Told r)) words is = absurd (words is.1.call is.1.asked is.0 is.1.of)

@@ -17,7 +17,7 @@ use Rattle.ivy_coherence.specs.declared.Need.TheVariants as need
 use Rattle.ivy_coherence.specs.Coherent.{Coherent}
 use Rattle.ivy_pagetable.specs.Accesses.{suffices}
 use Rattle.ivy_coherence.specs.Several.{first_out, later_outs}
-use Rattle.ivy_coherence.specs.Faults.{Begun, HasToAsk, MayMakePage, accessed, begun_at, begun}
+use Rattle.ivy_coherence.specs.PageFaults.{Begun, HasToAsk, MayMakePage, accessed, begun_at, begun}
 use Rattle.ivy_coherence.specs.Sound.{IsSound}
 use Rattle.ivy_coherence.proofs.Keeping.{begun-keeps}
 use Rattle.ivy_coherence.specs.Limits.{most_posted}
@@ -34,7 +34,8 @@ use Rattle.ivy_memory.specs.Memories.{NodeMemory, CallBegun, MayFailAgain, reply
 use Rattle.ivy_memory.specs.Sound.{IsSoundMemory}
 use Rattle.ivy_memory.proofs.Asking.{can_ask}
 use Rattle.ivy_memory.proofs.Sides.{word_words}
-use Rattle.ivy_memory.proofs.Tame.{SameNode, Begins, begun-begins, below, taken-sound, with_done-sound, again-sound, KeepsMemory, IsBegun, again-begun, unserved-begun, taken_with-goes}
+use Rattle.ivy_memory.proofs.WellBehaved.{SameNode, Begins, begun-begins, below, taken-sound, with_done-sound, again-sound, KeepsMemory}
+use Rattle.ivy_memory.proofs.Begun.{IsBegun, again-begun, unserved-begun, taken_with-goes}
 
 -- the call in progress as the definitions have it
 pub polled_so : {S : Type 0} (ops : Ops S) (m : NodeMemory S) (k : Call) → m.asked ≡ Some k
@@ -184,13 +185,13 @@ module _ {S : Type 0} {ops : Ops S} (laws : Laws ops) (m : NodeMemory S) (k : Ca
   Keeps : CallBegun S → Type 0
   Keeps a = IsSoundMemory ops a.after × All (FitsParcel m.coherence.config m.coherence.me) a.posted
 
-  quiet-keeps : IsSoundMemory ops m × All (FitsParcel m.coherence.config m.coherence.me) []
-  quiet-keeps = (s, all_none (FitsParcel m.coherence.config m.coherence.me))
+  quiet_keeps : IsSoundMemory ops m × All (FitsParcel m.coherence.config m.coherence.me) []
+  quiet_keeps = (s, all_none (FitsParcel m.coherence.config m.coherence.me))
 
   tried-keeps : (x : Asked) → asked_of m.coherence.config k ≡ x → CanAsk m.coherence.config x
       → IsSoundMemory ops (tried_as ops m k x).after
       × All (FitsParcel m.coherence.config m.coherence.me) (tried_as ops m k x).posted
-  tried-keeps (asked.Refused code) of can = quiet-keeps
+  tried-keeps (asked.Refused code) of can = quiet_keeps
   tried-keeps (asked.Word page w) of can =
       let b : Begun S = retry ops m k page w in
       let bs : Begins (without_call m).coherence b = marks ops m k page w in
@@ -202,7 +203,7 @@ module _ {S : Type 0} {ops : Ops S} (laws : Laws ops) (m : NodeMemory S) (k : Ca
         subst (All (FitsParcel m.coherence.config m.coherence.me))
             (sym (again-posted m k m.number b b.need bs refl)) kept.1,
       )
-  tried-keeps (asked.Heap k) of can = quiet-keeps
+  tried-keeps (asked.Heap k) of can = quiet_keeps
 
   as-keeps : (r : Option Reply) → reply_at m ≡ r
       → IsSoundMemory ops (polled_as ops m k r).after
@@ -279,8 +280,8 @@ module _ {S : Type 0} {ops : Ops S} (laws : Laws ops) (n v : NodeMemory S) (k : 
   untold : reply_at v ≡ None
   untold = ap (λ (x : NodeMemory S). reply_at x) l.same ∙ l.untold
 
-  access-begins : Begins v.coherence access
-  access-begins = begun-begins ops v.coherence page w v.number
+  access_begins : Begins v.coherence access
+  access_begins = begun-begins ops v.coherence page w v.number
 
   -- what asking comes to, by what the access was told
   polled_by : (told : Need) → told ≡ access.need
@@ -334,8 +335,8 @@ module _ {S : Type 0} {ops : Ops S} (laws : Laws ops) (n v : NodeMemory S) (k : 
       polled_by told was
       ∙ ap (λ t. again v (needed (without_call v) c nothing_beside v.number (cleared access) t) t) had
       ∙ ap (λ x. again_unless v (answered (without_call v) c v.number (cleared access) x) x) none
-      ∙ nothing_is new (is ∙ access-begins.quiet o (sym was ∙ had) none)
-      (access-begins.had o (sym was ∙ had))
+      ∙ nothing_is new (is ∙ access_begins.quiet o (sym was ∙ had) none)
+      (access_begins.had o (sym was ∙ had))
 
   -- it has to be asked for
   pub starts_is : (new last : Coherent S) (told : Need) (ks : List Call) (side : HeapSide)
@@ -356,8 +357,8 @@ module _ {S : Type 0} {ops : Ops S} (laws : Laws ops) (n v : NodeMemory S) (k : 
   waits_is new told is was busy =
       polled_by told was
       ∙ ap (λ t. again v (needed (without_call v) c nothing_beside v.number (cleared access) t) t) busy
-      ∙ nothing_is new (is ∙ access-begins.busy (sym was ∙ busy))
-      (access-begins.none (sym was ∙ busy))
+      ∙ nothing_is new (is ∙ access_begins.busy (sym was ∙ busy))
+      (access_begins.none (sym was ∙ busy))
 
   -- the memory after it is sound
   pub poll_memory : (answer : Answer) (new : Coherent S) (a : Option Call) (ks : List Call)

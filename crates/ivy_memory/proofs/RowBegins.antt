@@ -17,7 +17,7 @@ use Rattle.ivy_pagetable.specs.declared.Word.{Word}
 use Rattle.ivy_pagetable.specs.Manager.{Ops, Laws}
 use Rattle.ivy_pagetable.specs.Rows.{word_in}
 use Rattle.ivy_coherence.specs.Coherent.{Coherent}
-use Rattle.ivy_coherence.specs.Faults.{Begun, along, along_where, begun, begun_row}
+use Rattle.ivy_coherence.specs.PageFaults.{Begun, along, along_where, begun, begun_row}
 use Rattle.ivy_coherence.specs.Hits.{has_to_wait}
 use Rattle.ivy_coherence.specs.Limits.{most_posted}
 use Rattle.ivy_coherence.specs.Rests.{first_word, other_words, words_of}
@@ -30,12 +30,12 @@ use Rattle.ivy_memory.specs.Asking.{CallHasToAsk, HasToAskFor, asked_of}
 use Rattle.ivy_memory.specs.AtOnce.{IsRowAt}
 use Rattle.ivy_memory.specs.Beside.{Beside, nothing_beside, gives_reply, goes_along, word_along, beside_with, all_beside, beside}
 use Rattle.ivy_memory.specs.Memories.{CallBegun, NodeMemory, begun_as, call_begun, needed, waiting}
-use Rattle.ivy_memory.specs.Rows.{CallsAlong, calls_in, first_call, other_calls, row_begun, row_has_to_wait}
+use Rattle.ivy_memory.specs.Rows.{CallsAlong, row_calls, first_call, other_calls, row_begun, row_has_to_wait}
 use Rattle.ivy_memory.specs.Sound.{IsSoundMemory}
 use Rattle.ivy_memory.proofs.Asking.{width_of_count}
 use Rattle.ivy_memory.proofs.AtOnce.{Begins, asks, row_begins}
 use Rattle.ivy_memory.proofs.CallsLeft.{length-calls}
-use Rattle.ivy_memory.proofs.Tame.{call-few, call-same, call-sound}
+use Rattle.ivy_memory.proofs.WellBehaved.{call_few, call-same, call-sound}
 
 is_free : {A : Type 0} (o : Option A) → is_none o ≡ true → o ≡ None
 is_free None h = refl
@@ -126,7 +126,7 @@ pub record IsRowBegun {S : Type 0} (ops : Ops S) (n v : NodeMemory S) (kind : Ro
 -- the bytes behind the first word have the numbers of the others
 pub row_others : (kind : Row) (addr words : ℕ) (bytes : List ℕ) → 1 ≤ words
     → 8 * words ≤ length bytes
-    → calls_in kind (addr + 8) (words - 1) (take (length bytes - 8) (drop 8 bytes))
+    → row_calls kind (addr + 8) (words - 1) (take (length bytes - 8) (drop 8 bytes))
     ≡ other_calls kind addr words bytes
 row_others kind addr words bytes some many =
     ap (λ (ns : List ℕ). calls_of (row kind 0 (addr + 8) ns))
@@ -150,7 +150,7 @@ module _ {S : Type 0} {ops : Ops S} (laws : Laws ops) (n v : NodeMemory S) (kind
       x
       ≡ record {
         size = size;
-        calls = calls_in kind (addr + 8) (words - 1) (take (length bytes - 8) (drop 8 bytes));
+        calls = row_calls kind (addr + 8) (words - 1) (take (length bytes - 8) (drop 8 bytes));
       }
 
   abbrev word : Word
@@ -243,7 +243,7 @@ module _ {S : Type 0} {ops : Ops S} (laws : Laws ops) (n v : NodeMemory S) (kind
   pub row_few : length all.posted ≤ most_posted
   row_few =
       subst (λ (m : NodeMemory S). length (row_begun ops m kind addr words bytes number).posted
-      ≤ most_posted) l.same (call-few ops v one others number l.sound.coherent)
+      ≤ most_posted) l.same (call_few ops v one others number l.sound.coherent)
 
   pub row_asks : {A E : Type 0} (r : Result A E) → OnErr r (CallHasToAsk n.coherence one)
   row_asks (Ok a) = tt

@@ -5,14 +5,14 @@ use Rattle.ivy_model.specs.declared.Config.{Config}
 use Rattle.ivy_pagetable.specs.declared.Word.{Word}
 use Rattle.ivy_pagetable.specs.Manager.{Ops}
 use Rattle.ivy_coherence.specs.Coherent.{Coherent}
-use Rattle.ivy_coherence.specs.Faults.{begun}
+use Rattle.ivy_coherence.specs.PageFaults.{begun}
 use Rattle.ivy_coherence.specs.Steps.{handled}
 use Rattle.ivy_coherence.proofs.Same as coherence
 use Rattle.ivy_heap.specs.HeapCalls.{HeapTold, heap_told}
 use Rattle.ivy_heap.proofs.Rows.{either}
 use Rattle.ivy_memory.specs.Memories.{NodeMemory, MemoryEffect, by_side, by_coherence, memory_told}
 use Rattle.ivy_memory.proofs.Beginning.{of_either}
-use Rattle.ivy_memory.proofs.Tame.{SameNode}
+use Rattle.ivy_memory.proofs.WellBehaved.{SameNode}
 
 module _ {S : Type 0} (ops : Ops S) where
   pub handled-same : (c : Coherent S) (from : ℕ) (m : Message)

@@ -14,8 +14,8 @@ use Rattle.ivy_coherence.specs.Limits.{most_posted}
 use Rattle.ivy_coherence.proofs.IdleServing.{all_none, all_one}
 use Rattle.ivy_heap.specs.ivy_alloc.Heap.{HeapState, first_heap}
 use Rattle.ivy_heap.specs.declared.HeapCall.{HeapCall}
-use Rattle.ivy_heap.specs.declared.Errand.{Errand}
-use Rattle.ivy_heap.specs.declared.Errand.TheVariants as errand
+use Rattle.ivy_heap.specs.declared.HeapRequest.{HeapRequest}
+use Rattle.ivy_heap.specs.declared.HeapRequest.TheVariants as heap_request
 use Rattle.ivy_heap.specs.declared.Answer.TheVariants.{Unserved}
 use Rattle.ivy_heap.specs.HeapCalls.{HeapSide, HeapBegun, HeapTold, first_side, told_of, request, number_in, answer_to, heap_begun_at, heap_begun, heap_told}
 use Rattle.ivy_heap.proofs.Rows.{either, told-by_rows}
@@ -24,15 +24,15 @@ use Rattle.ivy_memory.specs.Memories.{NodeMemory, heap_answered}
 use Rattle.ivy_pagetable.specs.declared.Word.{Word}
 use Rattle.ivy_memory.specs.declared.asked.Asked.TheVariants as kinds
 use Rattle.ivy_memory.specs.Asking.{asked_of}
-use Rattle.ivy_memory.specs.Sound.{IsErrandOf, IsInProgress, IsSoundSide}
+use Rattle.ivy_memory.specs.Sound.{IsHeapRequestOf, IsInProgress, IsSoundSide}
 
 -- without a call in progress node 0 was asked for none
-pub no_errand : (c : Config) (a : Option Call) (e : Option Errand) → a ≡ None → IsErrandOf c a e
+pub no_heap_request : (c : Config) (a : Option Call) (e : Option HeapRequest) → a ≡ None → IsHeapRequestOf c a e
     → e ≡ None
-no_errand c a None none is = refl
-no_errand c a (Some (errand.Asked k number)) none is =
+no_heap_request c a None none is = refl
+no_heap_request c a (Some (heap_request.Asked k number)) none is =
     absurd (none-some is.call (sym none ∙ is.asked))
-no_errand c a (Some (errand.Told r)) none is = absurd (none-some is.1.call (sym none ∙ is.1.asked))
+no_heap_request c a (Some (heap_request.Told r)) none is = absurd (none-some is.1.call (sym none ∙ is.1.asked))
 
 -- the side of the same node, with the same call in progress
 pub same_side : (c k : Config) (me i : ℕ) (a : Option Call) (s : HeapSide) → k ≡ c → i ≡ me
@@ -40,13 +40,13 @@ pub same_side : (c k : Config) (me i : ℕ) (a : Option Call) (s : HeapSide) →
 same_side c k me i a s config node is =
     subst (λ x. IsSoundSide x i a s) (sym config) (subst (λ x. IsSoundSide c x a s) (sym node) is)
 
--- a side without an errand, where the call in progress is none of the heap
-pub quiet_side : (c : Config) (me : ℕ) (a b : Option Call) (s : HeapSide) → s.errand ≡ None
+-- a side without a request of the heap, where the call in progress is none of the heap
+pub quiet_side : (c : Config) (me : ℕ) (a b : Option Call) (s : HeapSide) → s.heap_request ≡ None
     → ((k : HeapCall) → IsInProgress c b k → ⊥) → IsSoundSide c me a s → IsSoundSide c me b s
 quiet_side c me a b s none words is = record {
   away = is.away;
   home = is.home;
-  errand = subst (IsErrandOf c b) (sym none) tt;
+  heap_request = subst (IsHeapRequestOf c b) (sym none) tt;
   owed = λ k in_progress. absurd (words k in_progress);
   none = λ zero. none;
 }
@@ -63,11 +63,11 @@ word_words c called page w word k is =
 
 -- a side whose call is over
 pub closed_side : (c : Config) (me : ℕ) (a : Option Call) (s : HeapSide) → IsSoundSide c me a s
-    → IsSoundSide c me None (record s { errand = None })
+    → IsSoundSide c me None (record s { heap_request = None })
 closed_side c me a s is = record {
   away = is.away;
   home = is.home;
-  errand = tt;
+  heap_request = tt;
   owed = λ k in_progress. absurd (idle_words c k in_progress);
   none = λ zero. refl;
 }
@@ -81,7 +81,7 @@ kept_side c me a s h k there is = record {
   away = λ none. absurd (none-some _ (sym none));
   home = λ g same. subst (λ (x : HeapState). (x.config ≡ c) × (me ≡ 0)) (same_Some _ g same)
       (is.home h there);
-  errand = is.errand;
+  heap_request = is.heap_request;
   owed = is.owed;
   none = is.none;
 }
@@ -92,11 +92,11 @@ pub record KeepsSide (c : Config) (me : ℕ) (a : Option Call) (s : HeapSide) (t
     pub sound : IsSoundSide c me a t.after
     pub fits : All (FitsParcel c me) t.posted
     pub few : length t.posted ≤ 1
-    -- an errand after it is one that there was before it
-    pub apart : (e : Errand) → t.after.errand ≡ Some e → (d : Errand) × (s.errand ≡ Some d)
+    -- a request of the heap after it is one that there was before it
+    pub apart : (e : HeapRequest) → t.after.heap_request ≡ Some e → (d : HeapRequest) × (s.heap_request ≡ Some d)
     -- and node 0 is still asked for what it was asked for
-    pub under : (k : HeapCall) (number : ℕ) → t.after.errand ≡ Some (errand.Asked k number)
-        → s.errand ≡ Some (errand.Asked k number)
+    pub under : (k : HeapCall) (number : ℕ) → t.after.heap_request ≡ Some (heap_request.Asked k number)
+        → s.heap_request ≡ Some (heap_request.Asked k number)
 
 module _ (c : Config) (me : ℕ) (a : Option Call) (s : HeapSide) (sound : IsSoundSide c me a s)
     (limits : IsConfig c) (here : me < c.nodes) where
@@ -141,15 +141,15 @@ module _ (c : Config) (me : ℕ) (a : Option Call) (s : HeapSide) (sound : IsSou
           sound = record {
             away = sound.away;
             home = sound.home;
-            errand = (k, subst (IsErrandOf c a) is sound.errand);
-            owed = λ j in_progress. (errand.Told r, refl);
+            heap_request = (k, subst (IsHeapRequestOf c a) is sound.heap_request);
+            owed = λ j in_progress. (heap_request.Told r, refl);
             none = λ zero. absurd (none-some _ (sym (sound.none zero) ∙ is));
           };
           fits = all_none (FitsParcel c me);
           few = omega arith;
-          apart = λ e same. (errand.Asked k number, is);
+          apart = λ e same. (heap_request.Asked k number, is);
           under = λ j n same.
-              (let e : errand.Told r ≡ errand.Asked j n = same_Some _ _ same in absurd cc);
+              (let e : heap_request.Told r ≡ heap_request.Asked j n = same_Some _ _ same in absurd cc);
         };
       })
 
@@ -174,13 +174,13 @@ module _ (c : Config) (me : ℕ) (a : Option Call) (s : HeapSide) (sound : IsSou
 -- the side of a node as it begins
 first_as : (c : Config) (me : ℕ) (b : Bool) → (me == 0) ≡ b
     → IsSoundSide c me None
-    (record { heap = if b then Some (first_heap c) else None; errand = None })
+    (record { heap = if b then Some (first_heap c) else None; heap_request = None })
 first_as c me true is =
     record {
       away = λ none. absurd (none-some _ (sym none));
       home = λ h same.
           (ap (λ (x : HeapState). x.config) (sym (same_Some _ h same)), eqb-true me 0 is);
-      errand = tt;
+      heap_request = tt;
       owed = λ k in_progress. absurd (idle_words c k in_progress);
       none = λ zero. refl;
     }
@@ -188,7 +188,7 @@ first_as c me false is =
     record {
       away = λ none. eqb-false me 0 is;
       home = λ h same. absurd (none-some h same);
-      errand = tt;
+      heap_request = tt;
       owed = λ k in_progress. absurd (idle_words c k in_progress);
       none = λ zero. refl;
     }

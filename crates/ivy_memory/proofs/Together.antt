@@ -15,15 +15,15 @@ use Rattle.ivy_pagetable.specs.Rows.{out_in}
 use Rattle.ivy_coherence.specs.Coherent.{Coherent}
 use Rattle.ivy_coherence.specs.Several.{first_out, later_outs}
 use Rattle.ivy_coherence.specs.Takes.{are_given, given_there, next_taken}
-use Rattle.ivy_coherence.specs.Takes as takes
-use Rattle.ivy_heap.specs.declared.Errand.{Errand}
+use Rattle.ivy_coherence.specs.Takes.{AreTaken}
+use Rattle.ivy_heap.specs.declared.HeapRequest.{HeapRequest}
 use Rattle.ivy_heap.specs.HeapCalls.{HeapSide, closed, reply_told}
 use Rattle.ivy_memory.specs.Memories.{NodeMemory, first_reply, in_progress, polled_as, reply_at, reply_of, reply_there, taken_out, taken_with}
-use Rattle.ivy_memory.specs.Rows.{CallsAlong, calls_in}
+use Rattle.ivy_memory.specs.Rows.{CallsAlong, row_calls}
 use Rattle.ivy_memory.specs.Sound.{IsSoundMemory}
-use Rattle.ivy_memory.specs.Together.{AreTaken, records_of}
+use Rattle.ivy_memory.specs.Together.{TakesRecords, records_of}
 use Rattle.ivy_memory.proofs.Polling.{polled_so}
-use Rattle.ivy_memory.proofs.Tame.{taken-sound}
+use Rattle.ivy_memory.proofs.WellBehaved.{taken-sound}
 
 -- what a word of a row gives is a reply
 gives : (kind : Row) (number : ℕ)
@@ -51,17 +51,17 @@ last_taken c is =
 
 module _ {S : Type 0} (ops : Ops S) where
   -- where a word was carried out, node 0 was asked for nothing
-  no_errand : (m : NodeMemory S) (o : Out) → IsSoundMemory ops m → m.coherence.done ≡ Some o
-      → (e : Option Errand) → m.side.errand ≡ e → m.side.errand ≡ None
-  no_errand m o s there None is = is
-  no_errand m o s there (Some e) is = absurd (none-some o (sym (s.apart e is).1 ∙ there))
+  no_heap_request : (m : NodeMemory S) (o : Out) → IsSoundMemory ops m → m.coherence.done ≡ Some o
+      → (e : Option HeapRequest) → m.side.heap_request ≡ e → m.side.heap_request ≡ None
+  no_heap_request m o s there None is = is
+  no_heap_request m o s there (Some e) is = absurd (none-some o (sym (s.apart e is).1 ∙ there))
 
   told : (m : NodeMemory S) (kind : Row) (number : ℕ) → IsSoundMemory ops m
       → m.coherence.done ≡ Some (out_in kind number)
       → reply_at m ≡ Some (record_in kind 0 0 number).reply
   told m kind number s there =
       ap (λ e. first_reply (reply_told e) (reply_there m.coherence.done))
-      (no_errand m (out_in kind number) s there m.side.errand refl)
+      (no_heap_request m (out_in kind number) s there m.side.heap_request refl)
       ∙ ap reply_there there ∙ gives kind number
 
   -- the memory once all replies were taken, of so many calls behind the first one
@@ -78,8 +78,8 @@ module _ {S : Type 0} (ops : Ops S) where
       (called : Call) (calls : List Call) (new : Coherent S) → IsSoundMemory ops m
       → m.asked ≡ Some called → m.along ≡ calls → length calls ≡ length more
       → length m.coherence.done_more ≡ length more
-      → takes.AreTaken kind (number ∷ more) m.coherence new
-      → AreTaken ops (records_of kind node (called ∷ calls) (number ∷ more)) m
+      → AreTaken kind (number ∷ more) m.coherence new
+      → TakesRecords ops (records_of kind node (called ∷ calls) (number ∷ more)) m
       (all_over m new (length more)) × IsSoundMemory ops (all_over m new (length more))
   words_taken kind node number [] m called [] new s asked is many outs h =
       let there = told m kind number s h.0 in
@@ -121,9 +121,9 @@ module _ {S : Type 0} (ops : Ops S) where
           taken_out m,
           asked,
           polled_so ops m called asked ∙ ap (polled_as ops m called) there,
-          subst (λ x. AreTaken ops (records_of kind node (next ∷ calls) (second ∷ more)) x
+          subst (λ x. TakesRecords ops (records_of kind node (next ∷ calls) (second ∷ more)) x
               (all_over m new (suc k))) (sym out)
-              (subst (AreTaken ops (records_of kind node (next ∷ calls) (second ∷ more))
+              (subst (TakesRecords ops (records_of kind node (next ∷ calls) (second ∷ more))
               (taken_with m (next ∷ calls))) last rest.0),
         ),
         subst (IsSoundMemory ops) last rest.1,
@@ -133,14 +133,14 @@ module _ {S : Type 0} (ops : Ops S) where
 module _ {S : Type 0} (ops : Ops S) (n v : NodeMemory S) (same : v ≡ n) (s : IsSoundMemory ops v)
     (kind : Row) (into : List ℕ) (new : Coherent S) (x : CallsAlong) (side : HeapSide)
     (behind : ℕ) (is : behind ≡ length v.along) (outs : length v.coherence.done_more ≡ behind)
-    (taken : takes.AreTaken kind (numbers_in (suc behind) into) v.coherence new)
+    (taken : AreTaken kind (numbers_in (suc behind) into) v.coherence new)
     (gone : x.calls ≡ []) (over : side ≡ closed v.side) where
   abbrev after : NodeMemory S
   after =
       record { coherence = new; asked = None; along = x.calls; number = v.number + behind; side = side }
 
   taken_at : (node : ℕ) (a : Option Call) → v.asked ≡ a → is_some a ≡ true
-      → AreTaken ops (records_of kind node (in_progress a v.along) (numbers_in (suc behind) into)) v
+      → TakesRecords ops (records_of kind node (in_progress a v.along) (numbers_in (suc behind) into)) v
       after × IsSoundMemory ops after
   taken_at node None asked some = absurd cc
   taken_at node (Some called) asked some =
@@ -157,7 +157,7 @@ module _ {S : Type 0} (ops : Ops S) (n v : NodeMemory S) (same : v ≡ n) (s : I
         number = v.number + long j;
         side = sym over j;
       }) in (
-        subst (AreTaken ops
+        subst (TakesRecords ops
             (records_of kind node (called ∷ v.along) (numbers_in (suc behind) into)) v) last all.0,
         subst (IsSoundMemory ops) last all.1,
       )
@@ -168,25 +168,25 @@ module _ {S : Type 0} (ops : Ops S) (n v : NodeMemory S) (same : v ≡ n) (s : I
       (ap (λ (m : NodeMemory S). is_some m.asked) same ∙ some)).1
 
   pub all_taken : is_some n.asked ≡ true → (node words : ℕ) → words ≡ behind + 1
-      → AreTaken ops (records_of kind node (in_progress n.asked n.along) (numbers_in words into)) n
+      → TakesRecords ops (records_of kind node (in_progress n.asked n.along) (numbers_in words into)) n
       after
   all_taken some node words many =
       let all : suc behind ≡ words = omega (arith, many) in
-      subst (λ k. AreTaken ops (records_of kind node (in_progress n.asked n.along) (numbers_in k into))
+      subst (λ k. TakesRecords ops (records_of kind node (in_progress n.asked n.along) (numbers_in k into))
       n after) all
-      (subst (λ (m : NodeMemory S). AreTaken ops
+      (subst (λ (m : NodeMemory S). TakesRecords ops
       (records_of kind node (in_progress m.asked m.along) (numbers_in (suc behind) into)) m after)
       same
       (taken_at node v.asked refl (ap (λ (m : NodeMemory S). is_some m.asked) same ∙ some)).0)
 
 -- it is of one node still
 pub taken_config : {S : Type 0} (kind : Row) (numbers : List ℕ) (c new : Coherent S)
-    → takes.AreTaken kind numbers c new → new.config ≡ c.config
+    → AreTaken kind numbers c new → new.config ≡ c.config
 taken_config kind [] c new h = ap (λ (x : Coherent _). x.config) h
 taken_config kind (number ∷ more) c new h = taken_config kind more (next_taken c) new h.1
 
 pub taken_me : {S : Type 0} (kind : Row) (numbers : List ℕ) (c new : Coherent S)
-    → takes.AreTaken kind numbers c new → new.me ≡ c.me
+    → AreTaken kind numbers c new → new.me ≡ c.me
 taken_me kind [] c new h = ap (λ (x : Coherent _). x.me) h
 taken_me kind (number ∷ more) c new h = taken_me kind more (next_taken c) new h.1
 
@@ -206,7 +206,7 @@ loads_are node addr (number ∷ more) =
     ap (λ (rs : List Record). record_in Loads node addr number ∷ rs) (loads_are node (addr + 8) more)
 
 pub stores_are : (n node addr : ℕ) (from into : List ℕ)
-    → records_of Stores node (calls_in Stores addr n from) (numbers_in n into)
+    → records_of Stores node (row_calls Stores addr n from) (numbers_in n into)
     ≡ row Stores node addr (numbers_in n from)
 stores_are zero node addr from into = refl
 stores_are (suc n) node addr from into =
@@ -217,32 +217,32 @@ module _ {S : Type 0} (ops : Ops S) (node addr words : ℕ) where
   -- so are those that were taken, if any were
   pub loads_taken : (into : List ℕ) (old new : NodeMemory S)
       → (words ≡ 0) ⊎ (words ≡ length old.along + 1)
-      → in_progress old.asked old.along ≡ calls_in Loads addr (length old.along + 1) into
-      → AreTaken ops (records_of Loads node (in_progress old.asked old.along) (numbers_in words into))
+      → in_progress old.asked old.along ≡ row_calls Loads addr (length old.along + 1) into
+      → TakesRecords ops (records_of Loads node (in_progress old.asked old.along) (numbers_in words into))
       old new
-      → AreTaken ops (row Loads node addr (numbers_in words into)) old new
+      → TakesRecords ops (row Loads node addr (numbers_in words into)) old new
   loads_taken into old new (inl none) calls taken =
-      subst (λ k. AreTaken ops (row Loads node addr (numbers_in k into)) old new) (sym none)
-      (subst (λ k. AreTaken ops
+      subst (λ k. TakesRecords ops (row Loads node addr (numbers_in k into)) old new) (sym none)
+      (subst (λ k. TakesRecords ops
       (records_of Loads node (in_progress old.asked old.along) (numbers_in k into)) old new) none taken)
   loads_taken into old new (inr all) calls taken =
-      subst (λ rs. AreTaken ops rs old new)
+      subst (λ rs. TakesRecords ops rs old new)
       (ap (λ ks. records_of Loads node ks (numbers_in words into))
-      (calls ∙ ap (λ k. calls_in Loads addr k into) (sym all))
+      (calls ∙ ap (λ k. row_calls Loads addr k into) (sym all))
       ∙ loads_are node addr (numbers_in words into)) taken
 
   pub stores_taken : (from into : List ℕ) (old new : NodeMemory S)
       → (words ≡ 0) ⊎ (words ≡ length old.along + 1)
-      → in_progress old.asked old.along ≡ calls_in Stores addr (length old.along + 1) from
-      → AreTaken ops (records_of Stores node (in_progress old.asked old.along) (numbers_in words into))
+      → in_progress old.asked old.along ≡ row_calls Stores addr (length old.along + 1) from
+      → TakesRecords ops (records_of Stores node (in_progress old.asked old.along) (numbers_in words into))
       old new
-      → AreTaken ops (row Stores node addr (numbers_in words from)) old new
+      → TakesRecords ops (row Stores node addr (numbers_in words from)) old new
   stores_taken from into old new (inl none) calls taken =
-      subst (λ k. AreTaken ops (row Stores node addr (numbers_in k from)) old new) (sym none)
-      (subst (λ k. AreTaken ops
+      subst (λ k. TakesRecords ops (row Stores node addr (numbers_in k from)) old new) (sym none)
+      (subst (λ k. TakesRecords ops
       (records_of Stores node (in_progress old.asked old.along) (numbers_in k into)) old new) none taken)
   stores_taken from into old new (inr all) calls taken =
-      subst (λ rs. AreTaken ops rs old new)
+      subst (λ rs. TakesRecords ops rs old new)
       (ap (λ ks. records_of Stores node ks (numbers_in words into))
-      (calls ∙ ap (λ k. calls_in Stores addr k from) (sym all))
+      (calls ∙ ap (λ k. row_calls Stores addr k from) (sym all))
       ∙ stores_are words node addr from into) taken

@@ -15,7 +15,7 @@ use Rattle.ivy_coherence.specs.Coherent.{Coherent}
 use Rattle.ivy_coherence.specs.Several.{first_out, later_outs}
 use Rattle.ivy_coherence.specs.Sound.{first_coherent}
 use Rattle.ivy_coherence.specs.Steps.{handled}
-use Rattle.ivy_coherence.specs.Faults.{Begun, along, begun}
+use Rattle.ivy_coherence.specs.PageFaults.{Begun, along, begun}
 use Rattle.ivy_heap.specs.declared.Answer.{Answer}
 use Rattle.ivy_heap.specs.declared.Answer.TheVariants.{Given, Awaited, Unserved}
 use Rattle.ivy_memory.specs.declared.asked.Asked.{Asked}
@@ -68,7 +68,7 @@ first_reply None o = o
 
 -- the reply of the call in progress, once it is there
 abbrev pub reply_at : {S : Type 0} → NodeMemory S → Option Reply
-reply_at m = first_reply (reply_told m.side.errand) (reply_there m.coherence.done)
+reply_at m = first_reply (reply_told m.side.heap_request) (reply_there m.coherence.done)
 
 -- the memory without the call in progress, which begins anew
 abbrev pub without_call : {S : Type 0} → NodeMemory S → NodeMemory S

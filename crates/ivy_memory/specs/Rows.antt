@@ -10,15 +10,15 @@ use Rattle.ivy_coherence.specs.Hits.{has_to_wait}
 use Rattle.ivy_memory.specs.Memories.{CallBegun, NodeMemory, call_begun}
 
 -- the calls of so many words of a row from an address on, whose numbers are in these bytes
-abbrev pub calls_in : Row → ℕ → ℕ → List ℕ → List Call
-calls_in kind addr words bytes = calls_of (row kind 0 addr (numbers_in words bytes))
+abbrev pub row_calls : Row → ℕ → ℕ → List ℕ → List Call
+row_calls kind addr words bytes = calls_of (row kind 0 addr (numbers_in words bytes))
 
 -- the first of them, and the others
 abbrev pub first_call : Row → ℕ → List ℕ → Call
 first_call kind addr bytes = (record_in kind 0 addr (big_number 8 bytes)).call
 
 abbrev pub other_calls : Row → ℕ → ℕ → List ℕ → List Call
-other_calls kind addr words bytes = calls_in kind (addr + 8) (words - 1) (drop 8 bytes)
+other_calls kind addr words bytes = row_calls kind (addr + 8) (words - 1) (drop 8 bytes)
 
 -- the calls of a row from the address on would wait, if they began together: no call is in progress,
 -- nor is an answer left of calls that were made along with an earlier one, a word of the heap is
@@ -43,4 +43,4 @@ pub record CallsAlong : Type 0 where
 -- place on
 abbrev pub calls_left : Row → ℕ → ℕ → ℕ → List ℕ → CallsAlong
 calls_left kind addr left at bytes =
-    record { size = length bytes; calls = calls_in kind addr left (drop at bytes) }
+    record { size = length bytes; calls = row_calls kind addr left (drop at bytes) }

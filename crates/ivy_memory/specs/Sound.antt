@@ -10,8 +10,8 @@ use Rattle.ivy_coherence.specs.Sound.{IsSound}
 use Rattle.ivy_heap.specs.ivy_alloc.Heap.{HeapState}
 use Rattle.ivy_memory.specs.declared.asked.Asked.TheVariants as kinds
 use Rattle.ivy_heap.specs.declared.HeapCall.{HeapCall}
-use Rattle.ivy_heap.specs.declared.Errand.{Errand}
-use Rattle.ivy_heap.specs.declared.Errand.TheVariants as errand
+use Rattle.ivy_heap.specs.declared.HeapRequest.{HeapRequest}
+use Rattle.ivy_heap.specs.declared.HeapRequest.TheVariants as heap_request
 use Rattle.ivy_memory.specs.Asking.{asked_of}
 use Rattle.ivy_heap.specs.HeapCalls.{HeapSide}
 use Rattle.ivy_memory.specs.Memories.{NodeMemory}
@@ -23,10 +23,10 @@ pub record IsInProgress (c : Config) (in_progress : Option Call) (k : HeapCall) 
   pub of : asked_of c call ≡ kinds.Heap k
 
 -- node 0 was asked for the call in progress, if for any
-abbrev pub IsErrandOf : Config → Option Call → Option Errand → Type 0
-IsErrandOf c in_progress None = Unit {0}
-IsErrandOf c in_progress (Some (errand.Asked k number)) = IsInProgress c in_progress k
-IsErrandOf c in_progress (Some (errand.Told r)) = (k : HeapCall) × IsInProgress c in_progress k
+abbrev pub IsHeapRequestOf : Config → Option Call → Option HeapRequest → Type 0
+IsHeapRequestOf c in_progress None = Unit {0}
+IsHeapRequestOf c in_progress (Some (heap_request.Asked k number)) = IsInProgress c in_progress k
+IsHeapRequestOf c in_progress (Some (heap_request.Told r)) = (k : HeapCall) × IsInProgress c in_progress k
 
 -- the heap is at node 0, which asks nobody; any other node asks that one, for each call of the heap
 -- in progress
@@ -34,9 +34,9 @@ pub record IsSoundSide (c : Config) (me : ℕ) (in_progress : Option Call) (s : 
   where
     pub away : s.heap ≡ None → me ≢ 0
     pub home : (h : HeapState) → s.heap ≡ Some h → (h.config ≡ c) × (me ≡ 0)
-    pub errand : IsErrandOf c in_progress s.errand
-    pub owed : (k : HeapCall) → IsInProgress c in_progress k → (e : Errand) × (s.errand ≡ Some e)
-    pub none : me ≡ 0 → s.errand ≡ None
+    pub heap_request : IsHeapRequestOf c in_progress s.heap_request
+    pub owed : (k : HeapCall) → IsInProgress c in_progress k → (e : HeapRequest) × (s.heap_request ≡ Some e)
+    pub none : me ≡ 0 → s.heap_request ≡ None
 
 -- the call is a word of a page
 abbrev pub IsWordOfPage : Config → Call → Type 0
@@ -59,7 +59,7 @@ pub record IsSoundMemory {S : Type 0} (ops : Ops S) (m : NodeMemory S) : Type 0 
   pub alone : m.asked ≡ None → m.along ≡ []
   pub side : IsSoundSide m.coherence.config m.coherence.me m.asked m.side
   -- node 0 was asked under the number of the call
-  pub under : (k : HeapCall) (number : ℕ) → m.side.errand ≡ Some (errand.Asked k number)
+  pub under : (k : HeapCall) (number : ℕ) → m.side.heap_request ≡ Some (heap_request.Asked k number)
       → number ≡ m.number
-  pub apart : (e : Errand) → m.side.errand ≡ Some e
+  pub apart : (e : HeapRequest) → m.side.heap_request ≡ Some e
       → (m.coherence.locked ≡ None) × (m.coherence.done ≡ None)

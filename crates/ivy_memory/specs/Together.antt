@@ -10,12 +10,12 @@ use Rattle.ivy_memory.specs.Memories.{NodeMemory, polled}
 
 -- the calls of these records, one after another: each is in progress, and is given its reply, which is
 -- there
-abbrev pub AreTaken : {S : Type 0} → Ops S → List Record → NodeMemory S → NodeMemory S → Type 0
-AreTaken ops [] old new = new ≡ old
-AreTaken {S} ops (r ∷ more) old new =
+abbrev pub TakesRecords : {S : Type 0} → Ops S → List Record → NodeMemory S → NodeMemory S → Type 0
+TakesRecords ops [] old new = new ≡ old
+TakesRecords {S} ops (r ∷ more) old new =
     (mid : NodeMemory S) × (old.asked ≡ Some r.call)
     × (polled ops old ≡ record { answer = Given r.reply; after = mid; posted = [] })
-    × AreTaken ops more mid new
+    × TakesRecords ops more mid new
 
 -- the records of so many of these calls as there are numbers, each with the reply of a word of a row
 -- that has this number

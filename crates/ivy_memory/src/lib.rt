@@ -15,6 +15,6 @@ mod taken;
 pub use asked::{Asked, asked_of};
 pub use ivy_coherence;
 pub use ivy_event;
-pub use ivy_heap::{Answer, Errand, HeapCall, HeapSide, ivy_alloc};
+pub use ivy_heap::{Answer, HeapCall, HeapRequest, HeapSide, ivy_alloc};
 pub use law::words_are_flat;
 pub use memory::Memory;

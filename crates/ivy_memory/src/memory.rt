@@ -5,7 +5,7 @@ ghost use Rattle.ivy_model.specs.declared.Row.TheVariants.{Loads, Stores};
 ghost use Rattle.ivy_model.specs.Config.{IsConfig};
 ghost use Rattle.ivy_model.specs.Legal.{HasWidth};
 ghost use Rattle.ivy_model.specs.Rows.{numbers_in, row};
-ghost use Rattle.ivy_model.specs.Wants.{IsWant};
+ghost use Rattle.ivy_model.specs.Wants.{RanOut};
 ghost use Rattle.ivy_wire.specs.Lent.{owned_content, owned_message};
 ghost use Rattle.ivy_wire.specs.Spelling.{FitsMessage};
 ghost use Rattle.ivy_wire.specs.Posts.{IsPostOf, HasRefused};
@@ -98,14 +98,6 @@ impl<M: Manager, A: Allocator + Copy> Memory<M, A> {
         self.asked
     }
 
-    /// How many calls were made along with the one in progress, and have no reply yet. It takes no memory.
-    pub fn along(&self) -> usize
-        ensures count { result ≡ length self.now.along }
-        ensures alone { self.now.asked ≡ None → self.now.along ≡ [] }
-    {
-        self.along.left()
-    }
-
     /// How many messages fitted no rule, up to the greatest number. It takes no memory.
     pub fn breaches(&self) -> u64
         ensures { result ≡ self.now.coherence.breaches }
@@ -145,7 +137,7 @@ impl<M: Manager, A: Allocator + Copy> Memory<M, A> {
             ⊎ (CallMayMakePage self.old.coherence call
             ⊎ MayBeRefused (asked_of self.old.coherence.config call)
             (call_begun M.ops self.old call [] number).answer)) }
-        ensures want { self.old.asked ≡ None → IfErr result IsWant }
+        ensures want { self.old.asked ≡ None → IfErr result RanOut }
     {
         if self.asked.is_some() {
             return Err(Fault::Busy);
@@ -226,7 +218,7 @@ impl<M: Manager, A: Allocator + Copy> Memory<M, A> {
             (IsWantOfPage self.old.coherence fault × (post.new ≡ post.old))
             ⊎ HasRefused P.ops post.old post.new (polled M.ops self.old).posted fault) }
         ensures sure { OnErr result (MayFailAgain self.old) }
-        ensures want { IfErr result IsWant }
+        ensures want { IfErr result RanOut }
     {
         let Some(call) = self.asked else {
             return Ok(Answer::Unserved);
@@ -344,7 +336,7 @@ impl<M: Manager, A: Allocator + Copy> Memory<M, A> {
             × (post.new ≡ post.old))
             ⊎ HasRefused P.ops post.old post.new
             (memory_handled M.ops self.old from (owned_message message.entry)).posted fault) }
-        ensures want { IfErr result IsWant }
+        ensures want { IfErr result RanOut }
     {
         if self.side.handle(self.coherence.me(), from, &message, post)? {
             return Ok(());

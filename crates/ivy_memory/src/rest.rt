@@ -1,7 +1,7 @@
 //! Calls that are made along with the one in progress.
 ghost use Rattle.std.specs.Prelude.{◌≡◌, ◌+◌, ◌*◌, ◌^◌, ◌<◌, ◌≤◌, ℕ, true, List, [], length, take, drop, slice_get, IfOk};
 ghost use Rattle.ivy_model.specs.declared.Row.TheVariants.{Loads, Stores};
-ghost use Rattle.ivy_memory.specs.Rows.{calls_in, first_call};
+ghost use Rattle.ivy_memory.specs.Rows.{row_calls, first_call};
 
 use byteorder::{BigEndian, ByteOrder};
 use ivy_model::{Call, Row};
@@ -69,7 +69,7 @@ impl<A: Allocator> Rest<A> {
         requires below { addr + 8 * words < 2 ^ 64 }
         requires room { 8 * words ≤ self.old.size }
         requires many { 8 * words ≤ length bytes.now }
-        ensures { self.new ≡ record { size = self.old.size; calls = calls_in kind addr words bytes.now } }
+        ensures { self.new ≡ record { size = self.old.size; calls = row_calls kind addr words bytes.now } }
     {
         put(&mut self.bytes, bytes, 8 * words);
         self.kind = kind;
@@ -95,7 +95,7 @@ impl<A: Allocator> Rest<A> {
     /// Whether those that are left are loads of a row, behind a first one at this address.
     pub(crate) fn are_loads(&self, addr: u64) -> bool
         ensures { result ≡ true → (bytes : List ℕ) →
-            self.now.calls ≡ calls_in Loads (addr + 8) (length self.now.calls) bytes }
+            self.now.calls ≡ row_calls Loads (addr + 8) (length self.now.calls) bytes }
     {
         if self.left == 0 {
             return true;
@@ -110,7 +110,7 @@ impl<A: Allocator> Rest<A> {
     pub(crate) fn are_stores(&self, addr: u64, from: &[u8]) -> bool
         requires many { 8 * length self.now.calls ≤ length from.now }
         ensures { result ≡ true →
-            self.now.calls ≡ calls_in Stores (addr + 8) (length self.now.calls) from.now }
+            self.now.calls ≡ row_calls Stores (addr + 8) (length self.now.calls) from.now }
     {
         if self.left == 0 {
             return true;

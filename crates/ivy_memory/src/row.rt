@@ -1,6 +1,6 @@
 //! Calls of a row, made together.
 ghost use Rattle.std.specs.Prelude.{◌≡◌, ◌+◌, ◌*◌, ◌%◌, ◌^◌, ◌≤◌, ◌⊎◌, true, Some, IfErr, OnOk, OnErr, length};
-ghost use Rattle.ivy_model.specs.Wants.{IsWant};
+ghost use Rattle.ivy_model.specs.Wants.{RanOut};
 ghost use Rattle.ivy_wire.specs.Posts.{IsPostOf, HasRefused};
 ghost use Rattle.ivy_coherence.specs.Limits.{most_posted};
 ghost use Rattle.ivy_coherence.specs.Outcomes.{IsWantOfPage};
@@ -68,7 +68,7 @@ impl<M: Manager, A: Allocator + Copy> Memory<M, A> {
             ⊎ HasRefused P.ops post.old post.new
             (row_begun M.ops self.old kind addr words bytes.now number).posted fault) }
         ensures sure { OnErr result (CallHasToAsk self.old.coherence (first_call kind addr bytes.now)) }
-        ensures want { IfErr result IsWant }
+        ensures want { IfErr result RanOut }
     {
         let Some(at) = row_place(&self.coherence.config(), addr) else {
             return Ok(());

@@ -3,8 +3,8 @@ ghost use Rattle.std.specs.Prelude.{◌≡◌, ◌≢◌, ◌↔◌, ◌⊎◌, 
 ghost use Rattle.ivy_model.specs.declared.Row.TheVariants.{Loads, Stores};
 ghost use Rattle.ivy_model.specs.Rows.{numbers_in, row};
 ghost use Rattle.ivy_memory.specs.Memories.{in_progress};
-ghost use Rattle.ivy_memory.specs.Rows.{calls_in};
-ghost use Rattle.ivy_memory.specs.Together.{AreTaken, records_of};
+ghost use Rattle.ivy_memory.specs.Rows.{row_calls};
+ghost use Rattle.ivy_memory.specs.Together.{TakesRecords, records_of};
 
 use crate::memory::Memory;
 use byteorder::{BigEndian, ByteOrder};
@@ -24,7 +24,7 @@ impl<M: Manager, A: Allocator + Copy> Memory<M, A> {
     fn are_loads(&self, addr: u64) -> bool
         ensures called { result ≡ true → IsSome self.now.asked }
         ensures calls { result ≡ true → (bytes : List ℕ) → in_progress self.now.asked self.now.along
-            ≡ calls_in Loads addr (length self.now.along + 1) bytes }
+            ≡ row_calls Loads addr (length self.now.along + 1) bytes }
     {
         match self.asked {
             Some(
@@ -42,7 +42,7 @@ impl<M: Manager, A: Allocator + Copy> Memory<M, A> {
         requires many { 8 * (length self.now.along + 1) ≤ length from.now }
         ensures called { result ≡ true → IsSome self.now.asked }
         ensures calls { result ≡ true → in_progress self.now.asked self.now.along
-            ≡ calls_in Stores addr (length self.now.along + 1) from.now }
+            ≡ row_calls Stores addr (length self.now.along + 1) from.now }
     {
         match self.asked {
             Some(
@@ -66,7 +66,7 @@ impl<M: Manager, A: Allocator + Copy> Memory<M, A> {
         requires called { IsSome self.old.asked }
         requires room { kind ≡ Loads → 8 * (length self.old.along + 1) ≤ length into.old }
         ensures many { (result ≡ 0) ⊎ (result ≡ length self.old.along + 1) }
-        ensures taken { (node : ℕ) → AreTaken M.ops
+        ensures taken { (node : ℕ) → TakesRecords M.ops
             (records_of kind node (in_progress self.old.asked self.old.along) (numbers_in result into.new))
             self.old self.new }
         ensures sized { length into.new ≡ length into.old }
@@ -92,7 +92,7 @@ impl<M: Manager, A: Allocator + Copy> Memory<M, A> {
     ///
     /// Each is the reply that [`Memory::poll_reply`] would give. It takes no memory.
     pub fn take_loads(&mut self, addr: u64, into: &mut [u8]) -> usize
-        ensures taken { (node : ℕ) → AreTaken M.ops (row Loads node addr (numbers_in result into.new)) self.old self.new }
+        ensures taken { (node : ℕ) → TakesRecords M.ops (row Loads node addr (numbers_in result into.new)) self.old self.new }
         ensures fits { 8 * result ≤ length into.old }
         ensures sized { length into.new ≡ length into.old }
         ensures rests { result ≢ 0 → self.new.asked ≡ None }
@@ -110,7 +110,7 @@ impl<M: Manager, A: Allocator + Copy> Memory<M, A> {
     ///
     /// Each is the reply that [`Memory::poll_reply`] would give. It takes no memory.
     pub fn take_stores(&mut self, addr: u64, from: &[u8]) -> usize
-        ensures taken { (node : ℕ) → AreTaken M.ops (row Stores node addr (numbers_in result from.now)) self.old self.new }
+        ensures taken { (node : ℕ) → TakesRecords M.ops (row Stores node addr (numbers_in result from.now)) self.old self.new }
         ensures fits { 8 * result ≤ length from.now }
         ensures rests { result ≢ 0 → self.new.asked ≡ None }
         ensures config { self.new.coherence.config ≡ self.old.coherence.config }

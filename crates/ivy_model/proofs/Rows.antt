@@ -34,17 +34,17 @@ calls-of-row kind i j addr (number ∷ more) =
     (calls-of-row kind i j (addr + 8) more)
 
 -- the record of each word
-pub row-at : (kind : Row) (node addr k n : ℕ) (bytes : List ℕ) → k < n
+pub row_at : (kind : Row) (node addr k n : ℕ) (bytes : List ℕ) → k < n
     → slice_get (row kind node addr (numbers_in n bytes)) k
     ≡ Some (record_in kind node (addr + 8 * k) (big_number 8 (drop (8 * k) bytes)))
-row-at kind node addr k zero bytes lt = absurd (omega (arith, lt))
-row-at kind node addr zero (suc n) bytes lt =
+row_at kind node addr k zero bytes lt = absurd (omega (arith, lt))
+row_at kind node addr zero (suc n) bytes lt =
     let here : addr ≡ addr + 8 * 0 = omega arith in
     ap (λ (a : ℕ). Some (record_in kind node a (big_number 8 bytes))) here
-row-at kind node addr (suc k) (suc n) bytes lt =
+row_at kind node addr (suc k) (suc n) bytes lt =
     let on : addr + 8 + 8 * k ≡ addr + 8 * suc k = omega arith in
     let by : 8 + 8 * k ≡ 8 * suc k = omega arith in
-    row-at kind node (addr + 8) k n (drop 8 bytes) (omega (arith, lt))
+    row_at kind node (addr + 8) k n (drop 8 bytes) (omega (arith, lt))
     ∙ ap (λ (a : ℕ). Some (record_in kind node a (big_number 8 (drop (8 * k) (drop 8 bytes))))) on
     ∙ ap (λ (l : List ℕ). Some (record_in kind node (addr + 8 * suc k) (big_number 8 l)))
     (drop-drop (8 * k) 8 bytes ∙ ap (λ (m : ℕ). drop m bytes) by)

@@ -4,5 +4,5 @@ use Rattle.ivy_model.specs.declared.fault.Fault.{Fault}
 use Rattle.ivy_model.specs.declared.fault.Fault.TheVariants.{Memory, NumbersSpent}
 
 -- memory or message numbers ran out
-abbrev pub IsWant : Fault → Type 0
-IsWant fault = (fault ≡ Memory) ⊎ (fault ≡ NumbersSpent)
+abbrev pub RanOut : Fault → Type 0
+RanOut fault = (fault ≡ Memory) ⊎ (fault ≡ NumbersSpent)

@@ -6,7 +6,7 @@ use Rattle.std.proofs.Common.{Contains, if◌then◌else◌, arith}
 use Rattle.std.proofs.lemmas.Bool.{cases_eq}
 use Rattle.std.proofs.lemmas.Option.{same_Some, none-some}
 use Rattle.ivy_model.specs.declared.Config.{Config}
-use Rattle.ivy_wire.specs.Faults.{checked}
+use Rattle.ivy_wire.specs.DecodeErrors.{checked}
 use Rattle.ivy_moves.specs.declared.moves.Move.{Move}
 use Rattle.ivy_moves.specs.declared.moves.Move.TheVariants as move
 use Rattle.ivy_moves.specs.Cores.{Core, Outcome}
@@ -142,17 +142,17 @@ module _ {C : Type 0} (rules : Core C) (c : Config) (f : ℕ → C → C)
     pub above : IsChangedBy f end other
     pub same : given_further rules c u i more other goes ≡ given_further rules c w i more end on
 
-  went-on : (w u : World C) (i : ℕ) (more : List (List ℕ)) (end : World C)
+  went_on : (w u : World C) (i : ℕ) (more : List (List ℕ)) (end : World C)
       (on : GoesOnWith rules c w i more end) → IsChangedBy f w u → WentOn w u i more end on
-  went-on w u i [] end on above = record {
+  went_on w u i [] end on above = record {
     other = u;
     goes = refl;
     above = subst (λ x. IsChangedBy f x u) (sym on) above;
     same = refl;
   }
-  went-on w u i (bytes ∷ more) end on above =
+  went_on w u i (bytes ∷ more) end on above =
       let d = delivered-at w u i (slice_get w.nodes i) bytes on.1.0 above refl on.1.1 in
-      let r = went-on on.1.0 d.other i more end on.1.2 d.above in
+      let r = went_on on.1.0 d.other i more end on.1.2 d.above in
       record {
         other = r.other;
         goes = (
@@ -215,10 +215,10 @@ module _ {C : Type 0} (rules : Core C) (c : Config) (f : ℕ → C → C)
   named-same w u (move.Pulse from to) above =
       ap (λ k. nat_lt from k && (nat_lt to k && not (from == to))) above.count
 
-  moved-by : (w u : World C) (m : Move) (x : World C) → IsChangedBy f w u → is_named w m ≡ true
+  moved_by : (w u : World C) (m : Move) (x : World C) → IsChangedBy f w u → is_named w m ≡ true
       → made_by rules c u m ≡ Some x → moved rules c u m ≡ Some x
   unfolding moved
-  moved-by w u m x above named is =
+  moved_by w u m x above named is =
       ap (λ b. if b then made_by rules c u m else None) (named-same w u m above ∙ named) ∙ is
 
   made-by : (w : World C) (m : Move) (x : World C) → moved rules c w m ≡ Some x
@@ -229,19 +229,19 @@ module _ {C : Type 0} (rules : Core C) (c : Config) (f : ℕ → C → C)
   only-if : (b : Bool) (l k : List Mark) → l ≡ k → (if b then l else []) ≡ (if b then k else [])
   only-if b l k e = ap (λ x. if b then x else []) e
 
-  none-if : (b : Bool) (l : List Mark) → l ≡ [] → (if b then l else []) ≡ []
-  none-if true l e = e
-  none-if false l e = refl
+  none_if : (b : Bool) (l : List Mark) → l ≡ [] → (if b then l else []) ≡ []
+  none_if true l e = e
+  none_if false l e = refl
 
   -- a turn
-  turn-posts : (w u : World C) (i : ℕ) (end : World C) (moves : Moves rules c w (move.Turn i) end)
+  turn_posts : (w u : World C) (i : ℕ) (end : World C) (moves : Moves rules c w (move.Turn i) end)
       → IsChangedBy f w u → is_named w (move.Turn i) ≡ true → (n : Node C)
       → slice_get w.nodes i ≡ Some n → (o : Outcome C) → rules.turn n.core ≡ Some o
       → (e : Option (Effect C)) → posting n o.after o.posted ≡ e
       → world_goes_on w i e ≡ Some moves.mid → Carried w u (move.Turn i) end moves
   unfolding turned
-  turn-posts w u i end moves above named n there o turn None posts is = absurd (none-some moves.mid is)
-  turn-posts w u i end moves above named n there o turn (Some e) posts is =
+  turn_posts w u i end moves above named n there o turn None posts is = absurd (none-some moves.mid is)
+  turn_posts w u i end moves above named n there o turn (Some e) posts is =
       let at : slice_get u.nodes i ≡ Some (node_changed (f i) n) = above.there i n there in
       let turn' : rules.turn (f i n.core) ≡ Some (changed (f i) o) = (unseen i).turn n.core o turn in
       let other : World C = gone_on u i (effect_changed (f i) e) in
@@ -256,7 +256,7 @@ module _ {C : Type 0} (rules : Core C) (c : Config) (f : ℕ → C → C)
       ap (turn_given rules c) at ∙ ap (turn_marks rules c) turn'
       ∙ sym (ap (turn_given rules c) there ∙ ap (turn_marks rules c) turn) in
       made other
-      (record { mid = other; made = moved-by w u (move.Turn i) other above named made_so; more = []; goes_on = (refl, refl) })
+      (record { mid = other; made = moved_by w u (move.Turn i) other above named made_so; more = []; goes_on = (refl, refl) })
       (subst (λ x. IsChangedBy f x other) same_end (above-on w u i n e above there))
       (λ j. only-if (i == j) _ _ (ap (λ l. l ++ []) given))
 
@@ -270,10 +270,10 @@ module _ {C : Type 0} (rules : Core C) (c : Config) (f : ℕ → C → C)
       (subst (λ x. IsChangedBy f x u)
       (same_Some (gone_on w i (stays n)) moves.mid is ∙ sym moves.goes_on.1)
       (above-stays w u i n above there))
-      (λ j. none-if (i == j) _
+      (λ j. none_if (i == j) _
       (ap (λ l. l ++ []) (ap (turn_given rules c) there ∙ ap (turn_marks rules c) turn)))
   turn-carried w u i end moves above named n there (Some o) turn is =
-      turn-posts w u i end moves above named n there o turn (posting n o.after o.posted) refl is
+      turn_posts w u i end moves above named n there o turn (posting n o.after o.posted) refl is
 
   turn-at : (w u : World C) (i : ℕ) (end : World C) (moves : Moves rules c w (move.Turn i) end)
       → IsChangedBy f w u → is_named w (move.Turn i) ≡ true → (n : Option (Node C))
@@ -302,14 +302,14 @@ module _ {C : Type 0} (rules : Core C) (c : Config) (f : ℕ → C → C)
       let string' : slice_get u.sent index ≡ Some bytes =
       ap (λ (l : List (List ℕ)). slice_get l index) above.sent ∙ string in
       let d = delivered-at w u to (slice_get w.nodes to) bytes moves.mid above refl is in
-      let r = went-on moves.mid d.other to moves.more end moves.goes_on d.above in
+      let r = went_on moves.mid d.other to moves.more end moves.goes_on d.above in
       let given : given_by rules c u (move.Deliver index to) ≡ given_by rules c w (move.Deliver index to) =
       ap (delivery_given rules c (slice_get u.nodes to)) string' ∙ d.same
       ∙ sym (ap (delivery_given rules c (slice_get w.nodes to)) string) in
       made r.other
       (record {
         mid = d.other;
-        made = moved-by w u (move.Deliver index to) d.other above named
+        made = moved_by w u (move.Deliver index to) d.other above named
             (ap (delivery_of rules c u to (slice_get u.nodes to)) string' ∙ d.is);
         more = moves.more;
         goes_on = r.goes;
@@ -320,13 +320,13 @@ module _ {C : Type 0} (rules : Core C) (c : Config) (f : ℕ → C → C)
       ∙ ap (λ l. given_by rules c w (move.Deliver index to) ++ l) r.same))
 
   -- a pulse
-  pulse-at : (w u : World C) (from to : ℕ) (end : World C)
+  pulse_at : (w u : World C) (from to : ℕ) (end : World C)
       (moves : Moves rules c w (move.Pulse from to) end) → IsChangedBy f w u
       → is_named w (move.Pulse from to) ≡ true → (n : Option (Node C))
       → slice_get w.nodes from ≡ n → pulse_of rules c w from to n ≡ Some moves.mid
       → Carried w u (move.Pulse from to) end moves
-  pulse-at w u from to end moves above named None there is = absurd (none-some moves.mid is)
-  pulse-at w u from to end moves above named (Some n) there is =
+  pulse_at w u from to end moves above named None there is = absurd (none-some moves.mid is)
+  pulse_at w u from to end moves above named (Some n) there is =
       let at : slice_get u.nodes from ≡ Some (node_changed (f from) n) = above.there from n there in
       let e : Effect C = pulsing n to in
       let pulse : pulsing (node_changed (f from) n) to ≡ effect_changed (f from) e =
@@ -341,7 +341,7 @@ module _ {C : Type 0} (rules : Core C) (c : Config) (f : ℕ → C → C)
       made other
       (record {
         mid = other;
-        made = moved-by w u (move.Pulse from to) other above named
+        made = moved_by w u (move.Pulse from to) other above named
             (ap (pulse_of rules c u from to) at ∙ ap (λ x. Some (gone_on u from x)) pulse);
         more = [];
         goes_on = (refl, refl);
@@ -359,7 +359,7 @@ module _ {C : Type 0} (rules : Core C) (c : Config) (f : ℕ → C → C)
       delivery-carried w u index to end moves above h.0 (slice_get w.sent index) refl h.1
   carried w u (move.Pulse from to) end moves above =
       let h = made-by w (move.Pulse from to) moves.mid moves.made in
-      pulse-at w u from to end moves above h.0 (slice_get w.nodes from) refl h.1
+      pulse_at w u from to end moves above h.0 (slice_get w.nodes from) refl h.1
 
   other : (moves : List Move) (w u end : World C) (lead : Leads rules c w moves end)
       → IsChangedBy f w u → Other moves w u end lead

@@ -14,7 +14,7 @@ use Rattle.ivy_model.specs.declared.Config.{Config}
 use Rattle.ivy_wire.specs.declared.FrameKind.{FrameKind}
 use Rattle.ivy_wire.specs.Data.{Message, Frame, Parcel}
 use Rattle.ivy_wire.specs.Spelling.{FitsMessage, FitsParcel, Fits, Spells, spelling, frame_kind}
-use Rattle.ivy_wire.specs.Faults.{checked}
+use Rattle.ivy_wire.specs.DecodeErrors.{checked}
 use Rattle.ivy_wire.specs.Reading.{frame_at}
 use Rattle.ivy_wire.proofs.Frames.{spelled_once}
 use Rattle.ivy_link.specs.declared.Verdict.{Verdict}
@@ -28,14 +28,14 @@ use Rattle.ivy_moves.specs.declared.moves.Move.TheVariants.{Turn, Deliver, Pulse
 use Rattle.ivy_moves.specs.Cores.{Core, Outcome}
 use Rattle.ivy_moves.specs.Nodes.{Node, Effect, stays, accepting, turned, turned_to, served_next, received, received_as, verdict_of, delivered, delivered_as, pulsing}
 use Rattle.ivy_moves.specs.Worlds.{World, early_of, gone_on, world_goes_on, remembered, remembering, is_named, turn_of, delivery_of, pulse_of, made_by, moved}
-use Rattle.ivy_moves.specs.Ordered.{rests, turns, delivers, one_more}
-use Rattle.ivy_moves.specs.Following.{links_of, ordered_of, IsString, Follows, IsTame, FollowsStep}
-use Rattle.ivy_moves.proofs.Places.{guarded, read-either, set-cases, set-same, set-there, link-of, core-of, more-here, more-other_source, more-other_dest}
+use Rattle.ivy_moves.specs.FifoWorld.{rests, turns, delivers, one_more}
+use Rattle.ivy_moves.specs.Following.{links_of, fifo_of, IsString, Follows, IsWellBehaved, FollowsStep}
+use Rattle.ivy_moves.proofs.Places.{guarded, read-either, set-cases, set_same, set-there, link_of, core_of, more_here, more-other_source, more-other_dest}
 use Rattle.ivy_link.proofs.Sending.{sends-peers}
 use Rattle.ivy_moves.proofs.Sent.{sends-delivered, sends-numbers, sends-acks}
 use Rattle.ivy_moves.proofs.Sent.{accepted-sent, repeat-delivered, ahead-delivered, next-delivered}
-use Rattle.ivy_moves.proofs.Sent.{next-others, sends-offered, next-means, pulse-delivered}
-use Rattle.ivy_moves.proofs.Sent.{pulse-sent, pulse-acks, made-fits, made-message, extended-fits}
+use Rattle.ivy_moves.proofs.Sent.{next-others, sends_offered, next-means, pulse-delivered}
+use Rattle.ivy_moves.proofs.Sent.{pulse-sent, pulse_acks, made-fits, made-message, extended-fits}
 use Rattle.ivy_link.proofs.Pairs.{link_at-with, sends-paired, accepted-paired, pulsed-paired, made-longer}
 use Rattle.ivy_link.proofs.Making.{sends-made, pulsed-made}
 
@@ -55,10 +55,10 @@ module _ {C : Type 0} where
       → sent ≡ w.sent → ◌≡◌ {A = World C} (record { nodes = nodes; sent = sent; early = w.early }) w
   nodes-same w nodes sent p q = λ k. record { nodes = p k; sent = q k; early = w.early }
 
-  stays-same : (w : World C) (i : ℕ) (n : Node C) → slice_get w.nodes i ≡ Some n
+  stays_same : (w : World C) (i : ℕ) (n : Node C) → slice_get w.nodes i ≡ Some n
       → gone_on w i (stays n) ≡ w
-  stays-same w i n there =
-      nodes-same w (set w.nodes i n) (w.sent ++ []) (set-same w.nodes i n there) (append-nil w.sent)
+  stays_same w i n there =
+      nodes-same w (set w.nodes i n) (w.sent ++ []) (set_same w.nodes i n there) (append-nil w.sent)
 
   -- two effects of one node, one after the other
   twice-same : (w : World C) (i : ℕ) (a b : Effect C) → b.sent ≡ []
@@ -69,17 +69,17 @@ module _ {C : Type 0} where
       (set-set w.nodes i a.after b.after)
       (ap (λ s. (w.sent ++ a.sent) ++ s) none ∙ append-nil (w.sent ++ a.sent))
 
-  links-set : (w : World C) (i : ℕ) (e : Effect C)
+  links_set : (w : World C) (i : ℕ) (e : Effect C)
       → links_of (gone_on w i e) ≡ set (links_of w) i e.after.link
-  links-set w i e = map-set (λ (n : Node C). n.link) w.nodes i e.after
+  links_set w i e = map-set (λ (n : Node C). n.link) w.nodes i e.after
 
   -- what each link counts of the messages delivered
   abbrev counts : World C → ℕ → ℕ → ℕ
   counts w i j = (peer_at (link_at (links_of w) j) i).delivered
 
-  counts-of : (w : World C) (i : ℕ) (n : Node C) (a : ℕ) → slice_get w.nodes i ≡ Some n
+  counts_of : (w : World C) (i : ℕ) (n : Node C) (a : ℕ) → slice_get w.nodes i ≡ Some n
       → (peer_at n.link a).delivered ≡ counts w a i
-  counts-of w i n a there = ap (λ l. (peer_at l a).delivered) (sym (link-of w.nodes i n there))
+  counts_of w i n a there = ap (λ l. (peer_at l a).delivered) (sym (link_of w.nodes i n there))
 
   counts-same : (w : World C) (i : ℕ) (n : Node C) (e : Effect C) → i < length (links_of w)
       → slice_get w.nodes i ≡ Some n
@@ -89,21 +89,21 @@ module _ {C : Type 0} where
     where
       at : (a b : ℕ) → counts (gone_on w i e) a b ≡ counts w a b
       at a b =
-          ap (λ ls. (peer_at (link_at ls b) a).delivered) (links-set w i e)
+          ap (λ ls. (peer_at (link_at ls b) a).delivered) (links_set w i e)
           ∙ link_at-with (λ l. (peer_at l a).delivered ≡ counts w a b) (links_of w) i b e.after.link
           lt
-          (λ d. same a ∙ counts-of w i n a there ∙ ap (λ j. counts w a j) (sym d)) (λ _. refl)
+          (λ d. same a ∙ counts_of w i n a there ∙ ap (λ j. counts w a j) (sym d)) (λ _. refl)
 
   ordered-same : (v w : World C) (posted : ℕ → ℕ → List Message)
       → map (λ (n : Node C). n.core) v.nodes ≡ map (λ (n : Node C). n.core) w.nodes
-      → counts v ≡ counts w → ordered_of v posted ≡ ordered_of w posted
+      → counts v ≡ counts w → fifo_of v posted ≡ fifo_of w posted
   ordered-same v w posted p q = λ k. record { cores = p k; posted = posted; delivered = q k }
 
   -- where a node's link alone goes on and has delivered nothing, the ordered world rests
   link-rests : (w : World C) (posted : ℕ → ℕ → List Message) (i : ℕ) (n : Node C) (link : Linked)
       (fs : List Frame) → i < length (links_of w) → slice_get w.nodes i ≡ Some n
       → ((a : ℕ) → (peer_at link a).delivered ≡ (peer_at n.link a).delivered)
-      → ordered_of (gone_on w i (links n link fs)) posted ≡ ordered_of w posted
+      → fifo_of (gone_on w i (links n link fs)) posted ≡ fifo_of w posted
   link-rests w posted i n link fs lt there same =
       ordered-same (gone_on w i (links n link fs)) w posted
       (map-set_same (λ (m : Node C). m.core) w.nodes i (links n link fs).after n
@@ -135,9 +135,9 @@ module _ {C : Type 0} (c : Config) (Sound : ℕ → C → Type 0) where
       | inl p ↦ rw p.1 (rw p.0 sound)
       | inr old ↦ h.sound j n old
     ];
-    paired = rw (links-set w i e) paired;
+    paired = rw (links_set w i e) paired;
     numbers =
-        λ a b. rw (links-set w i e)
+        λ a b. rw (links_set w i e)
         (link_at-with (λ l. (peer_at l b).sent < 2 ^ 64) (links_of w) i a e.after.link lt
         (λ _. numbers b) (λ _. h.numbers a b));
     fits = fits;
@@ -191,12 +191,12 @@ module _ {C : Type 0} (c : Config) (Sound : ℕ → C → Type 0) where
       ]
 
   -- the strings of frames that a node made
-  strings-of : (posted : ℕ → ℕ → List Message) (fs : List Frame) → All (IsMade c.nodes posted) fs
+  strings_of : (posted : ℕ → ℕ → List Message) (fs : List Frame) → All (IsMade c.nodes posted) fs
       → All (λ (f : Frame). f.ack < 2 ^ 64) fs
       → ((i j : ℕ) → All (FitsMessage c) (posted i j))
       → ((i j : ℕ) → i < c.nodes → j < c.nodes → length (posted i j) < 2 ^ 64)
       → All (IsString c posted) (map spelling fs)
-  strings-of posted fs made acks fits small =
+  strings_of posted fs made acks fits small =
       All-map (IsString c posted) spelling fs
       (λ k d lt. (
         get_or fs k d,
@@ -217,14 +217,14 @@ module _ {C : Type 0} (c : Config) (Sound : ℕ → C → Type 0) where
   posted-on w posted i n core ps h there sound fit has =
       one-on w posted (extended posted ps) i (posts n core ps) h lt sound paired numbers fits
       (λ f made. made-longer c.nodes posted ps f made)
-      (strings-of (extended posted ps) (frames_of n.link ps) made (sends-acks n.link ps acks) fits
+      (strings_of (extended posted ps) (frames_of n.link ps) made (sends-acks n.link ps acks) fits
       small)
     where
       lt : i < length (links_of w)
       lt = node-within w i n there
 
       is : link_at (links_of w) i ≡ n.link
-      is = link-of w.nodes i n there
+      is = link_of w.nodes i n there
 
       long : length (links_of w) ≡ c.nodes
       long = links-length w posted h
@@ -249,7 +249,7 @@ module _ {C : Type 0} (c : Config) (Sound : ℕ → C → Type 0) where
           (λ j. subst (λ l. (peer_at l j).sent < 2 ^ 64) is (h.numbers i j))
 
       acks : (j : ℕ) → (peer_at n.link j).delivered < 2 ^ 64
-      acks j = rw (counts-of w i n j there) (delivered-small w posted i j h lt)
+      acks j = rw (counts_of w i n j there) (delivered-small w posted i j h lt)
 
       fits : (a b : ℕ) → All (FitsMessage c) (extended posted ps a b)
       fits = extended-fits c i posted ps h.fits fit
@@ -273,9 +273,9 @@ module _ {C : Type 0} (c : Config) (Sound : ℕ → C → Type 0) where
   linked-on w posted i n link fs h there paired same made acks =
       one-on w posted posted i (links n link fs) h lt (h.sound i n there) paired
       (λ j. rw (same j)
-      (subst (λ l. (peer_at l j).sent < 2 ^ 64) (link-of w.nodes i n there) (h.numbers i j)))
+      (subst (λ l. (peer_at l j).sent < 2 ^ 64) (link_of w.nodes i n there) (h.numbers i j)))
       h.fits (λ f m. m)
-      (strings-of posted fs made acks h.fits
+      (strings_of posted fs made acks h.fits
       (λ a b lta ltb. posted-small w posted a b h (rw long lta) (rw long ltb)))
     where
       lt : i < length (links_of w)
@@ -296,7 +296,7 @@ module _ {C : Type 0} (c : Config) (Sound : ℕ → C → Type 0) where
       paired : IsPaired (set (links_of w) i (accepted n.link f)) posted
       paired =
           subst (λ l. IsPaired (set (links_of w) i (accepted l f)) posted)
-          (link-of w.nodes i n there)
+          (link_of w.nodes i n there)
           (accepted-paired (links_of w) posted i f h.paired (node-within w i n there)
           (rw (links-length w posted h) made))
 
@@ -338,32 +338,32 @@ module _ {C : Type 0} where
   accepted-posting f false x e eq = absurd (none-some e eq)
 
 module _ {C : Type 0} (rules : Core C) (c : Config) (Sound : ℕ → C → Type 0)
-    (tame : IsTame rules c Sound) where
+    (well_behaved : IsWellBehaved rules c Sound) where
   rested : (w w' : World C) (posted : ℕ → ℕ → List Message) → Follows c Sound w' posted
-      → ordered_of w' posted ≡ ordered_of w posted → FollowsStep rules c Sound w posted w'
+      → fifo_of w' posted ≡ fifo_of w posted → FollowsStep rules c Sound w posted w'
   rested w w' posted h same = (posted, h, rests same)
 
   still : (w : World C) (posted : ℕ → ℕ → List Message) (i : ℕ) (n : Node C)
       → Follows c Sound w posted → slice_get w.nodes i ≡ Some n
       → FollowsStep rules c Sound w posted (gone_on w i (stays n))
   still w posted i n h there =
-      subst (λ v. FollowsStep rules c Sound w posted v) (sym (stays-same w i n there))
+      subst (λ v. FollowsStep rules c Sound w posted v) (sym (stays_same w i n there))
       (rested w w posted h refl)
 
   -- turns
 
-  turn-steps : (w : World C) (posted : ℕ → ℕ → List Message) (i : ℕ) (n : Node C) (o : Outcome C)
+  turn_steps : (w : World C) (posted : ℕ → ℕ → List Message) (i : ℕ) (n : Node C) (o : Outcome C)
       → Follows c Sound w posted → slice_get w.nodes i ≡ Some n → rules.turn n.core ≡ Some o
       → has_numbers n.link o.posted ≡ true
       → FollowsStep rules c Sound w posted (gone_on w i (posts n o.after o.posted))
-  turn-steps w posted i n o h there e has =
+  turn_steps w posted i n o h there e has =
       let sound : Sound i o.after × All (FitsParcel c i) o.posted =
-      tame.turn i n.core o (h.sound i n there) e in (
+      well_behaved.turn i n.core o (h.sound i n there) e in (
         extended posted o.posted,
         posted-on c Sound w posted i n o.after o.posted h there sound.0 sound.1 has,
         turns i (record {
           core = n.core;
-          there = core-of w.nodes i n there;
+          there = core_of w.nodes i n there;
           outcome = o;
           turned = e;
           cores = map-set (λ (m : Node C). m.core) w.nodes i (posts n o.after o.posted).after;
@@ -374,20 +374,20 @@ module _ {C : Type 0} (rules : Core C) (c : Config) (Sound : ℕ → C → Type 
         }),
       )
 
-  turn-cases : (w : World C) (posted : ℕ → ℕ → List Message) (i : ℕ) (n : Node C) (e : Effect C)
+  turn_cases : (w : World C) (posted : ℕ → ℕ → List Message) (i : ℕ) (n : Node C) (e : Effect C)
       → Follows c Sound w posted → slice_get w.nodes i ≡ Some n → (o : Option (Outcome C))
       → rules.turn n.core ≡ o → turned_to rules n o ≡ Some e
       → FollowsStep rules c Sound w posted (gone_on w i e)
-  turn-cases w posted i n e h there None is eq =
+  turn_cases w posted i n e h there None is eq =
       subst (λ x. FollowsStep rules c Sound w posted (gone_on w i x)) (same_Some (stays n) e eq)
       (still w posted i n h there)
-  turn-cases w posted i n e h there (Some o) is eq =
+  turn_cases w posted i n e h there (Some o) is eq =
       let parts : (has_numbers n.link o.posted ≡ true)
       × (Some (posts n o.after o.posted) ≡ Some e) =
       guarded (has_numbers n.link o.posted) (Some (posts n o.after o.posted)) e eq in
       subst (λ x. FollowsStep rules c Sound w posted (gone_on w i x))
       (same_Some (posts n o.after o.posted) e parts.1)
-      (turn-steps w posted i n o h there is parts.0)
+      (turn_steps w posted i n o h there is parts.0)
 
   turn-follows : (w w' : World C) (posted : ℕ → ℕ → List Message) (i : ℕ) → Follows c Sound w posted
       → (o : Option (Node C)) → slice_get w.nodes i ≡ o → turn_of rules c w i o ≡ Some w'
@@ -398,30 +398,30 @@ module _ {C : Type 0} (rules : Core C) (c : Config) (Sound : ℕ → C → Type 
       let e : (e : Effect C) × (turned rules n ≡ Some e) × (gone_on w i e ≡ w') =
       went w i (turned rules n) w' eq in
       subst (λ v. FollowsStep rules c Sound w posted v) e.2
-      (turn-cases w posted i n e.0 h there (rules.turn n.core) refl e.1)
+      (turn_cases w posted i n e.0 h there (rules.turn n.core) refl e.1)
 
   -- deliveries
 
-  next-counts : (w : World C) (posted : ℕ → ℕ → List Message) (i : ℕ) (n : Node C) (f : Frame)
+  next_counts : (w : World C) (posted : ℕ → ℕ → List Message) (i : ℕ) (n : Node C) (f : Frame)
       (core : C) (ps : List Parcel) → Follows c Sound w posted → slice_get w.nodes i ≡ Some n
       → f.source < c.nodes → offered n.link f ≡ verdict.Next
       → counts (gone_on w i (answers n f core ps)) ≡ one_more (counts w) f.source i
-  next-counts w posted i n f core ps h there source next = λ k a b. at a b k
+  next_counts w posted i n f core ps h there source next = λ k a b. at a b k
     where
       lt : i < length (links_of w)
       lt = node-within c Sound w i n there
 
       now : offered (after_sends n.link ps) f ≡ verdict.Next
-      now = sends-offered n.link ps f ∙ next
+      now = sends_offered n.link ps f ∙ next
 
       within : f.source < length (after_sends n.link ps).peers
       within =
           rw (sends-peers n.link ps)
-          (subst (λ l. f.source < length l.peers) (link-of w.nodes i n there)
+          (subst (λ l. f.source < length l.peers) (link_of w.nodes i n there)
           (rw (h.paired.peers i lt) (rw (links-length c Sound w posted h) source)))
 
       sent : (a : ℕ) → (peer_at (after_sends n.link ps) a).delivered ≡ counts w a i
-      sent a = sends-delivered n.link ps a ∙ counts-of w i n a there
+      sent a = sends-delivered n.link ps a ∙ counts_of w i n a there
 
       here : (a b : ℕ) → b ≡ i
           → (peer_at (accepted (after_sends n.link ps) f) a).delivered
@@ -433,7 +433,7 @@ module _ {C : Type 0} (rules : Core C) (c : Config) (Sound : ℕ → C → Type 
                 ∙ next-delivered (after_sends n.link ps) f now within
                 ∙ ap (λ k. k + 1) (sent f.source)
                 ∙ ap (λ k. counts w k i + 1) (sym s) ∙ ap (λ k. counts w a k + 1) (sym d)
-                ∙ sym (more-here (counts w) f.source i a b s d)
+                ∙ sym (more_here (counts w) f.source i a b s d)
             | inr ne ↦
                 next-others (after_sends n.link ps) f a now ne ∙ sent a
                 ∙ ap (λ k. counts w a k) (sym d)
@@ -443,17 +443,17 @@ module _ {C : Type 0} (rules : Core C) (c : Config) (Sound : ℕ → C → Type 
       at : (a b : ℕ)
           → counts (gone_on w i (answers n f core ps)) a b ≡ one_more (counts w) f.source i a b
       at a b =
-          ap (λ ls. (peer_at (link_at ls b) a).delivered) (links-set w i (answers n f core ps))
+          ap (λ ls. (peer_at (link_at ls b) a).delivered) (links_set w i (answers n f core ps))
           ∙ link_at-with (λ l. (peer_at l a).delivered ≡ one_more (counts w) f.source i a b)
           (links_of w) i b (accepted (after_sends n.link ps) f) lt (here a b)
           (λ ne. sym (more-other_dest (counts w) f.source i a b ne))
 
-  answered-on : (w : World C) (posted : ℕ → ℕ → List Message) (i : ℕ) (n : Node C) (f : Frame)
+  answered_on : (w : World C) (posted : ℕ → ℕ → List Message) (i : ℕ) (n : Node C) (f : Frame)
       (core : C) (ps : List Parcel) → Follows c Sound w posted → slice_get w.nodes i ≡ Some n
       → Sound i core → All (FitsParcel c i) ps → has_numbers n.link ps ≡ true
       → IsMade c.nodes posted f
       → Follows c Sound (gone_on w i (answers n f core ps)) (extended posted ps)
-  answered-on w posted i n f core ps h there sound fit has made =
+  answered_on w posted i n f core ps h there sound fit has made =
       subst (λ v. Follows c Sound v (extended posted ps))
       (twice-same w i (posts n core ps)
       (links (posts n core ps).after (accepted (after_sends n.link ps) f) []) refl)
@@ -470,11 +470,11 @@ module _ {C : Type 0} (rules : Core C) (c : Config) (Sound : ℕ → C → Type 
       (answers n f (rules.serve n.core f.source m).after (rules.serve n.core f.source m).posted))
   next-steps w posted i n f m h there fits made next is has = (
     extended posted (rules.serve n.core f.source m).posted,
-    answered-on w posted i n f (rules.serve n.core f.source m).after
+    answered_on w posted i n f (rules.serve n.core f.source m).after
         (rules.serve n.core f.source m).posted h there served-well.0 served-well.1 has made,
     delivers f.source i (record {
       core = n.core;
-      there = core-of w.nodes i n there;
+      there = core_of w.nodes i n there;
       message = m;
       first = made-message c (posted f.source i) f.number (counts w f.source i) f.body m is count
           (subst (λ j. IsBody (posted f.source j) f.number f.body) dest made.body);
@@ -483,7 +483,7 @@ module _ {C : Type 0} (rules : Core C) (c : Config) (Sound : ℕ → C → Type 
           (rules.serve n.core f.source m).posted).after;
       posted = refl;
       delivered =
-          next-counts w posted i n f (rules.serve n.core f.source m).after
+          next_counts w posted i n f (rules.serve n.core f.source m).after
           (rules.serve n.core f.source m).posted h there made.source next;
     }),
   )
@@ -492,11 +492,11 @@ module _ {C : Type 0} (rules : Core C) (c : Config) (Sound : ℕ → C → Type 
       means = next-means n.link f next
 
       dest : f.dest ≡ i
-      dest = means.0 ∙ ap (λ (l : Linked). l.me) (sym (link-of w.nodes i n there))
+      dest = means.0 ∙ ap (λ (l : Linked). l.me) (sym (link_of w.nodes i n there))
           ∙ h.paired.me i (node-within c Sound w i n there)
 
       count : f.number ≡ counts w f.source i + 1
-      count = means.1 ∙ ap (λ k. k + 1) (counts-of w i n f.source there)
+      count = means.1 ∙ ap (λ k. k + 1) (counts_of w i n f.source there)
 
       fit : FitsMessage c m
       fit = carried c f.number f.body m is fits.body
@@ -504,7 +504,7 @@ module _ {C : Type 0} (rules : Core C) (c : Config) (Sound : ℕ → C → Type 
       served-well : Sound i (rules.serve n.core f.source m).after
           × All (FitsParcel c i) (rules.serve n.core f.source m).posted
       served-well =
-          tame.serve i f.source n.core m (h.sound i n there) made.source
+          well_behaved.serve i f.source n.core m (h.sound i n there) made.source
           (λ e. made.apart (e ∙ sym dest)) fit
 
   served-cases : (w : World C) (posted : ℕ → ℕ → List Message) (i : ℕ) (n : Node C) (f : Frame)
@@ -539,19 +539,19 @@ module _ {C : Type 0} (rules : Core C) (c : Config) (Sound : ℕ → C → Type 
       (link-rests w posted i n (accepted n.link f) [] (node-within c Sound w i n there) there
       same))
 
-  received-cases : (w : World C) (posted : ℕ → ℕ → List Message) (i : ℕ) (n : Node C) (f : Frame)
+  received_cases : (w : World C) (posted : ℕ → ℕ → List Message) (i : ℕ) (n : Node C) (f : Frame)
       (e : Effect C) → Follows c Sound w posted → slice_get w.nodes i ≡ Some n → Fits c f
       → IsMade c.nodes posted f
       → (v : Verdict) → offered n.link f ≡ v → received_as rules v n f ≡ Some e
       → FollowsStep rules c Sound w posted (gone_on w i e)
-  received-cases w posted i n f e h there fits made verdict.NotMine is eq =
+  received_cases w posted i n f e h there fits made verdict.NotMine is eq =
       subst (λ x. FollowsStep rules c Sound w posted (gone_on w i x)) (same_Some (stays n) e eq)
       (still w posted i n h there)
-  received-cases w posted i n f e h there fits made verdict.Next is eq =
+  received_cases w posted i n f e h there fits made verdict.Next is eq =
       served-cases w posted i n f e h there fits made is f.body refl eq
-  received-cases w posted i n f e h there fits made verdict.Repeat is eq =
+  received_cases w posted i n f e h there fits made verdict.Repeat is eq =
       accepted-rests w posted i n f e h there made (λ a. repeat-delivered n.link f a is) eq
-  received-cases w posted i n f e h there fits made verdict.Ahead is eq =
+  received_cases w posted i n f e h there fits made verdict.Ahead is eq =
       accepted-rests w posted i n f e h there made (λ a. ahead-delivered n.link f a is) eq
 
   -- a string that spells a frame is received as that frame
@@ -570,7 +570,7 @@ module _ {C : Type 0} (rules : Core C) (c : Config) (Sound : ℕ → C → Type 
       → FollowsStep rules c Sound w posted (gone_on w i e)
   unfolding received
   delivery-steps config w posted i n bytes e h there string eq =
-      received-cases w posted i n string.0 e h there string.1.fits string.2
+      received_cases w posted i n string.0 e h there string.1.fits string.2
       (offered n.link string.0) refl (sym (delivered-is config n string.0 bytes string.1) ∙ eq)
 
   -- it is a string of the world still after it came
@@ -653,7 +653,7 @@ module _ {C : Type 0} (rules : Core C) (c : Config) (Sound : ℕ → C → Type 
       long = links-length c Sound w posted h
 
       is : link_at (links_of w) i ≡ n.link
-      is = link-of w.nodes i n there
+      is = link_of w.nodes i n there
 
       paired : IsPaired (set (links_of w) i (after_pulse n.link to)) posted
       paired =
@@ -666,8 +666,8 @@ module _ {C : Type 0} (rules : Core C) (c : Config) (Sound : ℕ → C → Type 
           (pulsed-made (links_of w) posted i to h.paired lt (rw long within) apart))
 
       acks : All (λ (f : Frame). f.ack < 2 ^ 64) (frames_again n.link to)
-      acks = pulse-acks n.link to
-          (rw (counts-of w i n to there) (delivered-small c Sound w posted i to h lt))
+      acks = pulse_acks n.link to
+          (rw (counts_of w i n to there) (delivered-small c Sound w posted i to h lt))
 
   pulse-follows : (w w' : World C) (posted : ℕ → ℕ → List Message) (i to : ℕ)
       → Follows c Sound w posted → to < length w.nodes → i ≢ to → (o : Option (Node C))
@@ -680,22 +680,22 @@ module _ {C : Type 0} (rules : Core C) (c : Config) (Sound : ℕ → C → Type 
       (same_Some (gone_on w i (pulsing n to)) w' eq)
       (pulse-steps w posted i to n h there (subst (λ k. to < k) h.nodes within) apart)
 
-apart-of : (i j : ℕ) → not (i == j) ≡ true → i ≢ j
-apart-of i j e same = absurd (true≢false (sym e ∙ ap not (eq-eqb i j same)))
+apart_of : (i j : ℕ) → not (i == j) ≡ true → i ≢ j
+apart_of i j e same = absurd (true≢false (sym e ∙ ap not (eq-eqb i j same)))
 
 -- each move of the world whose node does not go on is a move of the ordered world, or none
 pub follows : {C : Type 0} (rules : Core C) (c : Config) (Sound : ℕ → C → Type 0) → IsConfig c
-    → IsTame rules c Sound → (w w' : World C) (posted : ℕ → ℕ → List Message) (move : Move)
+    → IsWellBehaved rules c Sound → (w w' : World C) (posted : ℕ → ℕ → List Message) (move : Move)
     → Follows c Sound w posted → moved rules c w move ≡ Some w'
     → FollowsStep rules c Sound w posted w'
 unfolding moved
-follows rules c Sound config tame w w' posted (Turn i) h eq =
-    turn-follows rules c Sound tame w w' posted i h (slice_get w.nodes i) refl
+follows rules c Sound config well_behaved w w' posted (Turn i) h eq =
+    turn-follows rules c Sound well_behaved w w' posted i h (slice_get w.nodes i) refl
     (guarded (is_named w (Turn i)) (made_by rules c w (Turn i)) w' eq).1
-follows rules c Sound config tame w w' posted (Deliver index to) h eq =
-    sent-follows rules c Sound tame config w w' posted index to h (slice_get w.sent index) refl
+follows rules c Sound config well_behaved w w' posted (Deliver index to) h eq =
+    sent-follows rules c Sound well_behaved config w w' posted index to h (slice_get w.sent index) refl
     (guarded (is_named w (Deliver index to)) (made_by rules c w (Deliver index to)) w' eq).1
-follows rules c Sound config tame w w' posted (Pulse from to) h eq =
+follows rules c Sound config well_behaved w w' posted (Pulse from to) h eq =
     let parts : (is_named w (Pulse from to) ≡ true)
     × (made_by rules c w (Pulse from to) ≡ Some w') =
     guarded (is_named w (Pulse from to)) (made_by rules c w (Pulse from to)) w' eq in
@@ -704,8 +704,8 @@ follows rules c Sound config tame w w' posted (Pulse from to) h eq =
     parts.0).1 in
     let both : (nat_lt to (length w.nodes) ≡ true) × (not (from == to) ≡ true) =
     and_parts (nat_lt to (length w.nodes)) (not (from == to)) more in
-    pulse-follows rules c Sound tame w w' posted from to h (ltb-true to (length w.nodes) both.0)
-    (apart-of from to both.1) (slice_get w.nodes from) refl parts.1
+    pulse-follows rules c Sound well_behaved w w' posted from to h (ltb-true to (length w.nodes) both.0)
+    (apart_of from to both.1) (slice_get w.nodes from) refl parts.1
 
 -- each string ever sent is a frame
 pub none_refused : {C : Type 0} (c : Config) (Sound : ℕ → C → Type 0) → IsConfig c

@@ -21,8 +21,8 @@ use Rattle.ivy_moves.specs.Parts.{delivery_marks, pulse_marks, CanBeMade}
 use Rattle.ivy_moves.specs.Parts.{AllCanBeMade, Happens, AllHappen, turn_marks, turn_given}
 use Rattle.ivy_moves.specs.Parts.{delivery_given, pulse_given, given_by, given_at}
 use Rattle.ivy_moves.specs.Parts.{parts_of, AreParts, GoOn, PartsGoOn}
-use Rattle.ivy_moves.proofs.Splitting.{part-sent, before-sent}
-use Rattle.ivy_moves.proofs.Places.{set-same, set-there, set-elsewhere}
+use Rattle.ivy_moves.proofs.Splitting.{part_sent, before-sent}
+use Rattle.ivy_moves.proofs.Places.{set_same, set-there, set-elsewhere}
 
 -- this list at its node, and nothing elsewhere
 abbrev pub only_at : ℕ → List Mark → ℕ → List Mark
@@ -64,12 +64,12 @@ module _ {C : Type 0} where
       subst (λ l. Contains l bytes) (sym sent) (Contains-append_left v.sent strings bytes can)
   can-later v u k (Pulse to) strings sent count can = (rw count can.0, can.1)
 
-  all-later : (v u : World C) (k : ℕ) (ms : List Mark) (strings : List (List ℕ))
+  all_later : (v u : World C) (k : ℕ) (ms : List Mark) (strings : List (List ℕ))
       → u.sent ≡ v.sent ++ strings → length u.nodes ≡ length v.nodes
       → AllCanBeMade v.sent (length v.nodes) k ms → AllCanBeMade u.sent (length u.nodes) k ms
-  all-later v u k [] strings sent count can = can
-  all-later v u k (m ∷ ms) strings sent count can =
-      (can-later v u k m strings sent count can.0, all-later v u k ms strings sent count can.1)
+  all_later v u k [] strings sent count can = can
+  all_later v u k (m ∷ ms) strings sent count can =
+      (can-later v u k m strings sent count can.0, all_later v u k ms strings sent count can.1)
 
 module _ {C : Type 0} (rules : Core C) (c : Config) where
   -- one run after another
@@ -116,10 +116,10 @@ module _ {C : Type 0} (rules : Core C) (c : Config) where
     pub nodes : end.nodes ≡ set v.nodes k e.after
     pub sent : end.sent ≡ v.sent ++ e.sent
 
-  turn-went : (v : World C) (k : ℕ) (n : Node C) (e : Effect C) → slice_get v.nodes k ≡ Some n
+  turn_went : (v : World C) (k : ℕ) (n : Node C) (e : Effect C) → slice_get v.nodes k ≡ Some n
       → Happens rules c n Turn e → NodeWent v k (Turn ∷ []) e
   unfolding moved
-  turn-went v k n e there h =
+  turn_went v k n e there h =
       let mid : World C = gone_on v k e in
       let named : nat_lt k (length v.nodes) ≡ true =
       lt-ltb k (length v.nodes) (slice_get_within v.nodes k n there) in
@@ -139,11 +139,11 @@ module _ {C : Type 0} (rules : Core C) (c : Config) where
         sent = refl;
       }
 
-  delivery-went : (v : World C) (k : ℕ) (n : Node C) (bytes : List ℕ) (e : Effect C)
+  delivery_went : (v : World C) (k : ℕ) (n : Node C) (bytes : List ℕ) (e : Effect C)
       → slice_get v.nodes k ≡ Some n → Happens rules c n (Delivery bytes) e → Contains v.sent bytes
       → NodeWent v k (Delivery bytes ∷ []) e
   unfolding moved
-  delivery-went v k n bytes e there h sent =
+  delivery_went v k n bytes e there h sent =
       let index = sent.0 in
       let string : slice_get v.sent index ≡ Some bytes =
       slice_get-get_or v.sent index bytes sent.1 ∙ ap Some sent.2 in
@@ -174,11 +174,11 @@ module _ {C : Type 0} (rules : Core C) (c : Config) where
         sent = refl;
       }
 
-  pulse-went : (v : World C) (k to : ℕ) (n : Node C) (e : Effect C) → slice_get v.nodes k ≡ Some n
+  pulse_went : (v : World C) (k to : ℕ) (n : Node C) (e : Effect C) → slice_get v.nodes k ≡ Some n
       → Happens rules c n (Pulse to) e → CanBeMade v.sent (length v.nodes) k (Pulse to)
       → NodeWent v k (Pulse to ∷ []) e
   unfolding moved
-  pulse-went v k to n e there h can =
+  pulse_went v k to n e there h can =
       let mid : World C = gone_on v k (pulsing n to) in
       let m = move.Pulse k to in
       let named : (nat_lt k (length v.nodes) && (nat_lt to (length v.nodes) && not (k == to)))
@@ -208,9 +208,9 @@ module _ {C : Type 0} (rules : Core C) (c : Config) where
   one-went : (v : World C) (k : ℕ) (n : Node C) (m : Mark) (e : Effect C)
       → slice_get v.nodes k ≡ Some n → Happens rules c n m e → CanBeMade v.sent (length v.nodes) k m
       → NodeWent v k (m ∷ []) e
-  one-went v k n Turn e there h can = turn-went v k n e there h
-  one-went v k n (Delivery bytes) e there h can = delivery-went v k n bytes e there h can
-  one-went v k n (Pulse to) e there h can = pulse-went v k to n e there h can
+  one-went v k n Turn e there h can = turn_went v k n e there h
+  one-went v k n (Delivery bytes) e there h can = delivery_went v k n bytes e there h can
+  one-went v k n (Pulse to) e there h can = pulse_went v k to n e there h can
 
   -- all events of one node
   node-went : (v : World C) (k : ℕ) (n : Node C) (ms : List Mark) (e : Effect C)
@@ -219,7 +219,7 @@ module _ {C : Type 0} (rules : Core C) (c : Config) where
   node-went v k n [] e there h can = record {
     end = v;
     run = record { moves = []; leads = refl; are = λ j. only-none (k == j) };
-    nodes = sym (ap (λ (x : Effect C). set v.nodes k x.after) h ∙ set-same v.nodes k n there);
+    nodes = sym (ap (λ (x : Effect C). set v.nodes k x.after) h ∙ set_same v.nodes k n there);
     sent = sym (ap (λ (x : Effect C). v.sent ++ x.sent) h ∙ append-nil v.sent);
   }
   node-went v k n (m ∷ ms) e there h can =
@@ -232,7 +232,7 @@ module _ {C : Type 0} (rules : Core C) (c : Config) where
       let rest : Effect C = h.2.0 in
       let b : NodeWent a.end k ms rest =
       node-went a.end k first.after ms rest after h.2.1
-      (all-later v a.end k ms first.sent a.sent count can.1) in
+      (all_later v a.end k ms first.sent a.sent count can.1) in
       record {
         end = b.end;
         run = runs-same v b.end (λ j. only_at k (m ∷ []) j ++ only_at k ms j) (only_at k (m ∷ ms))
@@ -249,9 +249,9 @@ module _ {C : Type 0} (rules : Core C) (c : Config) where
   abbrev from_node : (ℕ → List Mark) → ℕ → ℕ → List Mark
   from_node more k j = if nat_lt j k then [] else more j
 
-  from-next : (more : ℕ → List Mark) (k j : ℕ)
+  from_next : (more : ℕ → List Mark) (k j : ℕ)
       → from_node more k j ≡ only_at k (more k) j ++ from_node more (k + 1) j
-  from-next more k j = elim (cases_lt j k) [
+  from_next more k j = elim (cases_lt j k) [
     | inl below ↦
         let apart : k ≢ j = (λ same. omega (arith, below, same)) in
         let past : j < k + 1 = omega (arith, below) in
@@ -339,7 +339,7 @@ module _ {C : Type 0} (rules : Core C) (c : Config) where
               subst (AllCanBeMade went.end.sent (length went.end.nodes) j) (sym (before j below)) tt
           | inr past ↦
               subst (AllCanBeMade went.end.sent (length went.end.nodes) j) (sym (later j past))
-              (all-later v went.end j (from_node more k j) happen.0.sent went.sent same_count
+              (all_later v went.end j (from_node more k j) happen.0.sent went.sent same_count
               (on.can j))
         ];
         none = λ j past. elim (cases_lt j (k + 1)) [
@@ -364,7 +364,7 @@ module _ {C : Type 0} (rules : Core C) (c : Config) where
       let rest = nodes-went left (k + 1) one.end more one.count one.on in (
         rest.0,
         runs-same v rest.0 (λ j. only_at k (more k) j ++ from_node more (k + 1) j)
-            (from_node more k) (from-next more k)
+            (from_node more k) (from_next more k)
             (runs-append v one.end rest.0 (only_at k (more k)) (from_node more (k + 1)) one.run
             rest.1),
       )
@@ -388,7 +388,7 @@ module _ {C : Type 0} (rules : Core C) (c : Config) where
         record {
           run = runs-append w end went.0 parts more run on_end;
           before = λ s. before-sent rules c end went.0 more s on_end;
-          sent = λ j n there e happen s. part-sent rules c end went.0 more j n e s on_end there
+          sent = λ j n there e happen s. part_sent rules c end went.0 more j n e s on_end there
               happen;
         },
       )

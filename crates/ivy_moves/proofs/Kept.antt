@@ -9,7 +9,7 @@ use Rattle.ivy_moves.specs.declared.moves.Move.{Move}
 use Rattle.ivy_moves.specs.declared.moves.Move.TheVariants.{Turn, Deliver, Pulse}
 use Rattle.ivy_moves.specs.Cores.{Core}
 use Rattle.ivy_moves.specs.Worlds.{World, moved, Moves, HasNoneAfter, MayGoOn, GoesOnWith, Leads}
-use Rattle.ivy_moves.specs.Following.{Follows, IsTame, FollowsStep}
+use Rattle.ivy_moves.specs.Following.{Follows, IsWellBehaved, FollowsStep}
 use Rattle.ivy_moves.proofs.Following.{follows, early-follows}
 
 -- a move whose node goes on with nothing
@@ -23,12 +23,12 @@ stays-there rules c w w' (Pulse from to) made =
     record { mid = w'; made = made; more = []; goes_on = (refl, refl) }
 
 -- there is no world after a move that can't be made
-pub none-after : {C : Type 0} (rules : Core C) (c : Config) (w : World C) (move : Move)
+pub none_after : {C : Type 0} (rules : Core C) (c : Config) (w : World C) (move : Move)
     → moved rules c w move ≡ None → HasNoneAfter rules c w move
-none-after rules c w move none w' moves = none-some moves.mid (sym none ∙ moves.made)
+none_after rules c w move none w' moves = none-some moves.mid (sym none ∙ moves.made)
 
 module _ {C : Type 0} (rules : Core C) (c : Config) (Sound : ℕ → C → Type 0) (config : IsConfig c)
-    (tame : IsTame rules c Sound) where
+    (well_behaved : IsWellBehaved rules c Sound) where
   -- it holds after each step of a world that follows the ordered one
   abbrev pub IsKeptBySteps : (World C → (ℕ → ℕ → List Message) → Type 0) → Type 0
   IsKeptBySteps Keeps =
@@ -44,18 +44,18 @@ module _ {C : Type 0} (rules : Core C) (c : Config) (Sound : ℕ → C → Type 
         → FollowsWith Keeps w'
     stepped w w' f next = (next.0, next.1, steps w w' f.0 f.1 f.2 next)
 
-    gone-on : (w w' : World C) (i : ℕ) (more : List (List ℕ)) → FollowsWith Keeps w
+    gone_on : (w w' : World C) (i : ℕ) (more : List (List ℕ)) → FollowsWith Keeps w
         → GoesOnWith rules c w i more w' → FollowsWith Keeps w'
-    gone-on w w' i [] f done = subst (FollowsWith Keeps) (sym done) f
-    gone-on w w' i (bytes ∷ more) f on =
-        gone-on on.1.0 w' i more
+    gone_on w w' i [] f done = subst (FollowsWith Keeps) (sym done) f
+    gone_on w w' i (bytes ∷ more) f on =
+        gone_on on.1.0 w' i more
         (stepped w on.1.0 f
-        (early-follows rules c Sound tame config w on.1.0 f.0 i bytes f.1 on.0 on.1.1)) on.1.2
+        (early-follows rules c Sound well_behaved config w on.1.0 f.0 i bytes f.1 on.0 on.1.1)) on.1.2
 
     may-go-on : (w w' : World C) (move : Move) (more : List (List ℕ)) → FollowsWith Keeps w
         → MayGoOn rules c w move more w' → FollowsWith Keeps w'
     may-go-on w w' (Turn i) more f on = subst (FollowsWith Keeps) (sym on.1) f
-    may-go-on w w' (Deliver index to) more f on = gone-on w w' to more f on
+    may-go-on w w' (Deliver index to) more f on = gone_on w w' to more f on
     may-go-on w w' (Pulse from to) more f on = subst (FollowsWith Keeps) (sym on.1) f
 
     pub move-keeps : (w w' : World C) (move : Move) → FollowsWith Keeps w → Moves rules c w move w'
@@ -63,7 +63,7 @@ module _ {C : Type 0} (rules : Core C) (c : Config) (Sound : ℕ → C → Type 
     move-keeps w w' move f moves =
         may-go-on moves.mid w' move moves.more
         (stepped w moves.mid f
-        (follows rules c Sound config tame w moves.mid f.0 move f.1 moves.made)) moves.goes_on
+        (follows rules c Sound config well_behaved w moves.mid f.0 move f.1 moves.made)) moves.goes_on
 
     pub moves-keep : (w w' : World C) (moves : List Move) → FollowsWith Keeps w
         → Leads rules c w moves w' → FollowsWith Keeps w'

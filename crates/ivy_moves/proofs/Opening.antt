@@ -10,8 +10,8 @@ use Rattle.ivy_link.specs.Linked.{Peer, Linked, fresh, first_link, peer_at}
 use Rattle.ivy_link.specs.Paired.{IsPaired, link_at}
 use Rattle.ivy_moves.specs.Nodes.{Node}
 use Rattle.ivy_moves.specs.Worlds.{World}
-use Rattle.ivy_moves.specs.Following.{links_of, ordered_of, IsString, Follows, IsOpening}
-use Rattle.ivy_moves.proofs.Places.{link-of}
+use Rattle.ivy_moves.specs.Following.{links_of, fifo_of, IsString, Follows, IsOpening}
+use Rattle.ivy_moves.proofs.Places.{link_of}
 
 fresh-at : (n j : ℕ) → get_or (replicate n fresh) j fresh ≡ fresh
 fresh-at zero j = refl
@@ -25,7 +25,7 @@ module _ {C : Type 0} (c : Config) (Sound : ℕ → C → Type 0) (w : World C)
       × (length (links_of w) ≤ i)
   links-new i =
       elim (slice_get_cases w.nodes i).1 [
-        | inl there ↦ inl (link-of w.nodes i there.0 there.2 ∙ open_so.links i there.0 there.2)
+        | inl there ↦ inl (link_of w.nodes i there.0 there.2 ∙ open_so.links i there.0 there.2)
         | inr past ↦
             inr (
               get_or_past (links_of w) i (first_link i 0)
@@ -72,7 +72,7 @@ module _ {C : Type 0} (c : Config) (Sound : ℕ → C → Type 0) (w : World C)
   }
 
   -- nothing was posted or delivered in its ordered world
-  pub opening_ordered : ordered_of w (λ i j. [])
+  pub opening_ordered : fifo_of w (λ i j. [])
       ≡ record {
         cores = map (λ (n : Node C). n.core) w.nodes;
         posted = λ i j. [];

@@ -10,7 +10,7 @@ use Rattle.std.proofs.lemmas.Option.{same_Some, none-some, slice_get_within}
 use Rattle.ivy_model.specs.declared.Config.{Config}
 use Rattle.ivy_model.specs.declared.Fault.{Fault}
 use Rattle.ivy_wire.specs.declared.FrameKind.{FrameKind}
-use Rattle.ivy_wire.specs.Faults.{checked}
+use Rattle.ivy_wire.specs.DecodeErrors.{checked}
 use Rattle.ivy_wire.specs.Reading.{frame_at}
 use Rattle.ivy_link.specs.declared.Verdict.{Verdict}
 use Rattle.ivy_link.specs.declared.Verdict.TheVariants as verdict
@@ -39,13 +39,13 @@ sent-own i j is (x ∷ xs) ys same =
     else sent_from j (replicate (length xs) i ++ is) (xs ++ ys)) (eq-eqb i j same)
     ∙ ap (λ l. x ∷ l) (sent-own i j is xs ys same)
 
-sent-others : (i j : ℕ) (is : List ℕ) (xs ys : List (List ℕ)) → i ≢ j
+sent_others : (i j : ℕ) (is : List ℕ) (xs ys : List (List ℕ)) → i ≢ j
     → sent_from j (replicate (length xs) i ++ is) (xs ++ ys) ≡ sent_from j is ys
-sent-others i j is [] ys ne = refl
-sent-others i j is (x ∷ xs) ys ne =
+sent_others i j is [] ys ne = refl
+sent_others i j is (x ∷ xs) ys ne =
     ap (λ b. if b then x ∷ sent_from j (replicate (length xs) i ++ is) (xs ++ ys)
     else sent_from j (replicate (length xs) i ++ is) (xs ++ ys)) (ne_eqb i j ne)
-    ∙ sent-others i j is xs ys ne
+    ∙ sent_others i j is xs ys ne
 
 module _ {C : Type 0} (rules : Core C) (c : Config) where
   -- events after events
@@ -88,9 +88,9 @@ module _ {C : Type 0} (rules : Core C) (c : Config) where
     pub nodes : end.nodes ≡ set w.nodes i effect.after
     pub sent : end.sent ≡ w.sent ++ effect.sent
 
-  gone-further : (w mid end : World C) (i : ℕ) (ms ms' : List Mark) → IsGone w i ms mid
+  gone_further : (w mid end : World C) (i : ℕ) (ms ms' : List Mark) → IsGone w i ms mid
       → IsGone mid i ms' end → IsGone w i (ms ++ ms') end
-  gone-further w mid end i ms ms' a b = record {
+  gone_further w mid end i ms ms' a b = record {
     node = a.node;
     there = a.there;
     effect = followed_by a.effect b.effect;
@@ -115,10 +115,10 @@ module _ {C : Type 0} (rules : Core C) (c : Config) where
   turned-marks n e None is eq = sym (same_Some (stays n) e (sym (ap (turned_to rules n) is) ∙ eq))
   turned-marks n e (Some o) is eq = single n Turn e ((o, is), eq)
 
-  turn-gone : (w mid : World C) (i : ℕ) (o : Option (Node C)) → slice_get w.nodes i ≡ o
+  turn_gone : (w mid : World C) (i : ℕ) (o : Option (Node C)) → slice_get w.nodes i ≡ o
       → turn_of rules c w i o ≡ Some mid → IsGone w i (turn_given rules c o) mid
-  turn-gone w mid i None there eq = absurd (none-some mid eq)
-  turn-gone w mid i (Some n) there eq =
+  turn_gone w mid i None there eq = absurd (none-some mid eq)
+  turn_gone w mid i (Some n) there eq =
       let e : (e : Effect C) × (turned rules n ≡ Some e) × (gone_on w i e ≡ mid) =
       went w i (turned rules n) mid eq in
       record {
@@ -131,11 +131,11 @@ module _ {C : Type 0} (rules : Core C) (c : Config) where
       }
 
   -- a delivery
-  not-mine : (n : Node C) (bytes : List ℕ) (e : Effect C) (r : Result FrameKind Fault)
+  not_mine : (n : Node C) (bytes : List ℕ) (e : Effect C) (r : Result FrameKind Fault)
       → verdict_as r n bytes ≡ verdict.NotMine → delivered_as rules r n bytes ≡ Some e → e ≡ stays n
   unfolding received
-  not-mine n bytes e (Err fault) mine eq = absurd (none-some e eq)
-  not-mine n bytes e (Ok kind) mine eq =
+  not_mine n bytes e (Err fault) mine eq = absurd (none-some e eq)
+  not_mine n bytes e (Ok kind) mine eq =
       sym (same_Some (stays n) e
       (sym (ap (λ v. received_as rules v n (frame_at kind bytes)) mine) ∙ eq))
 
@@ -143,7 +143,7 @@ module _ {C : Type 0} (rules : Core C) (c : Config) where
       → verdict_of c n bytes ≡ v → delivered rules c n bytes ≡ Some e
       → AllHappen rules c n (delivery_marks v bytes) e
   unfolding delivered
-  delivered-marks n bytes e verdict.NotMine is eq = not-mine n bytes e (checked c bytes) is eq
+  delivered-marks n bytes e verdict.NotMine is eq = not_mine n bytes e (checked c bytes) is eq
   delivered-marks n bytes e verdict.Next is eq =
       single n (Delivery bytes) e
       ((λ same. (let apart : verdict.Next ≡ verdict.NotMine = sym is ∙ same in absurd cc)), eq)
@@ -154,12 +154,12 @@ module _ {C : Type 0} (rules : Core C) (c : Config) where
       single n (Delivery bytes) e
       ((λ same. (let apart : verdict.Ahead ≡ verdict.NotMine = sym is ∙ same in absurd cc)), eq)
 
-  delivery-gone : (w mid : World C) (i : ℕ) (o : Option (Node C)) (s : Option (List ℕ))
+  delivery_gone : (w mid : World C) (i : ℕ) (o : Option (Node C)) (s : Option (List ℕ))
       → slice_get w.nodes i ≡ o → delivery_of rules c w i o s ≡ Some mid
       → IsGone w i (delivery_given rules c o s) mid
-  delivery-gone w mid i None s there eq = absurd (none-some mid eq)
-  delivery-gone w mid i (Some n) None there eq = absurd (none-some mid eq)
-  delivery-gone w mid i (Some n) (Some bytes) there eq =
+  delivery_gone w mid i None s there eq = absurd (none-some mid eq)
+  delivery_gone w mid i (Some n) None there eq = absurd (none-some mid eq)
+  delivery_gone w mid i (Some n) (Some bytes) there eq =
       let v = verdict_of c n bytes in
       let e : (e : Effect C) × (delivered rules c n bytes ≡ Some e)
       × (record (gone_on w i e) { early = remembered v w.early i bytes } ≡ mid) =
@@ -186,10 +186,10 @@ module _ {C : Type 0} (rules : Core C) (c : Config) where
       single n (Pulse to) (pulsing n to)
       (refl, (λ none. (let some : s ∷ strings ≡ [] = sym is ∙ none in absurd cc)))
 
-  pulse-gone : (w mid : World C) (i to : ℕ) (o : Option (Node C)) → slice_get w.nodes i ≡ o
+  pulse_gone : (w mid : World C) (i to : ℕ) (o : Option (Node C)) → slice_get w.nodes i ≡ o
       → pulse_of rules c w i to o ≡ Some mid → IsGone w i (pulse_given rules c to o) mid
-  pulse-gone w mid i to None there eq = absurd (none-some mid eq)
-  pulse-gone w mid i to (Some n) there eq =
+  pulse_gone w mid i to None there eq = absurd (none-some mid eq)
+  pulse_gone w mid i to (Some n) there eq =
       let is : gone_on w i (pulsing n to) ≡ mid = same_Some (gone_on w i (pulsing n to)) mid eq in
       record {
         node = n;
@@ -205,12 +205,12 @@ module _ {C : Type 0} (rules : Core C) (c : Config) where
       → IsGone w (node_of m) (given_by rules c w m) mid
   unfolding moved
   moved-gone w mid (move.Turn i) eq =
-      turn-gone w mid i (slice_get w.nodes i) refl (guarded (is_named w (move.Turn i)) _ mid eq).1
+      turn_gone w mid i (slice_get w.nodes i) refl (guarded (is_named w (move.Turn i)) _ mid eq).1
   moved-gone w mid (move.Deliver index to) eq =
-      delivery-gone w mid to (slice_get w.nodes to) (slice_get w.sent index) refl
+      delivery_gone w mid to (slice_get w.nodes to) (slice_get w.sent index) refl
       (guarded (is_named w (move.Deliver index to)) _ mid eq).1
   moved-gone w mid (move.Pulse from to) eq =
-      pulse-gone w mid from to (slice_get w.nodes from) refl
+      pulse_gone w mid from to (slice_get w.nodes from) refl
       (guarded (is_named w (move.Pulse from to)) _ mid eq).1
 
   gone-with : (w mid end : World C) (i : ℕ) (ms : List Mark) (more : List (List ℕ))
@@ -221,10 +221,10 @@ module _ {C : Type 0} (rules : Core C) (c : Config) where
   gone-with w mid end i ms (bytes ∷ more) a on =
       let given = delivery_given rules c (slice_get mid.nodes i) (Some bytes) in
       let b : IsGone mid i given on.1.0 =
-      delivery-gone mid on.1.0 i (slice_get mid.nodes i) (Some bytes) refl on.1.1 in
+      delivery_gone mid on.1.0 i (slice_get mid.nodes i) (Some bytes) refl on.1.1 in
       subst (λ l. IsGone w i l end)
       (append_assoc ms given (given_further rules c on.1.0 i more end on.1.2))
-      (gone-with w on.1.0 end i (ms ++ given) more (gone-further w mid on.1.0 i ms given a b)
+      (gone-with w on.1.0 end i (ms ++ given) more (gone_further w mid on.1.0 i ms given a b)
       on.1.2)
 
   gone-after : (w mid end : World C) (m : Move) (ms : List Mark) (more : List (List ℕ))
@@ -247,10 +247,10 @@ module _ {C : Type 0} (rules : Core C) (c : Config) where
 
 module _ {C : Type 0} (rules : Core C) (c : Config) where
   -- one node went on first, and the parts of all led on from there
-  led-on : (w mid end : World C) (i : ℕ) (ms : List Mark) (rest : ℕ → List Mark)
+  led_on : (w mid end : World C) (i : ℕ) (ms : List Mark) (rest : ℕ → List Mark)
       → IsGone rules c w i ms mid → AreMadeByParts rules c mid rest end
       → AreMadeByParts rules c w (λ j. (if i == j then ms else []) ++ rest j) end
-  led-on w mid end i ms rest a made = record {
+  led_on w mid end i ms rest a made = record {
     strings = a.effect.sent ++ made.strings;
     sent = made.sent ∙ ap (λ l. l ++ made.strings) a.sent
         ∙ append_assoc w.sent a.effect.sent made.strings;
@@ -304,7 +304,7 @@ module _ {C : Type 0} (rules : Core C) (c : Config) where
             subst (λ l. AllHappen rules c n (l ++ rest j) b.0)
                 (sym (ap (λ t. if t then ms else []) (ne_eqb i j apart))) b.1,
             b.2,
-            sent-others i j made.senders a.effect.sent made.strings apart ∙ b.3,
+            sent_others i j made.senders a.effect.sent made.strings apart ∙ b.3,
           )
 
   parts-made : (moves : List Move) (w end : World C) (lead : Leads rules c w moves end)
@@ -320,7 +320,7 @@ module _ {C : Type 0} (rules : Core C) (c : Config) where
         (stays n, refl, ap (λ (v : World C). slice_get v.nodes j) lead ∙ there, refl);
   }
   parts-made (m ∷ moves) w end lead =
-      led-on w lead.0 end (node_of m)
+      led_on w lead.0 end (node_of m)
       (given_by rules c w m ++ given_after rules c lead.1.mid m lead.1.more lead.0
       lead.1.goes_on) (parts_of rules c moves lead.0 end lead.2)
       (move-gone rules c w lead.0 m lead.1) (parts-made moves lead.0 end lead.2)

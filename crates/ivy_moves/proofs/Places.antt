@@ -10,7 +10,7 @@ use Rattle.std.proofs.lemmas.Option.{same_Some, none-some, slice_get-map, get_or
 use Rattle.ivy_link.specs.Linked.{Peer, Linked, fresh, first_link, peer_at, with_peer}
 use Rattle.ivy_link.specs.Paired.{link_at}
 use Rattle.ivy_moves.specs.Nodes.{Node}
-use Rattle.ivy_moves.specs.Ordered.{one_more}
+use Rattle.ivy_moves.specs.FifoWorld.{one_more}
 
 -- what a test guards
 pub guarded : {X : Type 0} (b : Bool) (o : Option X) (x : X) → (if b then o else None) ≡ Some x
@@ -28,11 +28,11 @@ set-cases (z ∷ xs) (suc i) zero y x e = inr e
 set-cases (z ∷ xs) (suc i) (suc j) y x e =
     ⊎_elim (λ p. inl (ap suc p.0, p.1)) inr (set-cases xs i j y x e)
 
-pub set-same : {X : Type 0} (xs : List X) (i : ℕ) (x : X) → slice_get xs i ≡ Some x
+pub set_same : {X : Type 0} (xs : List X) (i : ℕ) (x : X) → slice_get xs i ≡ Some x
     → set xs i x ≡ xs
-set-same [] i x e = refl
-set-same (y ∷ xs) zero x e = ap (λ z. z ∷ xs) (sym (same_Some y x e))
-set-same (y ∷ xs) (suc i) x e = ap (λ l. y ∷ l) (set-same xs i x e)
+set_same [] i x e = refl
+set_same (y ∷ xs) zero x e = ap (λ z. z ∷ xs) (sym (same_Some y x e))
+set_same (y ∷ xs) (suc i) x e = ap (λ l. y ∷ l) (set_same xs i x e)
 
 -- what is read where it was written, and elsewhere
 pub set-there : {X : Type 0} (xs : List X) (i : ℕ) (y x : X) → slice_get xs i ≡ Some x
@@ -72,22 +72,22 @@ pub peer-other : (l : Linked) (i j : ℕ) (p : Peer) → j ≢ i
 peer-other l i j p ne = get_or-set_other l.peers i j p fresh ne
 
 -- the link and the core of a node that is there
-pub link-of : {C : Type 0} (nodes : List (Node C)) (i : ℕ) (n : Node C) → slice_get nodes i ≡ Some n
+pub link_of : {C : Type 0} (nodes : List (Node C)) (i : ℕ) (n : Node C) → slice_get nodes i ≡ Some n
     → link_at (map (λ (m : Node C). m.link) nodes) i ≡ n.link
-link-of {C} nodes i n there =
+link_of {C} nodes i n there =
     get_or_from_slice_get (map (λ (m : Node C). m.link) nodes) i n.link (first_link i 0)
     (slice_get-map (λ (m : Node C). m.link) nodes i
     ∙ ap (option_map (λ (m : Node C). m.link)) there)
 
-pub core-of : {C : Type 0} (nodes : List (Node C)) (i : ℕ) (n : Node C) → slice_get nodes i ≡ Some n
+pub core_of : {C : Type 0} (nodes : List (Node C)) (i : ℕ) (n : Node C) → slice_get nodes i ≡ Some n
     → slice_get (map (λ (m : Node C). m.core) nodes) i ≡ Some n.core
-core-of {C} nodes i n there =
+core_of {C} nodes i n there =
     slice_get-map (λ (m : Node C). m.core) nodes i ∙ ap (option_map (λ (m : Node C). m.core)) there
 
 -- one message more is counted for its source and destination alone
-pub more-here : (delivered : ℕ → ℕ → ℕ) (source dest i j : ℕ) → i ≡ source → j ≡ dest
+pub more_here : (delivered : ℕ → ℕ → ℕ) (source dest i j : ℕ) → i ≡ source → j ≡ dest
     → one_more delivered source dest i j ≡ delivered i j + 1
-more-here delivered source dest i j e d =
+more_here delivered source dest i j e d =
     ap (λ b. if b && j == dest then delivered i j + 1 else delivered i j) (eq-eqb i source e)
     ∙ ap (λ b. if b then delivered i j + 1 else delivered i j) (eq-eqb j dest d)
 

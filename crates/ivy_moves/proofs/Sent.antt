@@ -122,22 +122,22 @@ next-others l f j e ne =
     (peer-other l f.source j (heard Next (peer_at l f.source) f.number f.ack) ne))
 
 -- what sending leaves of what a frame is
-pub sends-offered : (l : Linked) (ps : List Parcel) (f : Frame)
+pub sends_offered : (l : Linked) (ps : List Parcel) (f : Frame)
     → offered (after_sends l ps) f ≡ offered l f
-sends-offered l ps f =
+sends_offered l ps f =
     ap (λ me. if f.dest == me
     then verdict_on (peer_at (after_sends l ps) f.source).delivered f.number else NotMine)
     (sends-me l ps)
     ∙ ap (λ d. if f.dest == l.me then verdict_on d f.number else NotMine)
     (sends-delivered l ps f.source)
 
-next-number : (b d : Bool) → (if b then Next else (if d then Repeat else Ahead)) ≡ Next → b ≡ true
-next-number true d e = refl
-next-number false true e = absurd (repeat≢next e)
+next_number : (b d : Bool) → (if b then Next else (if d then Repeat else Ahead)) ≡ Next → b ≡ true
+next_number true d e = refl
+next_number false true e = absurd (repeat≢next e)
   where
     repeat≢next : Repeat ≡ Next → ⊥
     repeat≢next e = cc
-next-number false false e = absurd (ahead≢next e)
+next_number false false e = absurd (ahead≢next e)
   where
     ahead≢next : Ahead ≡ Next → ⊥
     ahead≢next e = cc
@@ -148,7 +148,7 @@ pub next-means : (l : Linked) (f : Frame) → offered l f ≡ Next
 next-means l f e =
     let parts : (f.dest == l.me ≡ true)
     × (verdict_on (peer_at l f.source).delivered f.number ≡ Next) = mine _ _ Next e (λ d. cc) in
-    (eqb-true _ _ parts.0, eqb-true _ _ (next-number _ _ parts.1))
+    (eqb-true _ _ parts.0, eqb-true _ _ (next_number _ _ parts.1))
 
 -- pulses
 
@@ -181,9 +181,9 @@ pulse_of-acks : (ks : List Message) (me to : ℕ) (p : Peer) → p.delivered < 2
 pulse_of-acks [] me to p small = acknowledging-acks p.owed _ small
 pulse_of-acks (k ∷ ks) me to p small = numbered-acks me to p.delivered _ (take 32 p.kept) small
 
-pub pulse-acks : (l : Linked) (to : ℕ) → (peer_at l to).delivered < 2 ^ 64
+pub pulse_acks : (l : Linked) (to : ℕ) → (peer_at l to).delivered < 2 ^ 64
     → All (λ (f : Frame). f.ack < 2 ^ 64) (frames_again l to)
-pulse-acks l to small = pulse_of-acks (peer_at l to).kept l.me to (peer_at l to) small
+pulse_acks l to small = pulse_of-acks (peer_at l to).kept l.me to (peer_at l to) small
 
 -- a frame that a node made has a spelling
 
@@ -228,16 +228,16 @@ made-message c sent number delivered body m is count made =
     rw (sym place) there.1
 
 -- the messages posted have a spelling
-one-fits : (c : Config) (b : Bool) (m : Message) (ms : List Message) → FitsMessage c m
+one_fits : (c : Config) (b : Bool) (m : Message) (ms : List Message) → FitsMessage c m
     → All (FitsMessage c) ms → All (FitsMessage c) (if b then m ∷ ms else ms)
-one-fits c true m ms fit rest = All-cons (FitsMessage c) m ms fit rest
-one-fits c false m ms fit rest = rest
+one_fits c true m ms fit rest = All-cons (FitsMessage c) m ms fit rest
+one_fits c false m ms fit rest = rest
 
 posted-fits : (c : Config) (me : ℕ) (ps : List Parcel) (i j : ℕ) → All (FitsParcel c me) ps
     → All (FitsMessage c) (posted i j ps)
 posted-fits c me [] i j all = All-nil (FitsMessage c)
 posted-fits c me (p ∷ ps) i j all =
-    one-fits c (p.source == i && p.dest == j) p.message (posted i j ps)
+    one_fits c (p.source == i && p.dest == j) p.message (posted i j ps)
     (All-head (FitsParcel c me) p ps all).message
     (posted-fits c me ps i j (All-tail (FitsParcel c me) p ps all))
 

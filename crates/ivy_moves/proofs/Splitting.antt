@@ -94,10 +94,10 @@ module _ {C : Type 0} (rules : Core C) (c : Config) where
       h.2.2 ∙ (λ k. followed_by (first k) (rest k)) ∙ sym h'.2.2
 
   -- what a part of a run sends was sent in it
-  pub part-sent : (w end : World C) (parts : ℕ → List Mark) (j : ℕ) (n : Node C) (e : Effect C)
+  pub part_sent : (w end : World C) (parts : ℕ → List Mark) (j : ℕ) (n : Node C) (e : Effect C)
       (s : List ℕ) → AreParts rules c w parts end → slice_get w.nodes j ≡ Some n
       → AllHappen rules c n (parts j) e → Contains e.sent s → Contains end.sent s
-  part-sent w end parts j n e s run there happen sent =
+  part_sent w end parts j n e s run there happen sent =
       let made = runs_are_their_parts rules c w end parts run in
       let b = made.each j n there in
       let own : e.sent ≡ sent_from j made.senders made.strings =

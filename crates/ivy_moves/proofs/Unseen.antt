@@ -6,7 +6,7 @@ use Rattle.ivy_model.specs.declared.Fault.{Fault}
 use Rattle.ivy_wire.specs.declared.FrameKind.{FrameKind}
 use Rattle.ivy_wire.specs.Data.{Message, Frame, Parcel}
 use Rattle.ivy_wire.specs.Spelling.{spelling}
-use Rattle.ivy_wire.specs.Faults.{checked}
+use Rattle.ivy_wire.specs.DecodeErrors.{checked}
 use Rattle.ivy_wire.specs.Reading.{frame_at}
 use Rattle.ivy_link.specs.declared.Verdict.{Verdict}
 use Rattle.ivy_link.specs.declared.Verdict.TheVariants as verdict
@@ -108,13 +108,13 @@ module _ {C : Type 0} (rules : Core C) (c : Config) (g : C → C) (unseen : IsUn
     h.1,
   )
 
-  all-over : (n : Node C) (ms : List Mark) (e : Effect C) → AllHappen rules c n ms e
+  all_over : (n : Node C) (ms : List Mark) (e : Effect C) → AllHappen rules c n ms e
       → AllHappen rules c (node_changed g n) ms (effect_changed g e)
-  all-over n [] e h = ap (effect_changed g) h
-  all-over n (m ∷ ms) e h = (
+  all_over n [] e h = ap (effect_changed g) h
+  all_over n (m ∷ ms) e h = (
     effect_changed g h.0,
     happens-over n m h.0 h.1,
-    (effect_changed g h.2.0, all-over h.0.after ms h.2.0 h.2.1, ap (effect_changed g) h.2.2),
+    (effect_changed g h.2.0, all_over h.0.after ms h.2.0 h.2.1, ap (effect_changed g) h.2.2),
   )
 
   -- the strings that came too early are the same
@@ -137,4 +137,4 @@ module _ {C : Type 0} (rules : Core C) (c : Config) (g : C → C) (unseen : IsUn
 
   pub events-over : (n : Node C) (ms : List Mark) (e : Effect C) → AllHappen rules c n ms e
       → EventsCarryOver rules c g n ms e
-  events-over n ms e h = record { happen = all-over n ms e h; early = early-over n ms e h }
+  events-over n ms e h = record { happen = all_over n ms e h; early = early-over n ms e h }

@@ -8,15 +8,15 @@ use Rattle.ivy_link.specs.Paired.{IsPaired, IsMade, link_at}
 use Rattle.ivy_moves.specs.Cores.{Core, Outcome}
 use Rattle.ivy_moves.specs.Nodes.{Node}
 use Rattle.ivy_moves.specs.Worlds.{World, early_of}
-use Rattle.ivy_moves.specs.Ordered.{Ordered, Steps}
+use Rattle.ivy_moves.specs.FifoWorld.{FifoWorld, Steps}
 
 module _ {C : Type 0} where
   abbrev pub links_of : World C → List Linked
   links_of w = map (λ (n : Node C). n.link) w.nodes
 
   -- the ordered world in which these messages were posted, and those delivered that the links count
-  abbrev pub ordered_of : World C → (ℕ → ℕ → List Message) → Ordered C
-  ordered_of w posted = record {
+  abbrev pub fifo_of : World C → (ℕ → ℕ → List Message) → FifoWorld C
+  fifo_of w posted = record {
     cores = map (λ (n : Node C). n.core) w.nodes;
     posted = posted;
     delivered = λ i j. (peer_at (link_at (links_of w) j) i).delivered;
@@ -24,7 +24,7 @@ module _ {C : Type 0} where
 
 -- What is asked of a core: whatever it is told, it posts messages of its own node to others, which
 -- have a spelling. `Sound i` is what holds of node i's core.
-pub record IsTame {C : Type 0} (rules : Core C) (c : Config) (Sound : ℕ → C → Type 0) : Type 0 where
+pub record IsWellBehaved {C : Type 0} (rules : Core C) (c : Config) (Sound : ℕ → C → Type 0) : Type 0 where
   pub turn : (i : ℕ) (core : C) (o : Outcome C) → Sound i core → rules.turn core ≡ Some o
       → Sound i o.after × All (FitsParcel c i) o.posted
   pub serve : (i source : ℕ) (core : C) (m : Message) → Sound i core → source < c.nodes
@@ -62,4 +62,4 @@ abbrev pub FollowsStep : {C : Type 0} (rules : Core C) (c : Config) (Sound : ℕ
     → (ℕ → ℕ → List Message) → World C → Type 0
 FollowsStep rules c Sound w posted w' =
     (posted' : ℕ → ℕ → List Message) × Follows c Sound w' posted'
-    × Steps rules (ordered_of w posted) (ordered_of w' posted')
+    × Steps rules (fifo_of w posted) (fifo_of w' posted')

@@ -10,7 +10,7 @@ pub mod Parts
 pub mod Early
 pub mod Carrying
 pub mod Explained
-pub mod Ordered
+pub mod FifoWorld
 pub mod Following
 pub use Rattle.ivy_wire.specs.Data
 pub use Rattle.ivy_link.specs.Linked

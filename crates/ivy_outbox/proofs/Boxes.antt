@@ -22,7 +22,7 @@ use Rattle.ivy_link.specs.Limits.{most_again}
 use Rattle.ivy_outbox.specs.Fitting.{FitsLink}
 use Rattle.ivy_link.proofs.Sending.{sends-me, length-frames_of}
 use Rattle.ivy_link.proofs.Peers.{accepted-me}
-use Rattle.ivy_outbox.proofs.Fits.{first-fits, sends-fits, frames-fit, fits-within, heard-link-fits, pulsed-fits, again-fit, few-again}
+use Rattle.ivy_outbox.proofs.Fits.{first_fits, sends-fits, frames-fit, fits-within, heard-link-fits, pulsed-fits, again-fit, few-again}
 use Rattle.ivy_outbox.specs.Outboxes.{Outbox, IsSoundOutbox, holding_of, with_sending, posted_by}
 
 -- how many strings are added
@@ -94,7 +94,7 @@ pub first-box : (c : Config) (me : ℕ) (ws : List (List ℕ)) (hs : List Window
     → IsSoundOutbox
     (record { config = c; me = me; link = first_link me c.nodes; waiting = ws; held = hs })
 first-box c me ws hs limits here =
-    record { limits = limits; mine = refl; fits = first-fits c me here }
+    record { limits = limits; mine = refl; fits = first_fits c me here }
 
 -- another link of the same node that fits
 relinked : (n v : Outbox) → v ≡ n → IsSoundOutbox v

@@ -45,8 +45,8 @@ fresh-fits c =
       few = omega arith;
     }
 
-pub first-fits : (c : Config) (me : ℕ) → me < c.nodes → FitsLink c (first_link me c.nodes)
-first-fits c me lt =
+pub first_fits : (c : Config) (me : ℕ) → me < c.nodes → FitsLink c (first_link me c.nodes)
+first_fits c me lt =
     record {
       me = lt;
       nodes = length-replicate c.nodes fresh;
@@ -75,9 +75,9 @@ pub fits-within : (c : Config) (l : Linked) (ps : List Parcel) → FitsLink c l
     → All (FitsParcel c l.me) ps → AreWithin l ps
 fits-within c l ps h of k d lt = omega (arith, (of k d lt).dest, h.nodes)
 
-message-fits : (c : Config) (p : Peer) (m : Message) → FitsPeer c p → FitsMessage c m
+message_fits : (c : Config) (p : Peer) (m : Message) → FitsPeer c p → FitsMessage c m
     → p.sent + 1 < 2 ^ 64 → FitsPeer c (with_message p m)
-message-fits c p m h fits number = record {
+message_fits c p m h fits number = record {
   sent = number;
   delivered = h.delivered;
   kept = All-append (FitsMessage c) p.kept (m ∷ []) h.kept
@@ -89,7 +89,7 @@ sent_one-fits : (c : Config) (l : Linked) (p : Parcel) → FitsLink c l → Fits
     → (peer_at l p.dest).sent + 1 < 2 ^ 64 → FitsLink c (sent_one l p)
 sent_one-fits c l p h own number =
     with-fits c l p.dest (with_message (peer_at l p.dest) p.message) h
-    (message-fits c (peer_at l p.dest) p.message (peer-fits c l p.dest h) own.message number)
+    (message_fits c (peer_at l p.dest) p.message (peer-fits c l p.dest h) own.message number)
 
 pub sends-fits : (c : Config) (l : Linked) (ps : List Parcel) → FitsLink c l
     → All (FitsParcel c l.me) ps → has_numbers l ps ≡ true → FitsLink c (after_sends l ps)

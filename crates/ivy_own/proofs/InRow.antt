@@ -10,7 +10,7 @@ use Rattle.ivy_calls.specs.declared.answer.Answer.{Answer}
 use Rattle.ivy_calls.specs.Answers.{answer, answers}
 use Rattle.ivy_calls.specs.Rows.{in_row}
 use Rattle.ivy_twin.specs.Known.{Listed}
-use Rattle.ivy_seating.specs.ivy_site.Shown.{Shown}
+use Rattle.ivy_seating.specs.ivy_site.SiteView.{SiteView}
 use Rattle.ivy_seating.specs.ivy_site.Handed.{site_handed}
 use Rattle.ivy_seating.specs.ivy_site.Calls.{AreAnswered, AreTaken, BeginsRow}
 use Rattle.ivy_own.specs.Owned.{IsOwned, AnswersMore, grown_by}
@@ -22,13 +22,13 @@ same-answer : (kind : Row) (i j addr number : ℕ)
 same-answer Loads i j addr number = refl
 same-answer Stores i j addr number = refl
 
-none_more : (old new : Shown) → new ≡ old → AnswersMore [] old new
+none_more : (old new : SiteView) → new ≡ old → AnswersMore [] old new
 none_more old new same =
     subst (AnswersMore [] old) (sym same)
     (record { me = refl; answers = sym (append-nil (answers old.node.core.history)) })
 
 -- the answer to one word more, and then those to the others
-one_more : (kind : Row) (node addr number : ℕ) (more : List ℕ) (old mid new : Shown)
+one_more : (kind : Row) (node addr number : ℕ) (more : List ℕ) (old mid new : SiteView)
     → AnswersMore (answer (record_in kind node addr number) ∷ []) old mid
     → AnswersMore (in_row kind (addr + 8) more) mid new
     → AnswersMore (in_row kind addr (number ∷ more)) old new
@@ -43,7 +43,7 @@ one_more kind node addr number more old mid new first rest = record {
 }
 
 -- all calls of a row, as own code makes them one after another
-row_answered : (kind : Row) (node addr : ℕ) (numbers : List ℕ) (old new : Shown)
+row_answered : (kind : Row) (node addr : ℕ) (numbers : List ℕ) (old new : SiteView)
     → AreAnswered (row kind node addr numbers) old new
     → AnswersMore (in_row kind addr numbers) old new
 row_answered kind node addr [] old new same = none_more old new same
@@ -54,7 +54,7 @@ row_answered kind node addr (number ∷ more) old new on =
     (row_answered kind node (addr + 8) more on.0 new on.2)
 
 -- and as it takes their replies
-row_taken : (kind : Row) (node addr : ℕ) (numbers : List ℕ) (old new : Shown)
+row_taken : (kind : Row) (node addr : ℕ) (numbers : List ℕ) (old new : SiteView)
     → AreTaken (row kind node addr numbers) old new → AnswersMore (in_row kind addr numbers) old new
 row_taken kind node addr [] old new same = none_more old new same
 row_taken kind node addr (number ∷ more) old new on =
@@ -63,7 +63,7 @@ row_taken kind node addr (number ∷ more) old new on =
     (row_taken kind node (addr + 8) more on.0 new on.2)
 
 -- so the half that has those answers more is the node's again
-pub row_owned : (kind : Row) (addr : ℕ) (numbers : List ℕ) (old new : Shown)
+pub row_owned : (kind : Row) (addr : ℕ) (numbers : List ℕ) (old new : SiteView)
     (half half' : Listed Answer) → IsOwned old half
     → AreAnswered (row kind old.me addr numbers) old new
     → half' ≡ grown_by (in_row kind addr numbers) half → IsOwned new half'
@@ -71,7 +71,7 @@ row_owned kind addr numbers old new half half' owned on grows =
     more_owned (in_row kind addr numbers) old new half half' owned
     (row_answered kind old.me addr numbers old new on) grows
 
-pub taken_owned : (kind : Row) (addr : ℕ) (numbers : List ℕ) (old new : Shown)
+pub taken_owned : (kind : Row) (addr : ℕ) (numbers : List ℕ) (old new : SiteView)
     (half half' : Listed Answer) → IsOwned old half
     → AreTaken (row kind old.me addr numbers) old new
     → half' ≡ grown_by (in_row kind addr numbers) half → IsOwned new half'
@@ -80,7 +80,7 @@ taken_owned kind addr numbers old new half half' owned on grows =
     (row_taken kind old.me addr numbers old new on) grows
 
 -- calls that begin together are answered later
-begun_more : (calls : List Call) (old new : Shown) → BeginsRow calls old new
+begun_more : (calls : List Call) (old new : SiteView) → BeginsRow calls old new
     → AnswersMore [] old new
 begun_more [] old new same = none_more old new same
 begun_more (call ∷ more) old new b =
@@ -88,7 +88,7 @@ begun_more (call ∷ more) old new b =
     recorded_none (site_handed ((call ∷ more) ∷ []) old) new b.turns b.recorded in
     record { me = r.me; answers = r.answers }
 
-pub begun_owned : (calls : List Call) (old new : Shown) (half : Listed Answer) → IsOwned old half
+pub begun_owned : (calls : List Call) (old new : SiteView) (half : Listed Answer) → IsOwned old half
     → BeginsRow calls old new → IsOwned new half
 begun_owned calls old new half owned b =
     let m = begun_more calls old new b in

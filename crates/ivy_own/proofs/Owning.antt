@@ -16,7 +16,7 @@ use Rattle.ivy_seating.specs.ivy_ether.ivy_host.ivy_heap.declared.Answer.TheVari
 use Rattle.ivy_seating.specs.ivy_ether.ivy_host.ivy_memory.Memories.{CallBegun, polled}
 use Rattle.ivy_seating.specs.ivy_ether.ivy_host.Hosts.{Host, begins_with, number_of, recorded, turn_of, turned_at}
 use Rattle.ivy_seating.specs.ivy_ether.ivy_host.Managers.{Managed, managed_ops}
-use Rattle.ivy_seating.specs.ivy_site.Shown.{Shown}
+use Rattle.ivy_seating.specs.ivy_site.SiteView.{SiteView}
 use Rattle.ivy_seating.specs.ivy_site.Handed.{site_handed}
 use Rattle.ivy_seating.specs.ivy_site.Calls.{BeginsCall}
 use Rattle.ivy_seating.specs.ivy_site.Sites.{AfterTurn, SiteTurns, first_keeping}
@@ -63,13 +63,13 @@ posted_core true x e is = ap (λ (y : Effect H). y.after.core) (same_Some x e is
 posted_core false x e is = absurd (none-some e is)
 
 -- a site whose turn for the call came to this
-abbrev CameSite : Call → Shown → Shown → Type 0
+abbrev CameSite : Call → SiteView → SiteView → Type 0
 CameSite call old new = (new.me ≡ old.me) × CameHost call old.node.core new.node.core
 
-same_site : (call : Call) (old new : Shown) → new ≡ old → CameSite call old new
+same_site : (call : Call) (old new : SiteView) → new ≡ old → CameSite call old new
 same_site call old new same = subst (CameSite call old) (sym same) (refl, inl refl)
 
-site_came : (call : Call) (t : turn.Turn) (old new : Shown)
+site_came : (call : Call) (t : turn.Turn) (old new : SiteView)
     → old.node.core.memory.asked ≡ Some call → AfterTurn t old new → CameSite call old new
 site_came call Idle old new asked a = same_site call old new a.1
 site_came call Ended old new asked a = same_site call old new a.2
@@ -88,7 +88,7 @@ last_of_more rs r =
     ∙ ap (option_map (λ (x : Record). x.reply)) (got_last rs r)
 
 -- as many records as before: no answer came
-pub none_came : (call : Call) (t : turn.Turn) (old new : Shown)
+pub none_came : (call : Call) (t : turn.Turn) (old new : SiteView)
     → old.node.core.memory.asked ≡ Some call → AfterTurn t old new
     → length new.node.core.history ≡ length old.node.core.history → TurnsOwn call None old new
 none_came call t old new asked a same =
@@ -107,7 +107,7 @@ none_came call t old new asked a same =
     }
 
 -- else the last record is the one that came
-pub one_came : (call : Call) (t : turn.Turn) (old new : Shown)
+pub one_came : (call : Call) (t : turn.Turn) (old new : SiteView)
     → old.node.core.memory.asked ≡ Some call → AfterTurn t old new
     → length new.node.core.history ≢ length old.node.core.history
     → TurnsOwn call (last_reply_in new.node.core.history) old new
@@ -127,24 +127,24 @@ one_came call t old new asked a other =
     }
 
 -- a turn that lists this record more
-pub recorded_more : (r : Record) (old new : Shown) → SiteTurns old new
+pub recorded_more : (r : Record) (old new : SiteView) → SiteTurns old new
     → new.node.core.history ≡ old.node.core.history ++ r ∷ []
     → AnswersMore (answer r ∷ []) old new
 recorded_more r old new turns more = record {
-  me = ap (λ (s : Shown). s.me) turns.after;
+  me = ap (λ (s : SiteView). s.me) turns.after;
   answers = ap answers more ∙ map-append answer old.node.core.history (r ∷ []);
 }
 
 -- and one that lists none
-pub recorded_none : (old new : Shown) → SiteTurns old new
+pub recorded_none : (old new : SiteView) → SiteTurns old new
     → new.node.core.history ≡ old.node.core.history → AnswersMore [] old new
 recorded_none old new turns same = record {
-  me = ap (λ (s : Shown). s.me) turns.after;
+  me = ap (λ (s : SiteView). s.me) turns.after;
   answers = ap answers same ∙ sym (append-nil (answers old.node.core.history));
 }
 
 -- a call that its owner makes, with the first turn for it
-pub call_made : (call : Call) (reply : Option Reply) (old new : Shown)
+pub call_made : (call : Call) (reply : Option Reply) (old new : SiteView)
     → BeginsCall call reply old new → TurnsOwn call reply old new
 call_made call None old new b =
     let r : AnswersMore [] (site_handed ((call ∷ []) ∷ []) old) new =
@@ -157,7 +157,7 @@ call_made call (Some reply) old new b =
     record { me = r.me; answers = r.answers }
 
 -- a turn that changed nothing of it
-pub wired_owned : (old new : Shown) (half : Listed Answer) → IsOwned old half → KeepsAnswers old new
+pub wired_owned : (old new : SiteView) (half : Listed Answer) → IsOwned old half → KeepsAnswers old new
     → IsOwned new half
 wired_owned old new half o k = record {
   number = o.number ∙ sym k.me;
@@ -165,7 +165,7 @@ wired_owned old new half o k = record {
 }
 
 -- where it has these answers more, the half that has them more is its own again
-pub more_owned : (more : List Answer) (old new : Shown) (half half' : Listed Answer)
+pub more_owned : (more : List Answer) (old new : SiteView) (half half' : Listed Answer)
     → IsOwned old half → AnswersMore more old new → half' ≡ grown_by more half → IsOwned new half'
 more_owned more old new half half' o t grows = record {
   number = ap (λ (l : Listed Answer). l.number) grows ∙ o.number ∙ sym t.me;
@@ -174,7 +174,7 @@ more_owned more old new half half' o t grows = record {
 }
 
 -- and after a turn for a call
-pub turned_owned : (call : Call) (reply : Option Reply) (old new : Shown)
+pub turned_owned : (call : Call) (reply : Option Reply) (old new : SiteView)
     (half half' : Listed Answer) → IsOwned old half → TurnsOwn call reply old new → half' ≡ grown call reply half
     → IsOwned new half'
 turned_owned call None old new half half' o t grows =
@@ -184,10 +184,10 @@ turned_owned call (Some reply) old new half half' o t grows =
     more_owned (came call (Some reply)) old new half half' o t grows
 
 -- a node with own code that has made no call
-pub first_owned : (keep : _) (c : _) (me : ℕ) (s : Shown) (half : Listed Answer)
+pub first_owned : (keep : _) (c : _) (me : ℕ) (s : SiteView) (half : Listed Answer)
     → s ≡ first_keeping keep c me (Called []) → half ≡ listed me [] → IsOwned s half
 first_owned keep c me s half first new =
-    subst (λ (x : Shown). IsOwned x half) (sym first)
+    subst (λ (x : SiteView). IsOwned x half) (sym first)
     (record {
       number = ap (λ (l : Listed Answer). l.number) new;
       list = ap (λ (l : Listed Answer). l.list) new;

@@ -8,20 +8,20 @@ use Rattle.ivy_calls.specs.Answers.{answers}
 use Rattle.ivy_twin.specs.Known.{Listed, listed}
 use Rattle.ivy_program.specs.Owned.{IsFree}
 use Rattle.ivy_moves.specs.Keeping.{last_of}
-use Rattle.ivy_seating.specs.ivy_site.Shown.{Shown}
+use Rattle.ivy_seating.specs.ivy_site.SiteView.{SiteView}
 
 -- the half is of the node's own list, which is what the node was answered
-pub record IsOwned (s : Shown) (half : Listed Answer) : Type 0 where
+pub record IsOwned (s : SiteView) (half : Listed Answer) : Type 0 where
   pub number : half.number ≡ s.me
   pub list : half.list ≡ answers s.node.core.history
 
 -- the site is of this node, whose owner may make a call
-pub record IsReady (me : ℕ) (s : Shown) : Type 0 where
+pub record IsReady (me : ℕ) (s : SiteView) : Type 0 where
   pub of : s.me ≡ me
   pub free : IsFree s.node.core.process
 
 -- the site is of this node, and the call is in progress there
-pub record IsAsked (me : ℕ) (call : Call) (s : Shown) : Type 0 where
+pub record IsAsked (me : ℕ) (call : Call) (s : SiteView) : Type 0 where
   pub of : s.me ≡ me
   pub asked : s.node.core.memory.asked ≡ Some call
 
@@ -31,12 +31,12 @@ came call None = []
 came call (Some reply) = record { call = call; reply = reply } ∷ []
 
 -- the node has these answers more, and else is as before
-pub record AnswersMore (more : List Answer) (old new : Shown) : Type 0 where
+pub record AnswersMore (more : List Answer) (old new : SiteView) : Type 0 where
   pub me : new.me ≡ old.me
   pub answers : answers new.node.core.history ≡ answers old.node.core.history ++ more
 
 -- a turn of own code for this call: the node has its answer more, or none
-abbrev pub TurnsOwn : Call → Option Reply → Shown → Shown → Type 0
+abbrev pub TurnsOwn : Call → Option Reply → SiteView → SiteView → Type 0
 TurnsOwn call reply old new = AnswersMore (came call reply) old new
 
 -- the reply in the last record

@@ -11,7 +11,7 @@ ghost use Rattle.ivy_own.specs.Owned.{IsOwned, IsReady, IsAsked, TurnsOwn, grown
 use ivy_calls::Answer;
 use ivy_model::{Call, Fault, Reply, Row};
 use ivy_seating::ivy_ether::Setup;
-use ivy_seating::{Home, Homed, Seated, Site, turn_on_wire};
+use ivy_seating::{Home, Homed, Keep, Seated, Site, turn_on_wire};
 use ivy_twin::{Half, Naming, Tells, Tie};
 use ivy_workers::{Pulses, Seat, Traffic};
 use std::alloc::Allocator;
@@ -332,7 +332,8 @@ fn store_row_at<S: Setup, J: Naming, A: Allocator + Copy>(
 }
 
 /// The owner of node `me` makes the calls of words of 8 bytes in a row together, from `addr` on, where the first has to
-/// wait. It says whether it did. Where the site has no memory for them none was made, and a call tells that.
+/// wait, and the site keeps no list of its own past, so that their replies can be taken at once. It says whether it did.
+/// Where the site has no memory for them none was made, and a call tells that.
 fn call_row_at<S: Setup, J: Naming, A: Allocator + Copy>(
     seated: &mut Seated<'_, S, A>,
     half: &Half<Answer, J>,
@@ -346,7 +347,7 @@ fn call_row_at<S: Setup, J: Naming, A: Allocator + Copy>(
     ensures owned { IsOwned seated.new.site half.now }
 {
     let _ = half;
-    if seated.site().me() != me {
+    if seated.site().me() != me || seated.site().keep() != Keep::Nothing {
         return false;
     }
     match seated.call_row(kind, addr, bytes.len() / 8, bytes) {

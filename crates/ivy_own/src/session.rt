@@ -276,7 +276,7 @@ where
     ensures keep { IfOk result (λ report. AllKeep keep report.nodes) }
     ensures fault { IfErr result (IsOwnFault config.nodes) }
 {
-    if config.check_wide().is_err() || !limits.are_fair() {
+    if config.check_wide().is_err() || !limits.are_valid() {
         return Err(OwnFault::Session(Fault::BadConfig));
     }
     play::<Brand, A, R, G, W>(rt, alloc, &config, work, limits, gate, keep)

@@ -7,14 +7,14 @@ use Rattle.ivy_moves.specs.Events.{Event}
 use Rattle.ivy_moves.specs.Marks.{Delivery, marks, marks_of}
 use Rattle.ivy_moves.specs.ivy_link.declared.Verdict.TheVariants as verdict
 use Rattle.ivy_join.specs.ivy_lines.Printed.{event_line}
-use Rattle.ivy_join.specs.ivy_site.Shown.{Shown}
+use Rattle.ivy_join.specs.ivy_site.SiteView.{SiteView}
 use Rattle.ivy_join.specs.ivy_site.Sites.{GoesOnOnce, without_ready}
 use Rattle.ivy_join.proofs.of_ivy_lines.Owned.{marks-append}
 use Rattle.ivy_join.proofs.Steps.{received-listed}
-use Rattle.ivy_process.specs.Logging.{Served, served, lines_of, GoesOn, IsEmptied, IsLogged, Streams, StreamsWhole}
+use Rattle.ivy_process.specs.Logging.{Served, served, lines_of, AddsEvents, IsEmptied, IsLogged, Streams, StreamsWhole}
 
 -- no event
-pub stays : (s s' : Served) → s'.site.events ≡ s.site.events → s'.unlogged ≡ s.unlogged → GoesOn s s'
+pub stays : (s s' : Served) → s'.site.events ≡ s.site.events → s'.unlogged ≡ s.unlogged → AddsEvents s s'
 stays s s' listed noted = record {
   events = [];
   listed = listed ∙ sym (append-nil s.site.events);
@@ -22,17 +22,17 @@ stays s s' listed noted = record {
 }
 
 -- one event
-pub goes-one : (e : Event) (s s' : Served) → s'.site.events ≡ s.site.events ++ marks_of e
-    → s'.unlogged ≡ s.unlogged ++ event_line e → GoesOn s s'
-goes-one e s s' listed noted = record {
+pub goes_one : (e : Event) (s s' : Served) → s'.site.events ≡ s.site.events ++ marks_of e
+    → s'.unlogged ≡ s.unlogged ++ event_line e → AddsEvents s s'
+goes_one e s s' listed noted = record {
   events = e ∷ [];
   listed = listed ∙ ap (λ l. s.site.events ++ l) (sym (append-nil (marks_of e)));
   noted = noted ∙ ap (λ l. s.unlogged ++ l) (sym (append-nil (event_line e)));
 }
 
 -- first these events, then those
-pub goes-further : (a b d : Served) → GoesOn a b → GoesOn b d → GoesOn a d
-goes-further a b d x y = record {
+pub goes_further : (a b d : Served) → AddsEvents a b → AddsEvents b d → AddsEvents a d
+goes_further a b d x y = record {
   events = x.events ++ y.events;
   listed = y.listed ∙ ap (λ l. l ++ marks y.events) x.listed
       ∙ append_assoc a.site.events (marks x.events) (marks y.events)
@@ -43,11 +43,11 @@ goes-further a b d x y = record {
 }
 
 -- the strings that wait are no events
-pub emptied : (s s' : Served) → IsEmptied s s' → GoesOn s s'
-emptied s s' e = stays s s' (ap (λ (x : Shown). x.events) e.site) e.unlogged
+pub emptied : (s s' : Served) → IsEmptied s s' → AddsEvents s s'
+emptied s s' e = stays s s' (ap (λ (x : SiteView). x.events) e.site) e.unlogged
 
 module _ (a b d : Served) (first second third : Option (List ℕ)) where
-  pub streams-on : Streams a b first second → GoesOn b d → Streams a d first second
+  pub streams-on : Streams a b first second → AddsEvents b d → Streams a d first second
   streams-on x y = record {
     events = x.events ++ y.events;
     listed = y.listed ∙ ap (λ l. l ++ marks y.events) x.listed
@@ -98,7 +98,7 @@ module _ (a b d : Served) (first second third : Option (List ℕ)) where
   }
 
 -- nothing was written yet
-pub streams-begin : (a b : Served) (log : Option (List ℕ)) → GoesOn a b → Streams a b log log
+pub streams-begin : (a b : Served) (log : Option (List ℕ)) → AddsEvents a b → Streams a b log log
 streams-begin a b log x = record {
   events = x.events;
   listed = x.listed;
@@ -108,18 +108,18 @@ streams-begin a b log x = record {
 }
 
 -- one event at the node's site, whose line is noted
-pub noted-one : (e : Event) (old new : Served) (site site' : Shown) (lines : List ℕ)
+pub noted-one : (e : Event) (old new : Served) (site site' : SiteView) (lines : List ℕ)
     → old ≡ served site lines → site'.events ≡ site.events ++ marks_of e
-    → new ≡ served site' (lines ++ event_line e) → GoesOn old new
+    → new ≡ served site' (lines ++ event_line e) → AddsEvents old new
 noted-one e old new site site' lines was listed is =
-    goes-one e old new
+    goes_one e old new
     (ap (λ (x : Served). x.site.events) is ∙ listed
     ∙ ap (λ (x : Served). x.site.events ++ marks_of e) (sym was))
     (ap (λ (x : Served). x.unlogged) is
     ∙ ap (λ (x : Served). x.unlogged ++ event_line e) (sym was))
 
 -- a string that a site held is delivered
-pub once-listed : (source : ℕ) (bytes : List ℕ) (s s' : Shown) → GoesOnOnce source bytes s s'
+pub once-listed : (source : ℕ) (bytes : List ℕ) (s s' : SiteView) → GoesOnOnce source bytes s s'
     → s'.events ≡ s.events ++ Delivery bytes ∷ []
 once-listed source bytes s s' once =
     received-listed bytes verdict.Next source (without_ready s source) s'

@@ -16,9 +16,9 @@ use Rattle.ivy_join.proofs.of_ivy_lines.Owned.{marks-append}
 use Rattle.ivy_process.specs.declared.failure.Failure.{Failure}
 use Rattle.ivy_process.specs.declared.recalling.Recalled.{Recalled}
 use Rattle.ivy_process.specs.declared.recalling.Recalled.TheVariants.{Told, Open, New}
-use Rattle.ivy_process.specs.Logging.{Served, lines_of, GoesOn, Streams, StreamsWhole}
+use Rattle.ivy_process.specs.Logging.{Served, lines_of, AddsEvents, Streams, StreamsWhole}
 use Rattle.ivy_process.specs.Owned.{Begun, begun, HasResumed, HasWorked, IsRecalled, Notes, OwnStreams, Replies, RepliesFrom, Resumes, ResumesUnless}
-use Rattle.ivy_process.proofs.Logged.{goes-further, streams-begin}
+use Rattle.ivy_process.proofs.Logged.{goes_further, streams-begin}
 
 did-events : (events : List Event) → events_in (map Did events) ≡ events
 did-events [] = refl
@@ -91,7 +91,7 @@ streams-of b d log log' x = record {
 }
 
 -- its work was told nothing yet, and the node went on
-resumes-begin : (past : List Entry) (b d : Served) (log : Option (List ℕ)) → GoesOn b d
+resumes-begin : (past : List Entry) (b d : Served) (log : Option (List ℕ)) → AddsEvents b d
     → Resumes (begun past b log) 0 d log []
 resumes-begin past b d log on = record {
   within = omega arith;
@@ -103,7 +103,7 @@ resumes-begin past b d log on = record {
 
 -- so it is where the log is called by another name
 pub resumes-woken : (from : Begun) (past : List Entry) (b d : Served) (log log' : Option (List ℕ))
-    → begun past b log ≡ from → GoesOn b d → log' ≡ log → Resumes from 0 d log' []
+    → begun past b log ≡ from → AddsEvents b d → log' ≡ log → Resumes from 0 d log' []
 resumes-woken from past b d log log' is on same =
     subst (λ l. Resumes from 0 d l []) (sym same)
     (subst (λ f. Resumes f 0 d log []) is (resumes-begin past b d log on))

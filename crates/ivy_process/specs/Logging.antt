@@ -6,16 +6,16 @@ use Rattle.ivy_moves.specs.Events.{Event}
 use Rattle.ivy_moves.specs.Marks.{marks}
 use Rattle.ivy_program.specs.Programs.{Program}
 use Rattle.ivy_join.specs.ivy_lines.Printed.{event_line}
-use Rattle.ivy_join.specs.ivy_site.Shown.{Shown}
+use Rattle.ivy_join.specs.ivy_site.SiteView.{SiteView}
 use Rattle.ivy_join.specs.ivy_site.Sites.{IsMadeByEvents}
 use Rattle.ivy_join.specs.Joining.{program_in}
 
 -- a node, and the lines of those of its events that its log lacks yet
 pub record Served : Type 0 where
-  pub site : Shown
+  pub site : SiteView
   pub unlogged : List ℕ
 
-abbrev pub served : Shown → List ℕ → Served
+abbrev pub served : SiteView → List ℕ → Served
 served site unlogged = record { site = site; unlogged = unlogged }
 
 -- the lines of these events
@@ -23,7 +23,7 @@ abbrev pub lines_of : List Event → List ℕ
 lines_of events = flat_map event_line events
 
 -- the node went on by events, and their lines are what its log lacks besides
-pub record GoesOn (old new : Served) : Type 0 where
+pub record AddsEvents (old new : Served) : Type 0 where
   pub events : List Event
   pub listed : new.site.events ≡ old.site.events ++ marks events
   pub noted : new.unlogged ≡ old.unlogged ++ lines_of events

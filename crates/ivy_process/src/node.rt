@@ -9,7 +9,7 @@ ghost use Rattle.ivy_join.specs.ivy_lines.Printed.{event_line, head_line};
 ghost use Rattle.ivy_join.specs.ivy_lines.declared.own.Entry.TheVariants.{Asked, Answered};
 ghost use Rattle.ivy_join.specs.ivy_lines.Own.{own_head_line};
 ghost use Rattle.ivy_join.specs.ivy_site.Sites.{first_keeping};
-ghost use Rattle.ivy_process.specs.Logging.{GoesOn, IsEmptied, IsLogged, IsRestarted, served};
+ghost use Rattle.ivy_process.specs.Logging.{AddsEvents, IsEmptied, IsLogged, IsRestarted, served};
 ghost use Rattle.ivy_process.specs.Owned.{IsOpened, Notes};
 
 use crate::failure::Failure;
@@ -243,7 +243,7 @@ impl Node {
     /// Goes on with the strings of a node that it holds, one after another, until none of them is the next one.
     fn go_on(&mut self, from: u8) -> Result<(), Failure>
         requires { from < self.old.site.config.nodes }
-        ensures { OnOk result (GoesOn self.old self.new) }
+        ensures { OnOk result (AddsEvents self.old self.new) }
     {
         for _ in 0..MOST_AHEAD {
             let Some(string) = self.site.go_on_with(from)? else {
@@ -256,7 +256,7 @@ impl Node {
 
     /// A string comes. It tells of one that spells no frame.
     fn deliver(&mut self, string: Bytes<Global>) -> Result<(), Failure>
-        ensures { OnOk result (GoesOn self.old self.new) }
+        ensures { OnOk result (AddsEvents self.old self.new) }
     {
         let (verdict, from) = self.site.deliver_alone(&string)?;
         if verdict == Verdict::NotMine {
@@ -271,7 +271,7 @@ impl Node {
 
     /// The string of a line comes. One that spells no frame of this configuration is counted.
     fn take(&mut self, bytes: Vec<u8>) -> Result<(), Failure>
-        ensures { OnOk result (GoesOn self.old self.new) }
+        ensures { OnOk result (AddsEvents self.old self.new) }
     {
         let string = Bytes::from_vec(self.alloc, bytes)?;
         let config = self.site.config();
@@ -287,7 +287,7 @@ impl Node {
 
     /// A line comes. A frame for another node is left alone, and a line without a frame is counted.
     pub fn hear(&mut self, line: &str) -> Result<(), Failure>
-        ensures { OnOk result (GoesOn self.old self.new) }
+        ensures { OnOk result (AddsEvents self.old self.new) }
     {
         match parse_frame(self.alloc, line)? {
             None => {
@@ -301,7 +301,7 @@ impl Node {
 
     /// Makes so many turns at most, until one does nothing. It says how many did something.
     pub fn make_turns(&mut self, most: u64) -> Result<u64, Failure>
-        ensures { OnOk result (GoesOn self.old self.new) }
+        ensures { OnOk result (AddsEvents self.old self.new) }
     {
         let left = self.limits.turns.saturating_sub(self.turns);
         if left == 0 && !self.site.ended() {
@@ -325,7 +325,7 @@ impl Node {
 
     /// A pulse to a node, where it is another one.
     fn pulse_to(&mut self, to: u8) -> Result<(), Failure>
-        ensures { OnOk result (GoesOn self.old self.new) }
+        ensures { OnOk result (AddsEvents self.old self.new) }
     {
         if to >= self.site.config().nodes || to == self.site.me() {
             return Ok(());
@@ -340,7 +340,7 @@ impl Node {
 
     /// Pulses to each other node.
     pub fn pulse(&mut self) -> Result<(), Failure>
-        ensures { OnOk result (GoesOn self.old self.new) }
+        ensures { OnOk result (AddsEvents self.old self.new) }
     {
         for to in 0..self.site.config().nodes {
             self.pulse_to(to)?;
@@ -350,7 +350,7 @@ impl Node {
 
     /// Goes on with each string that it holds and that is the next one now. A node that was killed may have such strings.
     pub fn go_on_all(&mut self) -> Result<(), Failure>
-        ensures { OnOk result (GoesOn self.old self.new) }
+        ensures { OnOk result (AddsEvents self.old self.new) }
     {
         for from in 0..self.site.config().nodes {
             if from < self.site.config().nodes {

@@ -1,6 +1,6 @@
 //! A node serves until its input ends.
 ghost use Rattle.std.specs.Prelude.{OnOk};
-ghost use Rattle.ivy_process.specs.Logging.{GoesOn, Streams, StreamsWhole};
+ghost use Rattle.ivy_process.specs.Logging.{AddsEvents, Streams, StreamsWhole};
 
 use crate::failure::Failure;
 use crate::mail::{Inbox, Taken};
@@ -44,7 +44,7 @@ pub(crate) struct Service {
 
 /// Hears the lines that wait, so many at most.
 fn hear<R: Wait, I: Inbox>(rt: &R, inbox: &I, node: &mut Node) -> Result<Heard, Failure>
-    ensures { OnOk result (GoesOn node.old node.new) }
+    ensures { OnOk result (AddsEvents node.old node.new) }
 {
     let mut lines = 0u64;
     while lines < MOST_STRINGS {
@@ -116,7 +116,7 @@ fn serve_once<R: Wait, I: Inbox, C: Clockwork, L: Write, O: Write, E: Write>(
 
 /// Has a node go on with what it holds, and pulse to each other node: it may have been killed before.
 pub(crate) fn wake(node: &mut Node) -> Result<(), Failure>
-    ensures { OnOk result (GoesOn node.old node.new) }
+    ensures { OnOk result (AddsEvents node.old node.new) }
 {
     node.go_on_all()?;
     node.pulse()

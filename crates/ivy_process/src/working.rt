@@ -1,7 +1,7 @@
 //! Own code at a node in a process: the memory that its work has, and the service around it.
 ghost use Rattle.std.specs.Prelude.{◌≡◌, ◌≤◌, [], IfOk, length};
 ghost use Rattle.ivy_model.specs.Legal.{HasWidth};
-ghost use Rattle.ivy_process.specs.Logging.{GoesOn, StreamsWhole};
+ghost use Rattle.ivy_process.specs.Logging.{AddsEvents, StreamsWhole};
 ghost use Rattle.ivy_process.specs.Owned.{begun, HasResumed, HasWorked, Replies, RepliesFrom, Resumes};
 
 use crate::failure::Failure;
@@ -254,7 +254,7 @@ fn awake<C: Clockwork, L: Drop, O: Drop, E: Drop>(
     out: O,
     err: E,
 ) -> Result<Post<L, O, E>, Failure>
-    ensures on { IfOk result (λ post. GoesOn node post.node) }
+    ensures on { IfOk result (λ post. AddsEvents node post.node) }
     ensures log { IfOk result (λ post. post.log ≡ log) }
 {
     let mut node = node;

@@ -26,7 +26,7 @@ use Rattle.ivy_session.proofs.of_proof_headline.Headline.{keeps-reached, explain
 use Rattle.ivy_session.proofs.of_proof_headline.of_proof_transitions.Places.{get_map}
 use Rattle.ivy_session.specs.proof_headline.proof_progress.Still.{HasNothingUnderWay}
 use Rattle.ivy_session.proofs.Reported.{explained_end, map_get, written_from}
-use Rattle.ivy_session.specs.ivy_seating.ivy_site.Shown.{Shown}
+use Rattle.ivy_session.specs.ivy_seating.ivy_site.SiteView.{SiteView}
 use Rattle.ivy_scope.specs.declared.watched.watch.End.{End}
 use Rattle.ivy_scope.specs.declared.watched.watch.End.TheVariants.{Standstill}
 use Rattle.ivy_scope.specs.Delivered.{AreSitesDelivered}
@@ -120,7 +120,7 @@ if_written c programs (Ok x) all report = so_far_written c programs x.0 all repo
 if_written c programs (Err fault) all report = tt
 
 -- what is said of sites, said of the report's nodes
-pub delivered_so_far : (sites : List Shown) → AreSitesDelivered sites
+pub delivered_so_far : (sites : List SiteView) → AreSitesDelivered sites
     → AreDelivered (map so_far_of sites)
 delivered_so_far sites all i j n m apart a b =
     let s = get_map so_far_of sites n i a in

@@ -14,7 +14,7 @@ use Rattle.atomic_table.specs.Seated.{TableId}
 use Rattle.ivy_session.specs.ivy_seating.ivy_ether.Held.{Held}
 use Rattle.ivy_session.specs.ivy_seating.ivy_ether.Programs.{beginning, all_handed}
 use Rattle.ivy_session.specs.ivy_seating.ivy_ether.Views.{Closing, View, with_given, with_closed, closing_of}
-use Rattle.ivy_session.specs.ivy_seating.ivy_site.Shown.{Shown}
+use Rattle.ivy_session.specs.ivy_seating.ivy_site.SiteView.{SiteView}
 use Rattle.ivy_session.specs.ivy_seating.ivy_site.Sites.{IsMadeByEvents}
 use Rattle.ivy_session.specs.ivy_seating.Places.{IsSeated}
 use Rattle.ivy_session.proofs.of_ivy_seating.Seats.{its_list, runs_there}
@@ -44,7 +44,7 @@ module _ (c : Config) (programs : List Program) where
       absurd (none-some n (ap (λ l. slice_get l i) (sym none) ∙ there))
 
   -- what a site's node came to
-  pub is_so_far : (wire : TableId) (s : Shown) (p : Held) (i : ℕ) → IsSeated wire c programs s p
+  pub is_so_far : (wire : TableId) (s : SiteView) (p : Held) (i : ℕ) → IsSeated wire c programs s p
       → IsMadeByEvents s → s.me ≡ i
       → IsNodeSoFar c (all_handed (λ _. p.known.handed) programs) i (so_far_of s)
   is_so_far wire s p i h made at = record {
@@ -59,7 +59,7 @@ module _ (c : Config) (programs : List Program) where
   }
 
   -- the starter took in the pass of a node that came to this
-  pub tells_of : (v v' w : View) (es : List Mark) (s : Shown) (i : ℕ)
+  pub tells_of : (v v' w : View) (es : List Mark) (s : SiteView) (i : ℕ)
       → v' ≡ with_closed v (with_given w es) → w.node ≡ Some i → es ≡ s.events
       → IsNodeSoFar c (all_handed (λ _. w.handed) programs) i (so_far_of s)
       → TellsSoFar c programs v i (so_far_of s) v'

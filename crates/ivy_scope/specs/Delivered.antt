@@ -1,13 +1,13 @@
 -- That all that was sent was delivered.
 use Rattle.std.specs.Prelude.{◌≡◌, ◌≢◌, ℕ, List, slice_get, Some}
 use Rattle.ivy_moves.specs.ivy_link.Linked.{peer_at}
-use Rattle.ivy_session.specs.ivy_seating.ivy_site.Shown.{Shown}
+use Rattle.ivy_session.specs.ivy_seating.ivy_site.SiteView.{SiteView}
 
 -- all that node i sent to the others was delivered there
-abbrev pub IsSiteDelivered : List Shown → ℕ → Type 0
-IsSiteDelivered sites i = (j : ℕ) (s t : Shown) → i ≢ j → slice_get sites i ≡ Some s
+abbrev pub IsSiteDelivered : List SiteView → ℕ → Type 0
+IsSiteDelivered sites i = (j : ℕ) (s t : SiteView) → i ≢ j → slice_get sites i ≡ Some s
     → slice_get sites j ≡ Some t
     → (peer_at t.node.link i).delivered ≡ (peer_at s.node.link j).sent
 
-abbrev pub AreSitesDelivered : List Shown → Type 0
+abbrev pub AreSitesDelivered : List SiteView → Type 0
 AreSitesDelivered sites = (i : ℕ) → IsSiteDelivered sites i

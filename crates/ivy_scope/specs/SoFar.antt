@@ -15,7 +15,7 @@ use Rattle.ivy_session.specs.ivy_seating.ivy_ether.ivy_host.Hosts.{Host, host_ru
 use Rattle.ivy_session.specs.ivy_seating.ivy_ether.ivy_host.Managers.{Managed, managed_ops}
 use Rattle.ivy_session.specs.ivy_seating.ivy_ether.Going.{IsListOf}
 use Rattle.ivy_session.specs.ivy_seating.ivy_ether.Programs.{beginning, all_handed}
-use Rattle.ivy_session.specs.ivy_seating.ivy_site.Shown.{Shown}
+use Rattle.ivy_session.specs.ivy_seating.ivy_site.SiteView.{SiteView}
 use Rattle.ivy_session.specs.proof_headline.RunState.{Run}
 use Rattle.ivy_session.specs.proof_headline.Keeping.{Keeps}
 use Rattle.ivy_session.specs.proof_headline.proof_progress.Unblocked.{AreUnblocked}
@@ -27,7 +27,7 @@ pub record NodeSoFar : Type 0 where
   pub keep : Keep
 
 -- what is said of this site's node
-abbrev pub so_far_of : Shown → NodeSoFar
+abbrev pub so_far_of : SiteView → NodeSoFar
 so_far_of s = record { node = s.node; events = s.events; keep = s.keep }
 
 -- all nodes kept these lists

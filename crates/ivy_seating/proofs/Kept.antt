@@ -10,7 +10,7 @@ use Rattle.ivy_seating.specs.ivy_moves.ivy_link.declared.Verdict.{Verdict}
 use Rattle.ivy_seating.specs.ivy_moves.ivy_link.declared.Verdict.TheVariants as verdict
 use Rattle.ivy_seating.specs.ivy_moves.ivy_link.Accepted.{offered}
 use Rattle.ivy_seating.specs.ivy_moves.Nodes.{Node, Effect, stays, accepting, served_next, received_as, received, delivered_as, delivered, pulsing}
-use Rattle.ivy_seating.specs.ivy_site.Shown.{Shown, after_pulse_to}
+use Rattle.ivy_seating.specs.ivy_site.SiteView.{SiteView, after_pulse_to}
 use Rattle.ivy_seating.specs.ivy_site.Sites.{SiteDelivers, GoesOnOnce, SiteGoesOn, FollowsDelivery, AfterDelivery}
 use Rattle.ivy_seating.specs.Places.{SeatedState}
 use Rattle.ivy_seating.specs.Wire.{AfterWire, RefusesString}
@@ -76,10 +76,10 @@ delivered_core : (c : Config) (n : Node H) (bytes : List ℕ) (e : Effect H)
 unfolding delivered
 delivered_core c n bytes e is = delivered_by _ n bytes e is
 
-pub keeps_all : (s : Shown) → KeepsAnswers s s
+pub keeps_all : (s : SiteView) → KeepsAnswers s s
 keeps_all s = record { me = refl; keep = refl; history = refl; process = refl }
 
-pub keeps_on : (old mid new : Shown) → KeepsAnswers old mid → KeepsAnswers mid new
+pub keeps_on : (old mid new : SiteView) → KeepsAnswers old mid → KeepsAnswers mid new
     → KeepsAnswers old new
 keeps_on old mid new a b = record {
   me = b.me ∙ a.me;
@@ -88,14 +88,14 @@ keeps_on old mid new a b = record {
   process = b.process ∙ a.process;
 }
 
-pub keeps_same : (old new : Shown) → new ≡ old → KeepsAnswers old new
+pub keeps_same : (old new : SiteView) → new ≡ old → KeepsAnswers old new
 keeps_same old new same = subst (KeepsAnswers old) (sym same) (keeps_all old)
 
-from_core : (s : Shown) (e : Effect H) → SameCore s.node.core e.after.core
+from_core : (s : SiteView) (e : Effect H) → SameCore s.node.core e.after.core
     → KeepsAnswers s (record s { node = e.after })
 from_core s e k = record { me = refl; keep = refl; history = k.0; process = k.1 }
 
-delivers_keep : (v : Verdict) (bytes : List ℕ) (old new : Shown) → SiteDelivers bytes v old new
+delivers_keep : (v : Verdict) (bytes : List ℕ) (old new : SiteView) → SiteDelivers bytes v old new
     → KeepsAnswers old new
 delivers_keep verdict.NotMine bytes old new d = keeps_same old new d.after
 delivers_keep verdict.Next bytes old new d =
@@ -108,19 +108,19 @@ delivers_keep verdict.Ahead bytes old new d =
     let k = from_core old d.effect (delivered_core old.config old.node bytes d.effect d.delivered) in
     subst (KeepsAnswers old) (sym d.after) (record { me = k.me; keep = k.keep; history = k.history; process = k.process })
 
-once_keeps : (source : ℕ) (bytes : List ℕ) (old new : Shown) → GoesOnOnce source bytes old new
+once_keeps : (source : ℕ) (bytes : List ℕ) (old new : SiteView) → GoesOnOnce source bytes old new
     → KeepsAnswers old new
 once_keeps source bytes old new g =
     let k = delivers_keep verdict.Next bytes _ new g.next in
     record { me = k.me; keep = k.keep; history = k.history; process = k.process }
 
-goes_on_keeps : (source : ℕ) (more : List (List ℕ)) (old new : Shown) → SiteGoesOn source more old new
+goes_on_keeps : (source : ℕ) (more : List (List ℕ)) (old new : SiteView) → SiteGoesOn source more old new
     → KeepsAnswers old new
 goes_on_keeps source [] old new same = keeps_same old new same
 goes_on_keeps source (bytes ∷ more) old new g =
     keeps_on old g.0 new (once_keeps source bytes old g.0 g.1) (goes_on_keeps source more g.0 new g.2)
 
-follows_keep : (v : Verdict) (f : _) (bytes : List ℕ) (mid new : Shown)
+follows_keep : (v : Verdict) (f : _) (bytes : List ℕ) (mid new : SiteView)
     → FollowsDelivery v f bytes mid new → KeepsAnswers mid new
 follows_keep verdict.NotMine f bytes mid new same = keeps_same mid new same
 follows_keep verdict.Next f bytes mid new on = goes_on_keeps f.source on.0 mid new on.1
@@ -128,7 +128,7 @@ follows_keep verdict.Repeat f bytes mid new same = keeps_same mid new same
 follows_keep verdict.Ahead f bytes mid new same =
     subst (KeepsAnswers mid) (sym same) (record { me = refl; keep = refl; history = refl; process = refl })
 
-after_delivery_keeps : (v : Verdict) (bytes : List ℕ) (old new : Shown) → AfterDelivery bytes v old new
+after_delivery_keeps : (v : Verdict) (bytes : List ℕ) (old new : SiteView) → AfterDelivery bytes v old new
     → KeepsAnswers old new
 after_delivery_keeps v bytes old new d =
     keeps_on old d.mid new (delivers_keep v bytes old d.mid d.first)
@@ -153,7 +153,7 @@ pub wire_turn_keeps : {T : Type 0} (r : Result (WireTurn × T) Fault) (old new :
 wire_turn_keeps (Ok done) old new a = wire_keeps done.0 old new a
 wire_turn_keeps (Err fault) old new a = keeps_same old.site new.site a.rests.1
 
-pulse_keeps : (s : Shown) (to : ℕ) → KeepsAnswers s (after_pulse_to s to (pulsing s.node to))
+pulse_keeps : (s : SiteView) (to : ℕ) → KeepsAnswers s (after_pulse_to s to (pulsing s.node to))
 unfolding pulsing
 pulse_keeps s to = record { me = refl; keep = refl; history = refl; process = refl }
 

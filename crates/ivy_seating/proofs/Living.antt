@@ -22,12 +22,12 @@ use Rattle.ivy_ether.specs.Programs.{beginning, all_handed, Runs}
 use Rattle.ivy_ether.proofs.Hosts.{handed-at, handed_count, from_start}
 use Rattle.ivy_ether.proofs.Further.{lists_go_on}
 use Rattle.ivy_ether.proofs.Advancing.{with_list, list_here, list_else}
-use Rattle.ivy_site.specs.Shown.{Shown}
+use Rattle.ivy_site.specs.SiteView.{SiteView}
 use Rattle.ivy_site.specs.Sites.{IsMadeByEvents}
 use Rattle.ivy_seating.specs.Places.{IsSeated, IsInRun, place}
 use Rattle.ivy_seating.proofs.Seats.{its_list}
 
-module _ (c : Config) (programs : List Program) (wire : TableId) (s : Shown) (p : Held)
+module _ (c : Config) (programs : List Program) (wire : TableId) (s : SiteView) (p : Held)
     (h : IsSeated wire c programs s p) (made : IsMadeByEvents s) (r : Runs c programs p.known)
   where
     abbrev start : World (Host Managed)

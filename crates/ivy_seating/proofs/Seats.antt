@@ -38,7 +38,7 @@ use Rattle.ivy_ether.proofs.of_ivy_host.Handed.{handed_none}
 use Rattle.ivy_ether.specs.Views.{View, with_put, with_refused, with_taken, with_empty, with_handed, with_all_handed}
 use Rattle.ivy_site.specs.declared.turn.Turn as turn
 use Rattle.ivy_site.specs.declared.turn.Turn.TheVariants.{Idle, Moved, Ended}
-use Rattle.ivy_site.specs.Shown.{Shown, after_hearing, after_delivery, after_pulse_to}
+use Rattle.ivy_site.specs.SiteView.{SiteView, after_hearing, after_delivery, after_pulse_to}
 use Rattle.ivy_site.specs.Sites.{first_shown, IsMadeByEvents, IsSentBy, AfterTurn, AfterDelivery, SiteDelivers, without_ready, GoesOnOnce, FollowsDelivery}
 use Rattle.ivy_site.specs.Sites as sites
 use Rattle.ivy_site.specs.Calls.{AreAnswered, AreTaken, BeginsRow}
@@ -48,7 +48,7 @@ use Rattle.ivy_program.specs.Steps.{HasEnded}
 use Rattle.ivy_seating.specs.Places.{RunsProgram, IsSeated, IsFreshSeat}
 use Rattle.ivy_seating.specs.Reports.{report_of, IsDone}
 
-abbrev program_in : Shown → Program
+abbrev program_in : SiteView → Program
 program_in s = s.node.core.process.program
 
 -- the first node of a program
@@ -65,7 +65,7 @@ first_there c me k (p ∷ ps) (suc i) program at is =
     first_there c (me + 1) k ps i program (omega (arith, at)) is
 
 -- the site's list is one of its node
-pub its_list : (c : Config) (programs : List Program) (s : Shown) (made : IsMadeByEvents s)
+pub its_list : (c : Config) (programs : List Program) (s : SiteView) (made : IsMadeByEvents s)
     → s.config ≡ c → slice_get programs s.me ≡ Some (program_in s)
     → IsListOf (host_rules managed_ops) c (beginning c programs) s.me s.events made.effect
 its_list c programs s made config program = record {
@@ -78,7 +78,7 @@ its_list c programs s made config program = record {
 }
 
 -- where these calls were handed to all nodes, as to its own, its program is the one that it runs
-pub runs_there : (programs : List Program) (s : Shown) (calls : List (List Call))
+pub runs_there : (programs : List Program) (s : SiteView) (calls : List (List Call))
     → RunsProgram programs s calls
     → slice_get (all_handed (λ _. calls) programs) s.me ≡ Some (program_in s)
 runs_there programs s calls r =
@@ -86,7 +86,7 @@ runs_there programs s calls r =
 
 module _ (c : Config) (programs : List Program) where
   -- so it may be given
-  pub may_give : (wire : TableId) (s : Shown) (p : Held) (es : List Mark) → es ≡ s.events
+  pub may_give : (wire : TableId) (s : SiteView) (p : Held) (es : List Mark) → es ≡ s.events
       → IsSeated wire c programs s p → IsMadeByEvents s → MayGive c programs p.known es
   may_give wire s p es is h made = subst (MayGive c programs p.known) (sym is) (record {
     node = s.me;
@@ -105,12 +105,12 @@ module _ (c : Config) (programs : List Program) where
   })
 
   -- and sends what its events sent
-  pub sends_from : (wire : TableId) (s s' : Shown) (p : Held) (es : List Mark) (bytes : List ℕ)
+  pub sends_from : (wire : TableId) (s s' : SiteView) (p : Held) (es : List Mark) (bytes : List ℕ)
       → es ≡ s'.events → s' ≡ record s { waiting = s'.waiting } → IsSeated wire c programs s p
       → IsSentBy s bytes → SendsFrom c programs p.known es bytes
   sends_from wire s s' p es bytes is same h sent =
       subst (λ l. SendsFrom c programs p.known l bytes)
-      (sym (is ∙ ap (λ (x : Shown). x.events) same)) (record {
+      (sym (is ∙ ap (λ (x : SiteView). x.events) same)) (record {
         node = s.me;
         sits = h.node;
         at = starts_with c programs s.me p.known.handed;
@@ -123,7 +123,7 @@ module _ (c : Config) (programs : List Program) where
       })
 
   -- one more event, or none
-  record StaysAt (s s' : Shown) (took : List (List ℕ)) : Type 0 where
+  record StaysAt (s s' : SiteView) (took : List (List ℕ)) : Type 0 where
     me : s'.me ≡ s.me
     config : s'.config ≡ s.config
     program : program_in s' ≡ program_in s
@@ -131,17 +131,17 @@ module _ (c : Config) (programs : List Program) where
     events : s'.events ≡ s.events ++ ms
     can : AllCanBeMade took (length programs) s.me ms
 
-  stays_same : (s s' : Shown) (took : List (List ℕ)) → s' ≡ s → StaysAt s s' took
+  stays_same : (s s' : SiteView) (took : List (List ℕ)) → s' ≡ s → StaysAt s s' took
   stays_same s s' took same = record {
-    me = ap (λ (x : Shown). x.me) same;
-    config = ap (λ (x : Shown). x.config) same;
+    me = ap (λ (x : SiteView). x.me) same;
+    config = ap (λ (x : SiteView). x.config) same;
     program = ap program_in same;
     ms = [];
-    events = ap (λ (x : Shown). x.events) same ∙ sym (append-nil s.events);
+    events = ap (λ (x : SiteView). x.events) same ∙ sym (append-nil s.events);
     can = tt;
   }
 
-  stays_took : (s s' : Shown) (took : List (List ℕ))
+  stays_took : (s s' : SiteView) (took : List (List ℕ))
       → AllCanBeMade took (length programs) s.me s.events → StaysAt s s' took
       → AllCanBeMade took (length programs) s'.me s'.events
   stays_took s s' took before on =
@@ -149,7 +149,7 @@ module _ (c : Config) (programs : List Program) where
       (subst (AllCanBeMade took (length programs) s.me) (sym on.events)
       (can-append took (length programs) s.me s.events on.ms before on.can))
 
-  stays_on : (a b d : Shown) (took : List (List ℕ)) → StaysAt a b took → StaysAt b d took
+  stays_on : (a b d : SiteView) (took : List (List ℕ)) → StaysAt a b took → StaysAt b d took
       → StaysAt a d took
   stays_on a b d took x y = record {
     me = y.me ∙ x.me;
@@ -161,7 +161,7 @@ module _ (c : Config) (programs : List Program) where
         (subst (λ i. AllCanBeMade took (length programs) i y.ms) x.me y.can);
   }
 
-  stays_seated : (wire : TableId) (s s' : Shown) (p : Held) → IsSeated wire c programs s p
+  stays_seated : (wire : TableId) (s s' : SiteView) (p : Held) → IsSeated wire c programs s p
       → StaysAt s s' p.known.took → IsSeated wire c programs s' p
   stays_seated wire s s' p h on = record {
     limits = h.limits;
@@ -187,43 +187,43 @@ module _ (c : Config) (programs : List Program) where
   }
 
   -- after a turn
-  turn_stays : (t : turn.Turn) (s s' : Shown) (took : List (List ℕ)) → AfterTurn t s s'
+  turn_stays : (t : turn.Turn) (s s' : SiteView) (took : List (List ℕ)) → AfterTurn t s s'
       → StaysAt s s' took
   turn_stays Idle s s' took after = stays_same s s' took after.1
   turn_stays Ended s s' took after = stays_same s s' took after.2
   turn_stays Moved s s' took after = record {
-    me = ap (λ (x : Shown). x.me) after.after;
-    config = ap (λ (x : Shown). x.config) after.after;
+    me = ap (λ (x : SiteView). x.me) after.after;
+    config = ap (λ (x : SiteView). x.config) after.after;
     program = ap program_in after.after
         ∙ ap (λ (k : Host Managed). k.process.program)
         (posting-core s.node after.outcome.after after.outcome.posted after.effect after.sent)
         ∙ turned-program s.node.core after.outcome after.turn;
     ms = Turn ∷ [];
-    events = ap (λ (x : Shown). x.events) after.after;
+    events = ap (λ (x : SiteView). x.events) after.after;
     can = (tt, tt);
   }
 
-  pub turn_seated : (wire : TableId) (t : turn.Turn) (s s' : Shown) (p : Held)
+  pub turn_seated : (wire : TableId) (t : turn.Turn) (s s' : SiteView) (p : Held)
       → IsSeated wire c programs s p → AfterTurn t s s' → IsSeated wire c programs s' p
   turn_seated wire t s s' p h after =
       stays_seated wire s s' p h (turn_stays t s s' p.known.took after)
 
   -- after a delivery of a string that the pass took
-  listed : (bytes : List ℕ) (v w : Verdict) (s s' : Shown) (took : List (List ℕ))
+  listed : (bytes : List ℕ) (v w : Verdict) (s s' : SiteView) (took : List (List ℕ))
       → IsConfig s.config
       → Contains took bytes → (d : SiteDelivers bytes v s s')
       → s' ≡ after_hearing s bytes w d.frame.source d.effect → StaysAt s s' took
   listed bytes v w s s' took limits there d after = record {
-    me = ap (λ (x : Shown). x.me) after;
-    config = ap (λ (x : Shown). x.config) after;
+    me = ap (λ (x : SiteView). x.me) after;
+    config = ap (λ (x : SiteView). x.config) after;
     program = ap program_in after
         ∙ delivered-program s.config limits s.node d.frame bytes d.effect d.spelled d.delivered;
     ms = Delivery bytes ∷ [];
-    events = ap (λ (x : Shown). x.events) after;
+    events = ap (λ (x : SiteView). x.events) after;
     can = (there, tt);
   }
 
-  delivery_as : (bytes : List ℕ) (v w : Verdict) (s s' : Shown) (took : List (List ℕ)) → v ≡ w
+  delivery_as : (bytes : List ℕ) (v w : Verdict) (s s' : SiteView) (took : List (List ℕ)) → v ≡ w
       → IsConfig s.config → Contains took bytes → (d : SiteDelivers bytes v s s')
       → StaysAt s s' took
   delivery_as bytes v verdict.NotMine s s' took is limits there d =
@@ -239,7 +239,7 @@ module _ (c : Config) (programs : List Program) where
       (d.after ∙ ap (λ x. after_delivery s bytes x d.frame.source d.effect) is)
 
   -- and of one that it held, which the pass took once
-  once_stays : (source : ℕ) (bytes : List ℕ) (s s' : Shown) (took : List (List ℕ))
+  once_stays : (source : ℕ) (bytes : List ℕ) (s s' : SiteView) (took : List (List ℕ))
       → IsConfig s.config → AllCanBeMade took (length programs) s.me s.events
       → GoesOnOnce source bytes s s' → StaysAt s s' took
   once_stays source bytes s s' took limits before once =
@@ -258,7 +258,7 @@ module _ (c : Config) (programs : List Program) where
         can = x.can;
       }
 
-  all_stay : (source : ℕ) (more : List (List ℕ)) (s s' : Shown) (took : List (List ℕ))
+  all_stay : (source : ℕ) (more : List (List ℕ)) (s s' : SiteView) (took : List (List ℕ))
       → IsConfig s.config → AllCanBeMade took (length programs) s.me s.events
       → sites.SiteGoesOn source more s s' → StaysAt s s' took
   all_stay source [] s s' took limits before same = stays_same s s' took same
@@ -268,29 +268,29 @@ module _ (c : Config) (programs : List Program) where
       (all_stay source more on.0 s' took (subst IsConfig (sym x.config) limits)
       (stays_took s on.0 took before x) on.2)
 
-  holding_stays : (s s' : Shown) (took : List (List ℕ)) → s' ≡ record s { held = s'.held }
+  holding_stays : (s s' : SiteView) (took : List (List ℕ)) → s' ≡ record s { held = s'.held }
       → StaysAt s s' took
   holding_stays s s' took same = record {
-    me = ap (λ (x : Shown). x.me) same;
-    config = ap (λ (x : Shown). x.config) same;
+    me = ap (λ (x : SiteView). x.me) same;
+    config = ap (λ (x : SiteView). x.config) same;
     program = ap program_in same;
     ms = [];
-    events = ap (λ (x : Shown). x.events) same ∙ sym (append-nil s.events);
+    events = ap (λ (x : SiteView). x.events) same ∙ sym (append-nil s.events);
     can = tt;
   }
 
-  follows_stay : (v : Verdict) (f : Frame) (bytes : List ℕ) (s s' : Shown) (took : List (List ℕ))
+  follows_stay : (v : Verdict) (f : Frame) (bytes : List ℕ) (s s' : SiteView) (took : List (List ℕ))
       → IsConfig s.config → AllCanBeMade took (length programs) s.me s.events
       → FollowsDelivery v f bytes s s' → StaysAt s s' took
   follows_stay verdict.NotMine f bytes s s' took limits before same = stays_same s s' took same
   follows_stay verdict.Repeat f bytes s s' took limits before same = stays_same s s' took same
   follows_stay verdict.Ahead f bytes s s' took limits before same =
       holding_stays s s' took
-      (same ∙ ap (λ h. record s { held = h }) (sym (ap (λ (x : Shown). x.held) same)))
+      (same ∙ ap (λ h. record s { held = h }) (sym (ap (λ (x : SiteView). x.held) same)))
   follows_stay verdict.Next f bytes s s' took limits before on =
       all_stay f.source on.0 s s' took limits before on.1
 
-  pub delivery_seated : (wire : TableId) (bytes : List ℕ) (v : Verdict) (s s' : Shown) (p : Held)
+  pub delivery_seated : (wire : TableId) (bytes : List ℕ) (v : Verdict) (s s' : SiteView) (p : Held)
       → IsSeated wire c programs s p → Contains p.known.took bytes → AfterDelivery bytes v s s'
       → IsSeated wire c programs s' p
   delivery_seated wire bytes v s s' p h there d =
@@ -309,7 +309,7 @@ module _ (c : Config) (programs : List Program) where
   pulse_can to me nodes took [] below apart = tt
   pulse_can to me nodes took (x ∷ xs) below apart = ((below, apart), tt)
 
-  pub pulse_seated : (wire : TableId) (to : ℕ) (s s' : Shown) (p : Held)
+  pub pulse_seated : (wire : TableId) (to : ℕ) (s s' : SiteView) (p : Held)
       → IsSeated wire c programs s p → to < s.config.nodes → to ≢ s.me
       → s' ≡ after_pulse_to s to (pulsing s.node to) → IsSeated wire c programs s' p
   unfolding pulsing
@@ -317,11 +317,11 @@ module _ (c : Config) (programs : List Program) where
       let inside : to < length programs =
       subst (λ k. to < k) (ap (λ (k : Config). k.nodes) h.config ∙ sym h.each) below in
       stays_seated wire s s' p h (record {
-        me = ap (λ (x : Shown). x.me) after;
-        config = ap (λ (x : Shown). x.config) after;
+        me = ap (λ (x : SiteView). x.me) after;
+        config = ap (λ (x : SiteView). x.config) after;
         program = ap program_in after;
         ms = pulse_marks to (pulsing s.node to).sent;
-        events = ap (λ (x : Shown). x.events) after;
+        events = ap (λ (x : SiteView). x.events) after;
         can = pulse_can to s.me (length programs) p.known.took (pulsing s.node to).sent inside
             (λ same. apart (sym same));
       })
@@ -335,7 +335,7 @@ module _ (c : Config) (programs : List Program) where
     events : new.known.events ≡ es
     took : (b : List ℕ) → Contains old.known.took b → Contains new.known.took b
 
-  gave_seated : (wire : TableId) (s : Shown) (p p' : Held) → IsSeated wire c programs s p
+  gave_seated : (wire : TableId) (s : SiteView) (p p' : Held) → IsSeated wire c programs s p
       → Gives p p' s.events → IsSeated wire c programs s p'
   gave_seated wire s p p' h g = record {
     limits = h.limits;
@@ -353,7 +353,7 @@ module _ (c : Config) (programs : List Program) where
     took = can-more p.known.took p'.known.took (length programs) s.me s.events g.took h.took;
   }
 
-  pub given_seated : (wire : TableId) (s : Shown) (p p' : Held) (es : List Mark)
+  pub given_seated : (wire : TableId) (s : SiteView) (p p' : Held) (es : List Mark)
       (strings : List (List ℕ)) → es ≡ s.events → p'.ether ≡ p.ether
       → p'.known ≡ with_put p.known es strings → IsSeated wire c programs s p
       → IsSeated wire c programs s p'
@@ -366,7 +366,7 @@ module _ (c : Config) (programs : List Program) where
     took = λ b there. subst (λ (v : View). Contains v.took b) (sym known) there;
   })
 
-  pub taken_seated : (wire : TableId) (s : Shown) (p p' : Held) (es : List Mark) (x : Item)
+  pub taken_seated : (wire : TableId) (s : SiteView) (p p' : Held) (es : List Mark) (x : Item)
       → es ≡ s.events → p'.ether ≡ p.ether → p'.known ≡ with_taken p.known es x
       → IsSeated wire c programs s p → IsSeated wire c programs s p'
   taken_seated wire s p p' es x is ether known h = gave_seated wire s p p' h (record {
@@ -380,7 +380,7 @@ module _ (c : Config) (programs : List Program) where
   })
 
   -- after one that came to nothing, which the pass notes
-  pub noted_seated : (wire : TableId) (s : Shown) (p p' : Held) (refused : List (List ℕ))
+  pub noted_seated : (wire : TableId) (s : SiteView) (p p' : Held) (refused : List (List ℕ))
       (empty : ℕ) → p'.ether ≡ p.ether
       → p'.known ≡ record p.known { refused = refused; empty = empty }
       → IsSeated wire c programs s p → IsSeated wire c programs s p'
@@ -398,20 +398,20 @@ module _ (c : Config) (programs : List Program) where
       })
 
   -- a string less waits
-  pub less_seated : (wire : TableId) (s s' : Shown) (p : Held)
+  pub less_seated : (wire : TableId) (s s' : SiteView) (p : Held)
       → s' ≡ record s { waiting = s'.waiting } → IsSeated wire c programs s p
       → IsSeated wire c programs s' p
   less_seated wire s s' p same h = stays_seated wire s s' p h (record {
-    me = ap (λ (x : Shown). x.me) same;
-    config = ap (λ (x : Shown). x.config) same;
+    me = ap (λ (x : SiteView). x.me) same;
+    config = ap (λ (x : SiteView). x.config) same;
     program = ap program_in same;
     ms = [];
-    events = ap (λ (x : Shown). x.events) same ∙ sym (append-nil s.events);
+    events = ap (λ (x : SiteView). x.events) same ∙ sym (append-nil s.events);
     can = tt;
   })
 
   -- at first
-  pub fresh_seated : (wire : TableId) (s : Shown) (p : Held) → IsFreshSeat wire c programs s p
+  pub fresh_seated : (wire : TableId) (s : SiteView) (p : Held) → IsFreshSeat wire c programs s p
       → IsSeated wire c programs s p
   fresh_seated wire s p f = record {
     limits = f.limits;
@@ -419,7 +419,7 @@ module _ (c : Config) (programs : List Program) where
     ether = f.ether;
     node = ap (λ (v : View). v.node) f.pass;
     unreported = ap (λ (v : View). v.reported) f.pass;
-    config = ap (λ (x : Shown). x.config) f.site;
+    config = ap (λ (x : SiteView). x.config) f.site;
     program = record {
       first = f.program;
       there = f.there;
@@ -428,23 +428,23 @@ module _ (c : Config) (programs : List Program) where
     };
     given = record {
       more = [];
-      is = ap (λ (x : Shown). x.events) f.site ∙ sym (ap (λ (v : View). v.events) f.pass)
+      is = ap (λ (x : SiteView). x.events) f.site ∙ sym (ap (λ (v : View). v.events) f.pass)
           ∙ sym (append-nil p.known.events);
       can = tt;
     };
     took = subst (AllCanBeMade p.known.took (length programs) s.me)
-        (sym (ap (λ (x : Shown). x.events) f.site)) tt;
+        (sym (ap (λ (x : SiteView). x.events) f.site)) tt;
   }
 
   -- as the calls of a site answer
-  pub turned : (wire : TableId) (r : Result turn.Turn Fault) (s s' : Shown) (p : Held)
+  pub turned : (wire : TableId) (r : Result turn.Turn Fault) (s s' : SiteView) (p : Held)
       → MatchResult r (λ t. AfterTurn t s s') (λ _. s' ≡ s) → IsSeated wire c programs s p
       → IsSeated wire c programs s' p
   turned wire (Ok t) s s' p after h = turn_seated wire t s s' p h after
   turned wire (Err fault) s s' p same h =
       stays_seated wire s s' p h (stays_same s s' p.known.took same)
 
-  pub delivered : (wire : TableId) (r : Result Verdict Fault) (bytes : List ℕ) (s s' : Shown)
+  pub delivered : (wire : TableId) (r : Result Verdict Fault) (bytes : List ℕ) (s s' : SiteView)
       (p : Held) → MatchResult r (λ v. AfterDelivery bytes v s s') (λ _. s' ≡ s)
       → Contains p.known.took bytes → IsSeated wire c programs s p → IsSeated wire c programs s' p
   delivered wire (Ok v) bytes s s' p after there h =
@@ -452,7 +452,7 @@ module _ (c : Config) (programs : List Program) where
   delivered wire (Err fault) bytes s s' p same there h =
       stays_seated wire s s' p h (stays_same s s' p.known.took same)
 
-  pub pulsed : (wire : TableId) (r : Result (Unit {0}) Fault) (to : ℕ) (s s' : Shown) (p : Held)
+  pub pulsed : (wire : TableId) (r : Result (Unit {0}) Fault) (to : ℕ) (s s' : SiteView) (p : Held)
       → MatchResult r (λ _. s' ≡ after_pulse_to s to (pulsing s.node to)) (λ _. s' ≡ s)
       → to < s.config.nodes → to ≢ s.me → IsSeated wire c programs s p
       → IsSeated wire c programs s' p
@@ -462,7 +462,7 @@ module _ (c : Config) (programs : List Program) where
       stays_seated wire s s' p h (stays_same s s' p.known.took same)
 
   -- and those of the ether
-  pub put_seated : (wire : TableId) (r : Put) (s : Shown) (p p' : Held) (es : List Mark)
+  pub put_seated : (wire : TableId) (r : Put) (s : SiteView) (p p' : Held) (es : List Mark)
       (frame : List ℕ) → es ≡ s.events → p'.ether ≡ p.ether
       → MatchPut r (p'.known ≡ with_put p.known es (frame ∷ []))
       (λ back. (back ≡ frame) × (p'.known ≡ with_refused p.known frame))
@@ -472,7 +472,7 @@ module _ (c : Config) (programs : List Program) where
   put_seated wire (Lost back) s p p' es frame is ether known h =
       noted_seated wire s p p' (p.known.refused ++ frame ∷ []) p.known.empty ether known.1 h
 
-  pub take_seated : (wire : TableId) (r : Option Item) (s : Shown) (p p' : Held) (es : List Mark)
+  pub take_seated : (wire : TableId) (r : Option Item) (s : SiteView) (p p' : Held) (es : List Mark)
       → es ≡ s.events → p'.ether ≡ p.ether
       → MatchOption r (p'.known ≡ with_empty p.known) (λ x. p'.known ≡ with_taken p.known es x)
       → IsSeated wire c programs s p → IsSeated wire c programs s p'
@@ -482,7 +482,7 @@ module _ (c : Config) (programs : List Program) where
       taken_seated wire s p p' es x is ether known h
 
   -- once calls were handed to its node
-  pub all_handed_seated : (wire : TableId) (s s' : Shown) (p p' : Held) (calls : List (List Call))
+  pub all_handed_seated : (wire : TableId) (s s' : SiteView) (p p' : Held) (calls : List (List Call))
       → s' ≡ site_handed calls s → p'.ether ≡ p.ether
       → p'.known ≡ with_all_handed p.known calls → IsSeated wire c programs s p
       → IsSeated wire c programs s' p'
@@ -507,7 +507,7 @@ module _ (c : Config) (programs : List Program) where
       }))
 
   -- and once one was
-  pub hand_seated : (wire : TableId) (s s' : Shown) (p p' : Held) (call : Call)
+  pub hand_seated : (wire : TableId) (s s' : SiteView) (p p' : Held) (call : Call)
       → s' ≡ site_handed ((call ∷ []) ∷ []) s → p'.ether ≡ p.ether
       → p'.known ≡ with_handed p.known call → IsSeated wire c programs s p
       → IsSeated wire c programs s' p'
@@ -515,7 +515,7 @@ module _ (c : Config) (programs : List Program) where
       all_handed_seated wire s s' p p' ((call ∷ []) ∷ []) same ether known h
 
   -- once calls were made one after another, each answered in its turn
-  pub answered_seated : (wire : TableId) (rs : List Record) (s s' : Shown) (p p' : Held)
+  pub answered_seated : (wire : TableId) (rs : List Record) (s s' : SiteView) (p p' : Held)
       → AreAnswered rs s s' → p'.ether ≡ p.ether
       → p'.known ≡ with_all_handed p.known (one_by_one (calls_of rs)) → IsSeated wire c programs s p
       → IsSeated wire c programs s' p'
@@ -536,7 +536,7 @@ module _ (c : Config) (programs : List Program) where
       (sym (append_assoc p.known.handed ((r.call ∷ []) ∷ []) (one_by_one (calls_of rs))))) mid
 
   -- so it is of a row of words
-  pub row_seated : (wire : TableId) (kind : Row) (addr : ℕ) (numbers : List ℕ) (s s' : Shown)
+  pub row_seated : (wire : TableId) (kind : Row) (addr : ℕ) (numbers : List ℕ) (s s' : SiteView)
       (p p' : Held) → AreAnswered (row kind s.me addr numbers) s s' → p'.ether ≡ p.ether
       → p'.known ≡ with_all_handed p.known (one_by_one (calls_of (row kind 0 addr numbers)))
       → IsSeated wire c programs s p → IsSeated wire c programs s' p'
@@ -545,7 +545,7 @@ module _ (c : Config) (programs : List Program) where
       (known ∙ ap (λ ks. with_all_handed p.known (one_by_one ks)) (calls-of-row kind 0 s.me addr numbers)) h
 
   -- once calls of a row were made together, at least one
-  pub begun_seated : (wire : TableId) (kind : Row) (addr words : ℕ) (bytes : List ℕ) (s s' : Shown)
+  pub begun_seated : (wire : TableId) (kind : Row) (addr words : ℕ) (bytes : List ℕ) (s s' : SiteView)
       (p p' : Held) → words ≢ 0
       → BeginsRow (calls_of (row kind 0 addr (numbers_in words bytes))) s s' → p'.ether ≡ p.ether
       → p'.known
@@ -558,7 +558,7 @@ module _ (c : Config) (programs : List Program) where
       (all_handed_seated wire s (site_handed rows s) p p' rows refl ether known h) begins.turns
 
   -- and once the replies to calls were taken, each in a turn of its own
-  pub replies_seated : (wire : TableId) (rs : List Record) (s s' : Shown) (p : Held)
+  pub replies_seated : (wire : TableId) (rs : List Record) (s s' : SiteView) (p : Held)
       → AreTaken rs s s' → IsSeated wire c programs s p → IsSeated wire c programs s' p
   replies_seated wire [] s s' p same h =
       stays_seated wire s s' p h (stays_same s s' p.known.took same)
@@ -566,7 +566,7 @@ module _ (c : Config) (programs : List Program) where
       replies_seated wire rs on.0 s' p on.2 (turn_seated wire Moved s on.0 p h on.1.turns)
 
   -- a site whose program has ended is done
-  pub is_done : (wire : TableId) (s : Shown) (p : Held) (i : ℕ) → IsSeated wire c programs s p
+  pub is_done : (wire : TableId) (s : SiteView) (p : Held) (i : ℕ) → IsSeated wire c programs s p
       → IsMadeByEvents s → s.me ≡ i → HasEnded s.node.core.process
       → IsDone c (all_handed (λ _. p.known.handed) programs) i (report_of s)
   is_done wire s p i h made at ended = record {

@@ -14,7 +14,7 @@ use Rattle.ivy_ether.specs.Rule.{times, one_if}
 use Rattle.ivy_ether.specs.Programs.{all_handed}
 use Rattle.ivy_ether.specs.Views.{Closing, View, with_issued, with_given, with_closed, closing_of, beginner}
 use Rattle.ivy_moves.specs.Marks.{Mark}
-use Rattle.ivy_site.specs.Shown.{Shown}
+use Rattle.ivy_site.specs.SiteView.{SiteView}
 use Rattle.std.specs.Prelude.{unwrap_or}
 use Rattle.ivy_ether.specs.Words.{IsNewcomer, AreFresh}
 use Rattle.ivy_ether.proofs.Totals.{total-append}
@@ -50,7 +50,7 @@ told_more c programs v v' nodes nodes' n i last more tells told j m there =
     ]
 
 -- the starter took in the pass of a node that is done
-pub tells_of : (c : Config) (programs : List Program) (v v' w : View) (es : List Mark) (s : Shown)
+pub tells_of : (c : Config) (programs : List Program) (v v' w : View) (es : List Mark) (s : SiteView)
     (i : ℕ) → v' ≡ with_closed v (with_given w es) → w.node ≡ Some i → es ≡ s.events
     → IsDone c (all_handed (λ _. w.handed) programs) i (report_of s)
     → TellsOf c programs v i (report_of s) v'

@@ -9,7 +9,7 @@ use Rattle.ivy_model.specs.declared.Config.{Config}
 use Rattle.ivy_model.specs.Config.{IsConfig}
 use Rattle.ivy_model.specs.declared.Fault.{Fault}
 use Rattle.ivy_model.specs.declared.Fault.TheVariants as fault
-use Rattle.ivy_model.specs.Wants.{IsWant}
+use Rattle.ivy_model.specs.Wants.{RanOut}
 use Rattle.ivy_program.specs.Programs.{Program}
 use Rattle.ivy_wire.specs.declared.FrameKind.{FrameKind}
 use Rattle.ivy_wire.proofs.Frames.{spelled_once}
@@ -19,7 +19,7 @@ use Rattle.ivy_moves.specs.ivy_link.Accepted.{offered, verdict_on}
 use Rattle.ivy_moves.specs.ivy_link.Linked.{peer_at}
 use Rattle.ivy_moves.specs.Marks.{Mark}
 use Rattle.ivy_moves.specs.Nodes.{verdict_as, verdict_of}
-use Rattle.ivy_site.specs.Shown.{Shown}
+use Rattle.ivy_site.specs.SiteView.{SiteView}
 use Rattle.ivy_site.specs.Sites.{SiteDelivers, AfterDelivery, IsMadeByEvents}
 use Rattle.ivy_ether.specs.Data.{Item}
 use Rattle.ivy_ether.specs.declared.item.Item.TheVariants as items
@@ -29,14 +29,14 @@ use Rattle.ivy_seating.specs.Places.{SeatedState, place, IsSeated, KeepsSeat}
 use Rattle.ivy_seating.specs.Wire.{pass_after_putting, pass_after_refusing, pass_after_taking, pass_after_looking, IsForAnother, IsNoFrame, PutsFirst, LosesFirst, Rests, having_taken, ReturnsString, LosesString, DropsItem}
 
 -- the verdict of a delivery is what the definitions say of the string
-told_verdict : (bytes : List ℕ) (v : Verdict) (s mid : Shown) → IsConfig s.config
+told_verdict : (bytes : List ℕ) (v : Verdict) (s mid : SiteView) → IsConfig s.config
     → SiteDelivers bytes v s mid → v ≡ verdict_of s.config s.node bytes
 told_verdict bytes v s mid limits d =
     let once = spelled_once s.config d.frame bytes limits d.spelled in
     d.is ∙ sym (ap (λ r. verdict_as r s.node bytes) once.0
     ∙ ap (λ f. offered s.node.link f) once.1)
 
-pub verdict_told : (r : Result Verdict Fault) (bytes : List ℕ) (s s' : Shown) → IsConfig s.config
+pub verdict_told : (r : Result Verdict Fault) (bytes : List ℕ) (s s' : SiteView) → IsConfig s.config
     → MatchResult r (λ v. AfterDelivery bytes v s s') (λ _. s' ≡ s)
     → IfOk r (λ v. v ≡ verdict_of s.config s.node bytes)
 verdict_told (Ok v) bytes s s' limits after =
@@ -45,10 +45,10 @@ verdict_told (Err f) bytes s s' limits same = tt
 
 -- a string that is refused, and not for want of memory or numbers, spells no frame
 pub refused_as : (r : Result FrameKind Fault) (answer : Result Verdict Fault) (f : Fault)
-    → answer ≡ Err f → MatchResult r (λ _. IfErr answer IsWant) (λ g. answer ≡ Err g)
+    → answer ≡ Err f → MatchResult r (λ _. IfErr answer RanOut) (λ g. answer ≡ Err g)
     → f ≢ fault.Memory → f ≢ fault.NumbersSpent → (g : Fault) × (r ≡ Err g)
 refused_as (Ok kind) answer f is want some numbers =
-    let wanted : IsWant f = subst (λ a. IfErr a IsWant) is want in
+    let wanted : RanOut f = subst (λ a. IfErr a RanOut) is want in
     elim wanted [ inl m ↦ absurd (some m) | inr m ↦ absurd (numbers m) ]
 refused_as (Err g) answer f is same some numbers = (g, refl)
 
@@ -63,10 +63,10 @@ mine_on : (delivered number : ℕ) → verdict_on delivered number ≢ verdict.N
 mine_on delivered number = mine_if (number == delivered + 1) (nat_le number delivered)
 
 -- the site is as it was
-not_mine_same : (bytes : List ℕ) (s s' : Shown) → AfterDelivery bytes verdict.NotMine s s' → s' ≡ s
+not_mine_same : (bytes : List ℕ) (s s' : SiteView) → AfterDelivery bytes verdict.NotMine s s' → s' ≡ s
 not_mine_same bytes s s' d = d.follows ∙ d.first.after
 
-pub for_another : (bytes : List ℕ) (s s' : Shown) → AfterDelivery bytes verdict.NotMine s s'
+pub for_another : (bytes : List ℕ) (s s' : SiteView) → AfterDelivery bytes verdict.NotMine s s'
     → IsForAnother s bytes
 for_another bytes s s' d = record {
   frame = d.first.frame;
@@ -78,18 +78,18 @@ for_another bytes s s' d = record {
 }
 
 -- a site's own frame is put, or lost
-pub put_own : (e : TableId) (s s' : Shown) (p p' : Held) (es : List Mark) (bytes : List ℕ)
+pub put_own : (e : TableId) (s s' : SiteView) (p p' : Held) (es : List Mark) (bytes : List ℕ)
     → s.waiting ≡ bytes ∷ s'.waiting → s' ≡ record s { waiting = s'.waiting } → es ≡ s'.events
     → p'.ether ≡ p.ether → p'.known ≡ with_put p.known es (bytes ∷ [])
     → PutsFirst (place e s p) (place e s' p')
 put_own e s s' p p' es bytes waited same is ether known =
     let put : p'.known ≡ with_put p.known s.events (bytes ∷ []) =
-    known ∙ ap (λ l. with_put p.known l (bytes ∷ [])) (is ∙ ap (λ (x : Shown). x.events) same) in record {
+    known ∙ ap (λ l. with_put p.known l (bytes ∷ [])) (is ∙ ap (λ (x : SiteView). x.events) same) in record {
       first = record { bytes = bytes; waited = waited; same = same };
       put = λ k. held (ether k) (put k);
     }
 
-pub lost_own : (e : TableId) (s s' : Shown) (p p' : Held) (bytes : List ℕ)
+pub lost_own : (e : TableId) (s s' : SiteView) (p p' : Held) (bytes : List ℕ)
     → s.waiting ≡ bytes ∷ s'.waiting → s' ≡ record s { waiting = s'.waiting }
     → p'.ether ≡ p.ether → p'.known ≡ with_refused p.known bytes
     → LosesFirst (place e s p) (place e s' p')
@@ -99,7 +99,7 @@ lost_own e s s' p p' bytes waited same ether known = record {
 }
 
 -- another's frame is put back
-pub put_other : (e : TableId) (s : Shown) (p p' : Held) (es : List Mark) (bytes : List ℕ)
+pub put_other : (e : TableId) (s : SiteView) (p p' : Held) (es : List Mark) (bytes : List ℕ)
     → es ≡ s.events → p'.ether ≡ p.ether → p'.known ≡ with_put p.known es (bytes ∷ [])
     → p' ≡ pass_after_putting (place e s p) bytes
 put_other e s p p' es bytes is ether known =
@@ -108,12 +108,12 @@ put_other e s p p' es bytes is ether known =
     (λ k. held (ether k) (put k))
 
 -- or lost
-pub lost_other : (e : TableId) (s : Shown) (p p' : Held) (bytes : List ℕ) → p'.ether ≡ p.ether
+pub lost_other : (e : TableId) (s : SiteView) (p p' : Held) (bytes : List ℕ) → p'.ether ≡ p.ether
     → p'.known ≡ with_refused p.known bytes → p' ≡ pass_after_refusing (place e s p) bytes
 lost_other e s p p' bytes ether known = λ k. held (ether k) (known k)
 
 -- an item is taken
-pub took_item : (r : Option Item) (e : TableId) (s : Shown) (p p' : Held) (es : List Mark)
+pub took_item : (r : Option Item) (e : TableId) (s : SiteView) (p p' : Held) (es : List Mark)
     → es ≡ s.events → p'.ether ≡ p.ether
     → MatchOption r (p'.known ≡ with_empty p.known) (λ x. p'.known ≡ with_taken p.known es x)
     → MatchOption r (p' ≡ pass_after_looking (place e s p))
@@ -158,7 +158,7 @@ drops_string bytes old now new h none same = record {
   rests = (h.rests.0, ap (λ (s : SeatedState). s.site) same ∙ h.rests.1);
   item = items.Frame bytes;
   none = All-cons (IsNoFrame old.site) bytes []
-      (subst (λ (s : Shown). IsNoFrame s bytes) h.rests.1 none)
+      (subst (λ (s : SiteView). IsNoFrame s bytes) h.rests.1 none)
       (All-nil (IsNoFrame old.site));
   took = ap (λ (s : SeatedState). s.pass) same ∙ h.pass;
 }
@@ -181,7 +181,7 @@ returns_string bytes old now mid new h d ether pass site put =
       record {
         rests = (h.rests.0, site ∙ ap (λ (s : SeatedState). s.site) same);
         bytes = bytes;
-        other = subst (λ (s : Shown). IsForAnother s bytes) h.rests.1
+        other = subst (λ (s : SiteView). IsForAnother s bytes) h.rests.1
             (for_another bytes now.site mid.site d);
         put = put ∙ ap (λ s. pass_after_putting s bytes) same;
       },
@@ -198,7 +198,7 @@ loses_string bytes old now mid new h d ether pass site refused =
       record {
         rests = (h.rests.0, site ∙ ap (λ (s : SeatedState). s.site) same);
         bytes = bytes;
-        other = subst (λ (s : Shown). IsForAnother s bytes) h.rests.1
+        other = subst (λ (s : SiteView). IsForAnother s bytes) h.rests.1
             (for_another bytes now.site mid.site d);
         refused = refused ∙ ap (λ s. pass_after_refusing s bytes) same;
       },
@@ -206,7 +206,7 @@ loses_string bytes old now mid new h d ether pass site refused =
     )
 
 -- what holds of a seated site
-pub keeps_seat : (wire : TableId) (c : Config) (programs : List Program) (s : Shown)
+pub keeps_seat : (wire : TableId) (c : Config) (programs : List Program) (s : SiteView)
     (p : Held) → IsSeated wire c programs s p → IsMadeByEvents s
     → KeepsSeat c programs (place wire s p)
 keeps_seat wire c programs s p h made = record { seated = h; made = made }

@@ -11,18 +11,18 @@ use Rattle.ivy_moves.specs.Worlds.{World}
 use Rattle.ivy_ether.specs.ivy_host.Hosts.{Host, host_rules}
 use Rattle.ivy_ether.specs.ivy_host.Managers.{Managed, managed_ops}
 use Rattle.ivy_ether.specs.Programs.{beginning, all_handed}
-use Rattle.ivy_site.specs.Shown.{Shown}
+use Rattle.ivy_site.specs.SiteView.{SiteView}
 use Rattle.ivy_site.specs.Sites.{first_keeping, IsMadeByEvents}
 use Rattle.ivy_ether.specs.Held.{Held}
 use Rattle.ivy_ether.specs.Views.{newcomer, with_seat}
 
 pub record SeatedState : Type 0 where
   pub ether : TableId
-  pub site : Shown
+  pub site : SiteView
   pub pass : Held
 
 -- the site's list goes on from what the pass gave, by deliveries of strings that the pass took
-pub record HasGiven (nodes : ℕ) (s : Shown) (p : Held) : Type 0 where
+pub record HasGiven (nodes : ℕ) (s : SiteView) (p : Held) : Type 0 where
   pub more : List Mark
   pub is : s.events ≡ p.known.events ++ more
   pub can : AllCanBeMade p.known.took nodes s.me more
@@ -33,7 +33,7 @@ no_ether =
     record { words = 0; slots = 0; views_name = 0; atom = 0; block = 0; offset = 0; slot_names = [] }
 
 -- the site runs its node's program, where these rows of calls were handed to it
-pub record RunsProgram (programs : List Program) (s : Shown) (calls : List (List Call)) : Type 0
+pub record RunsProgram (programs : List Program) (s : SiteView) (calls : List (List Call)) : Type 0
   where
     pub first : Program
     pub there : slice_get programs s.me ≡ Some first
@@ -42,7 +42,7 @@ pub record RunsProgram (programs : List Program) (s : Shown) (calls : List (List
 -- the pass is of this ether, sits at the site's node and has not reported, and took each string
 -- that was delivered to the site; the site runs the node's program
 pub record IsSeated (wire : TableId) (c : Config) (programs : List Program)
-    (s : Shown) (p : Held) : Type 0 where
+    (s : SiteView) (p : Held) : Type 0 where
   pub limits : IsConfig c
   pub each : length programs ≡ c.nodes
   pub ether : p.ether ≡ wire
@@ -77,12 +77,12 @@ pub record IsInRun (c : Config) (programs : List Program) (s : SeatedState) : Ty
     pub waits : (bytes : List ℕ) → Contains s.site.waiting bytes → Contains end.sent bytes
 
 -- this site, with this pass, at this ether
-abbrev pub place : TableId → Shown → Held → SeatedState
+abbrev pub place : TableId → SiteView → Held → SeatedState
 place e s p = record { ether = e; site = s; pass = p }
 
 -- a site of the node's program as it begins, whatever it keeps, and a pass of this ether that took the node's seat
 pub record IsFreshSeat (wire : TableId) (c : Config) (programs : List Program)
-    (s : Shown) (p : Held) : Type 0 where
+    (s : SiteView) (p : Held) : Type 0 where
   pub limits : IsConfig c
   pub each : length programs ≡ c.nodes
   pub ether : p.ether ≡ wire

@@ -16,7 +16,7 @@ use Rattle.ivy_moves.specs.Worlds.{World}
 use Rattle.ivy_ether.specs.ivy_host.Holding.{IsExclusive, HasNoBreach}
 use Rattle.ivy_ether.specs.ivy_host.Hosts.{Host, host_rules}
 use Rattle.ivy_ether.specs.ivy_host.Managers.{Managed, managed_ops}
-use Rattle.ivy_site.specs.Shown.{Shown}
+use Rattle.ivy_site.specs.SiteView.{SiteView}
 use Rattle.ivy_ether.specs.Going.{IsListOf}
 use Rattle.ivy_ether.specs.Programs.{beginning, all_handed}
 
@@ -29,7 +29,7 @@ pub record NodeReport : Type 0 where
   pub keep : Keep
 
 -- what a report says of this site's node
-abbrev pub report_of : Shown → NodeReport
+abbrev pub report_of : SiteView → NodeReport
 report_of s = record {
   history = s.node.core.history;
   output = s.node.core.process.state.output;

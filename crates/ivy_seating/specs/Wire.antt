@@ -5,10 +5,10 @@ use Rattle.ivy_moves.specs.ivy_link.declared.Verdict.{Verdict}
 use Rattle.ivy_moves.specs.ivy_link.declared.Verdict.TheVariants as verdict
 use Rattle.ivy_wire.specs.Data.{Frame}
 use Rattle.ivy_wire.specs.Destinations.{dest_of}
-use Rattle.ivy_wire.specs.Faults.{checked}
+use Rattle.ivy_wire.specs.DecodeErrors.{checked}
 use Rattle.ivy_wire.specs.Spelling.{Spells}
 use Rattle.ivy_site.specs.ivy_outbox.Outboxes.{next_dest}
-use Rattle.ivy_site.specs.Shown.{Shown}
+use Rattle.ivy_site.specs.SiteView.{SiteView}
 use Rattle.ivy_site.specs.Sites.{AfterDelivery, IsSpentDelivery}
 use Rattle.ivy_ether.specs.Data.{Item}
 use Rattle.ivy_ether.specs.declared.item.Item.TheVariants as item
@@ -38,17 +38,17 @@ abbrev pub pass_after_looking : SeatedState → Held
 pass_after_looking s = held s.pass.ether (with_empty s.pass.known)
 
 -- the string spells a frame for another node than the site's
-pub record IsForAnother (s : Shown) (bytes : List ℕ) : Type 0 where
+pub record IsForAnother (s : SiteView) (bytes : List ℕ) : Type 0 where
   pub frame : Frame
   pub spelled : Spells s.config frame bytes
   pub other : frame.dest ≢ s.node.link.me
 
 -- the string spells no frame
-abbrev pub IsNoFrame : Shown → List ℕ → Type 0
+abbrev pub IsNoFrame : SiteView → List ℕ → Type 0
 IsNoFrame s bytes = (fault : Fault) × (checked s.config bytes ≡ Err fault)
 
 -- the first string that waited waits no more, and else the site is as it was
-pub record Leaves (old new : Shown) : Type 0 where
+pub record Leaves (old new : SiteView) : Type 0 where
   pub bytes : List ℕ
   pub waited : old.waiting ≡ bytes ∷ new.waiting
   pub same : new ≡ record old { waiting = new.waiting }

@@ -1,19 +1,19 @@
 //! A site that is seated at an ether.
 ghost use Rattle.std.specs.Prelude.{◌≡◌, ◌≢◌, ◌↔◌, ◌*◌, ◌<◌, ◌≤◌, [], ◌∷◌, ◌++◌, Err, None, Contains, IsTrue, MatchBool, MatchOption, MatchResult, IfOk, IfErr, IfSome, IsSome, IsOkUnless, OnOk, OnErr, length};
 ghost use Rattle.ivy_model.specs.Rows.{calls_of, numbers_in, row};
-ghost use Rattle.ivy_model.specs.Wants.{IsWant};
-ghost use Rattle.ivy_wire.specs.Faults.{checked};
+ghost use Rattle.ivy_model.specs.Wants.{RanOut};
+ghost use Rattle.ivy_wire.specs.DecodeErrors.{checked};
 ghost use Rattle.ivy_moves.specs.Nodes.{pulsing, verdict_of};
 ghost use Rattle.ivy_model.specs.Legal.{HasWidth};
 ghost use Rattle.ivy_program.specs.Owned.{IsFree};
 ghost use Rattle.ivy_program.specs.Programs.{one_by_one};
 ghost use Rattle.ivy_program.specs.Steps.{HasEnded};
 ghost use Rattle.ivy_site.specs.ivy_host.ivy_memory.AtOnce.{IsStored, row_at_hand};
-ghost use Rattle.ivy_site.specs.Calls.{AreAnswered, AreTaken, BeginsCall, BeginsRow, MayCallInRow, row_together};
+ghost use Rattle.ivy_site.specs.Calls.{AreAnswered, AreTaken, BeginsCall, BeginsRow, MayCallInRow, MayCallTogether, row_together};
 ghost use Rattle.ivy_site.specs.Handed.{site_handed};
 ghost use Rattle.ivy_ether.specs.Views.{with_all_handed, with_handed};
 ghost use Rattle.ivy_site.specs.ivy_outbox.Outboxes.{next_dest};
-ghost use Rattle.ivy_site.specs.Shown.{after_pulse_to};
+ghost use Rattle.ivy_site.specs.SiteView.{after_pulse_to};
 ghost use Rattle.ivy_site.specs.Sites.{AfterTurn, AfterDelivery, IsSpentTurn, IsSpentDelivery};
 ghost use Rattle.ivy_seating.specs.Places.{place, IsSeated, IsFreshSeat, KeepsSeat, IsInRun};
 ghost use Rattle.ivy_seating.specs.Wire.{AfterWire, Drains, RefusesString, IsPutFor, IsNextOther, pass_after_putting, pass_after_refusing, pass_after_taking, pass_after_looking};
@@ -166,7 +166,7 @@ impl<'e, S: Setup, A: Allocator + Copy> Seated<'e, S, A> {
         ensures done { MatchResult result (λ reply. BeginsCall call reply self.old.site self.new.site) (λ _. self.new ≡ self.old) }
         ensures pass { OnOk result (self.new.pass.known ≡ with_handed self.old.pass.known call) }
         ensures busy { (IsFree self.old.site.node.core.process → ⊥) → result ≡ Err Fault.Busy }
-        ensures want { IsFree self.old.site.node.core.process → IfErr result IsWant }
+        ensures want { IsFree self.old.site.node.core.process → IfErr result RanOut }
     {
         let reply = self.site.call(call)?;
         self.ether.hand(&mut self.pass, call);
@@ -207,8 +207,8 @@ impl<'e, S: Setup, A: Allocator + Copy> Seated<'e, S, A> {
 
     /// The node's owner makes calls on words of 8 bytes in a row together, from `addr` on, with a turn, in which the first
     /// begins and waits [1, 17]: as many as `words`, as `bytes` has, and as lie in the page. It says how many. Where that is
-    /// none, nothing was done, as where the first need not wait. Their replies are taken by [`Seated::take_loads`] and
-    /// [`Seated::take_stores`].
+    /// none, nothing was done, as where the first need not wait. Later turns ask for their replies, one each; where the site
+    /// keeps no list of its own past, all are taken at once by [`Seated::take_loads`] and [`Seated::take_stores`].
     pub fn call_row(
         &mut self,
         kind: Row,
@@ -220,9 +220,9 @@ impl<'e, S: Setup, A: Allocator + Copy> Seated<'e, S, A> {
         ensures done { MatchResult result (λ n. BeginsRow (calls_of (row kind 0 addr (numbers_in n bytes.now))) self.old.site self.new.site) (λ _. self.new ≡ self.old) }
         ensures pass { IfOk result (λ n. n ≢ 0 → self.new.pass.known ≡ with_all_handed self.old.pass.known (calls_of (row kind 0 addr (numbers_in n bytes.now)) ∷ [])) }
         ensures none { IfOk result (λ n. n ≡ 0 → self.new ≡ self.old) }
-        ensures many { MayCallInRow self.old.site addr (length bytes.now) → IfOk result (λ n. n ≡ row_together self.old.site kind addr words (length bytes.now)) }
+        ensures many { MayCallTogether self.old.site.node.core.process self.old.site.node.core.history addr (length bytes.now) → IfOk result (λ n. n ≡ row_together self.old.site kind addr words (length bytes.now)) }
         ensures fits { IfOk result (λ n. (n ≤ words) × (8 * n ≤ length bytes.now)) }
-        ensures want { IfErr result IsWant }
+        ensures want { IfErr result RanOut }
     {
         let begun = self.site.call_row(kind, addr, words, bytes)?;
         if begun > 0 {
@@ -265,7 +265,7 @@ impl<'e, S: Setup, A: Allocator + Copy> Seated<'e, S, A> {
         ensures ended { IfOk result (λ turn. (turn ≡ Turn.Ended) ↔ HasEnded self.old.site.node.core.process) }
         ensures waits { IfOk result (λ turn. turn ≡ Turn.Idle → IsSome self.old.site.node.core.memory.asked) }
         ensures spent { IfErr result (IsSpentTurn self.old.site) }
-        ensures want { IfErr result IsWant }
+        ensures want { IfErr result RanOut }
     {
         self.site.program_turn()
     }
@@ -302,7 +302,7 @@ impl<'e, S: Setup, A: Allocator + Copy> Seated<'e, S, A> {
         ensures pass { self.new.pass ≡ self.old.pass }
         ensures done { MatchResult result (λ verdict. AfterDelivery string.now verdict self.old.site self.new.site) (λ _. self.new ≡ self.old) }
         ensures verdict { IfOk result (λ verdict. verdict ≡ verdict_of self.old.site.config self.old.site.node string.now) }
-        ensures refused { MatchResult (checked self.old.site.config string.now) (λ _. IfErr result IsWant) (λ fault. result ≡ Err fault) }
+        ensures refused { MatchResult (checked self.old.site.config string.now) (λ _. IfErr result RanOut) (λ fault. result ≡ Err fault) }
         ensures spent { IfErr result (IsSpentDelivery self.old.site string.now) }
     {
         self.site.deliver_shared(string)
@@ -355,7 +355,7 @@ impl<'e, S: Setup, A: Allocator + Copy> Seated<'e, S, A> {
     pub fn wire_turn<R: Wait>(&mut self, rt: &R) -> Result<WireTurn, Fault>
         ensures ether { self.new.ether ≡ self.old.ether }
         ensures done { MatchResult result (λ turn. AfterWire turn self.old self.new) (λ fault. RefusesString fault self.old self.new) }
-        ensures want { IfErr result IsWant }
+        ensures want { IfErr result RanOut }
     {
         let (turn, _) = self.wire_turn_to(rt)?;
         Ok(turn)
@@ -366,7 +366,7 @@ impl<'e, S: Setup, A: Allocator + Copy> Seated<'e, S, A> {
         ensures ether { self.new.ether ≡ self.old.ether }
         ensures done { MatchResult result (λ done. AfterWire done.0 self.old self.new) (λ fault. RefusesString fault self.old self.new) }
         ensures to { IfOk result (λ done. IsPutFor done.0 done.1 self.old self.new) }
-        ensures want { IfErr result IsWant }
+        ensures want { IfErr result RanOut }
     {
         if let Some(sent) = self.send_first(rt) {
             return Ok(sent);

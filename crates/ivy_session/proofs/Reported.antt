@@ -32,7 +32,7 @@ use Rattle.ivy_seating.proofs.of_ivy_ether.Hosts.{length-all_handed, opened, fro
 use Rattle.ivy_seating.specs.ivy_ether.Views.{View}
 use Rattle.ivy_seating.specs.Reports.{NodeReport, IsDone, IsReport, IsHandedReport}
 use Rattle.ivy_seating.specs.Told.{AreTold}
-use Rattle.proof_headline.proofs.Headline.{exclusive-led, no_breach-led, runs-led, explained-along, sound-led}
+use Rattle.proof_headline.proofs.Headline.{exclusive_along, no_breach-led, runs_led, explained-along, sound-led}
 
 -- the order at the end of a run
 pub explained_end : (c : Config) (w end : World (Host Managed)) (order : List Record)
@@ -118,7 +118,7 @@ module _ (c : Config) (programs : List Program) (limits : IsConfig c)
         × IsWholeRun program n.history n.output
     whole_run i n there =
         let e = at_end i n there in
-        let r = runs-led c programs limits each run.moves end run.leads i e.node e.there in (
+        let r = runs_led c programs limits each run.moves end run.leads i e.node e.there in (
           e.node.core.process.program,
           r.0,
           subst (λ h. IsWholeRun e.node.core.process.program h n.output) (sym e.history)
@@ -135,7 +135,7 @@ module _ (c : Config) (programs : List Program) (limits : IsConfig c)
     whole_part i n there =
         let e = at_end i n there in
         let sound = sound-led c programs limits each run.moves end run.leads i e.node e.there in
-        let p = order.1.parts i (answered_by e.node.core)
+        let p = order.1.explained.parts i (answered_by e.node.core)
         (map_get (λ (m : Node (Host Managed)). answered_by m.core) end.nodes i e.node e.there) in
         let none : e.node.core.memory.asked ≡ None =
         asks_none e.node.core.memory.asked e.node.core refl (λ call is. (sound.asking call is).0)
@@ -155,8 +155,8 @@ module _ (c : Config) (programs : List Program) (limits : IsConfig c)
       run = run;
       whole = whole_run;
       order = order.0;
-      explained = record { legal = order.1.legal; parts = whole_part };
-      exclusive = exclusive-led c programs limits each run.moves end run.leads;
+      explained = record { legal = order.1.explained.legal; parts = whole_part };
+      exclusive = exclusive_along c programs limits each run.moves end run.leads;
       no_breach = no_breach-led c programs limits each run.moves end run.leads;
     }
 

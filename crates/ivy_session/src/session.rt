@@ -211,7 +211,7 @@ impl Session {
         ensures fault { IfErr result IsSessionFault }
     {
         config.check_wide()?;
-        if programs.len() != usize::from(config.nodes) || !limits.are_fair() {
+        if programs.len() != usize::from(config.nodes) || !limits.are_valid() {
             return Err(Fault::BadConfig);
         }
         are_written(&programs);

@@ -19,10 +19,10 @@ use Rattle.ivy_simulation.specs.Simulated.{DrawnTo}
 use Rattle.ivy_simulation.proofs.Printing.{adds-last}
 
 -- one move more is made
-pub led-on : (c c' : Config) (u v w : World (Host Managed)) (moves : List Move) (i : ℕ) (d : Move)
+pub led_on : (c c' : Config) (u v w : World (Host Managed)) (moves : List Move) (i : ℕ) (d : Move)
     → i < length moves → c' ≡ c → IsLedTo c u (take i moves) v
     → IsLedTo c' v (get_or moves i d ∷ []) w → IsLedTo c u (take (i + 1) moves) w
-led-on c c' u v w moves i d within same led next =
+led_on c c' u v w moves i d within same led next =
     let one : IsLedTo c v (get_or moves i d ∷ []) w =
     subst (λ k. IsLedTo k v (get_or moves i d ∷ []) w) same next in
     subst (λ (ms : List Move). IsLedTo c u ms w) (sym (take_more moves i d within))

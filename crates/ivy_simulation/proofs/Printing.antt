@@ -7,7 +7,7 @@ use Rattle.std.proofs.lemmas.List.{length-take-le}
 use Rattle.std.proofs.lemmas.Option.{slice_get_within, slice_get_cases}
 use Rattle.ivy_program.specs.Steps.{Step, Local, Asks, Ends}
 use Rattle.std.specs.Io.KnownBytes.{Appends}
-use Rattle.ivy_texts.proofs.Printing.{appends-more, taken-more}
+use Rattle.ivy_texts.proofs.Printing.{appends-more, taken_more}
 use Rattle.ivy_simulation.specs.Played.{Adds, AddsLast}
 use Rattle.ivy_simulation.specs.Nodes.{numbered_texts, is_end}
 
@@ -29,7 +29,7 @@ numbered-more text xs i x there =
     let within : i + 1 ≤ length xs = omega (arith, slice_get_within xs i x there) in
     let place : 0 + length (take i xs) ≡ i =
     zero-add _ ∙ length-take-le i xs (omega (arith, within)) in
-    ap (numbered_texts text 0) (taken-more xs i x there) ∙ numbered-snoc text 0 (take i xs) x
+    ap (numbered_texts text 0) (taken_more xs i x there) ∙ numbered-snoc text 0 (take i xs) x
     ∙ ap (λ k. numbered_texts text 0 (take i xs) ++ text k x) place
 
 -- a loop over the places of a list has shown the item of one more place

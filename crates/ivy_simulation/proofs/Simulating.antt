@@ -18,10 +18,10 @@ IsDrawnSince c g start made h w =
     → DrawnTo c g (made + more) start end
 
 -- one more move is drawn and made
-pub drawn-on : (c : Config) (g h h' : Lcg) (start w w' : World (Host Managed)) (made : ℕ)
+pub drawn_on : (c : Config) (g h h' : Lcg) (start w w' : World (Host Managed)) (made : ℕ)
     (move : Move) → IsDrawnSince c g start made h w → (move, h') ≡ drawn c.nodes w.sent h
     → IsLedTo c w (move ∷ []) w' → IsDrawnSince c g start (made + 1) h' w'
-drawn-on c g h h' start w w' made move since draws led more end later =
+drawn_on c g h h' start w w' made move since draws led more end later =
     let first : IsLedTo c w ((drawn c.nodes w.sent h).0 ∷ []) w' =
     subst (λ (p : Move × Lcg). IsLedTo c w (p.0 ∷ []) w') draws led in
     let rest : DrawnTo c (drawn c.nodes w.sent h).1 more w' end =

@@ -12,7 +12,7 @@ use Rattle.ivy_wire.specs.Data.{Parcel}
 use Rattle.ivy_moves.specs.ivy_link.Linked.{has_numbers}
 use Rattle.ivy_host.specs.ivy_coherence.declared.Need.{Need}
 use Rattle.ivy_host.specs.ivy_coherence.declared.Need.TheVariants as need
-use Rattle.ivy_host.specs.ivy_coherence.Faults.{Begun, begun}
+use Rattle.ivy_host.specs.ivy_coherence.PageFaults.{Begun, begun}
 use Rattle.ivy_host.specs.Managers.{Managed, managed_ops}
 use Rattle.ivy_program.specs.Steps.{Process, Asks, step_of, answered_with, along_of}
 use Rattle.ivy_moves.specs.Cores.{Outcome}

@@ -13,7 +13,7 @@ use Rattle.ivy_model.specs.Config.{IsConfig}
 use Rattle.ivy_wire.specs.declared.FrameKind.{FrameKind}
 use Rattle.ivy_wire.specs.Data.{Message, Frame, Parcel}
 use Rattle.ivy_wire.specs.Spelling.{Spells, spelling, frame_kind}
-use Rattle.ivy_wire.specs.Faults.{checked}
+use Rattle.ivy_wire.specs.DecodeErrors.{checked}
 use Rattle.ivy_wire.specs.Reading.{frame_at}
 use Rattle.ivy_wire.proofs.Frames.{spelled_once}
 use Rattle.ivy_moves.specs.ivy_link.declared.Verdict.{Verdict}
@@ -34,7 +34,7 @@ use Rattle.ivy_host.specs.ivy_coherence.Limits.{most_posted}
 use Rattle.ivy_host.specs.ivy_memory.Memories.{NodeMemory, memory_handled, memory_told}
 use Rattle.ivy_host.specs.Hosts.{Host, host_rules, serving}
 use Rattle.ivy_outbox.specs.Outboxes.{Outbox, HasNumbers, RefusesParcels, holding_of, with_holding, posted_by}
-use Rattle.ivy_site.specs.Shown.{Shown, after_hearing, after_delivery, box_of, shown_of}
+use Rattle.ivy_site.specs.SiteView.{SiteView, after_hearing, after_delivery, box_of, shown_of}
 use Rattle.ivy_site.specs.Sites.{early_at, SiteDelivers, IsSpentDelivery, IsSite}
 use Rattle.ivy_site.specs.Inside.{CameEarlyAs}
 use Rattle.ivy_outbox.proofs.Boxes.{as_many}
@@ -43,8 +43,8 @@ use Rattle.ivy_site.proofs.Made.{delivery_made, delivery_early}
 use Rattle.ivy_site.proofs.HeldStrings.{hearing-holds}
 use Rattle.ivy_host.specs.ivy_memory.Asking.{IsMessageWant}
 use Rattle.ivy_host.proofs.of_ivy_memory.Same.{told-same}
-use Rattle.ivy_host.proofs.Tame.{serve-asking}
-use Rattle.ivy_host.proofs.Tame.{IsAskingHost}
+use Rattle.ivy_host.proofs.WellBehaved.{serve-asking}
+use Rattle.ivy_host.proofs.WellBehaved.{IsAskingHost}
 
 abbrev H : Type 0
 H = Host Managed
@@ -53,17 +53,17 @@ abbrev rules : Core H
 rules = host_rules managed_ops
 
 -- a frame was read from the string, and this is what it is to the node
-pub record IsRead (v : Shown) (k : Config) (f : Frame) (bytes : List ℕ) (w : Verdict) : Type 0 where
+pub record IsRead (v : SiteView) (k : Config) (f : Frame) (bytes : List ℕ) (w : Verdict) : Type 0 where
   pub config : k ≡ v.config
   pub limits : IsConfig k
   pub spelled : Spells k f bytes
   pub is : w ≡ offered v.node.link f
 
-spelled_here : (v : Shown) (k : Config) (f : Frame) (bytes : List ℕ) (w : Verdict)
+spelled_here : (v : SiteView) (k : Config) (f : Frame) (bytes : List ℕ) (w : Verdict)
     → IsRead v k f bytes w → Spells v.config f bytes
 spelled_here v k f bytes w r = subst (λ x. Spells x f bytes) r.config r.spelled
 
-receives : (v : Shown) (k : Config) (f : Frame) (bytes : List ℕ) (w : Verdict)
+receives : (v : SiteView) (k : Config) (f : Frame) (bytes : List ℕ) (w : Verdict)
     → IsRead v k f bytes w → delivered rules v.config v.node bytes ≡ received_as rules w v.node f
 unfolding delivered received
 receives v k f bytes w r =
@@ -83,16 +83,16 @@ unfolding delivered
 refused_is c m bytes (Ok kind) is Q why = absurd cc
 refused_is c m bytes (Err k) is Q why = ap (λ x. delivered_as rules x m bytes) is
 
-pub spent_reading : (n v : Shown) → v ≡ n
+pub spent_reading : (n v : SiteView) → v ≡ n
     → (k : Config) (bytes : List ℕ) (e : Fault) (Q : Fault → Type 0) → k ≡ v.config
     → MatchResult (checked k bytes) (λ x. false ≡ true) Q → IsSpentDelivery n bytes e
 spent_reading n v same k bytes e Q config why spent =
-    subst (λ (x : Shown). delivered rules x.config x.node bytes ≡ None) same
+    subst (λ (x : SiteView). delivered rules x.config x.node bytes ≡ None) same
     (subst (λ x. delivered rules x v.node bytes ≡ None) config
     (refused_is k v.node bytes (checked k bytes) refl Q why))
 
 -- a frame for another node
-pub not_mine : (n v : Shown) → v ≡ n → (k : Config) (f : Frame) (bytes : List ℕ) (w : Verdict)
+pub not_mine : (n v : SiteView) → v ≡ n → (k : Config) (f : Frame) (bytes : List ℕ) (w : Verdict)
     → IsRead v k f bytes w → w ≡ verdict.NotMine → SiteDelivers bytes w n n
 not_mine n v same k f bytes w r not =
     subst (λ x. SiteDelivers bytes w x x) same
@@ -122,13 +122,13 @@ is_sent : (m : Node H) (h : H) (ps : List Parcel) → has_numbers m.link ps ≡ 
 is_sent m h ps numbers = rw numbers refl
 
 -- what the message of the next frame posts has no numbers
-spent_post : (n v : Shown) → v ≡ n → (k : Config) (f : Frame) (bytes : List ℕ) (w : Verdict)
+spent_post : (n v : SiteView) → v ≡ n → (k : Config) (f : Frame) (bytes : List ℕ) (w : Verdict)
     → IsRead v k f bytes w → w ≡ verdict.Next → (m : Message) → f.body ≡ Some m → (e : Fault)
     → RefusesParcels (box_of v) (memory_handled managed_ops v.node.core.memory f.source m).posted e
     → IsSpentDelivery n bytes e
 unfolding serving
 spent_post n v same k f bytes w r next m body e why spent =
-    subst (λ (x : Shown). delivered rules x.config x.node bytes ≡ None) same
+    subst (λ (x : SiteView). delivered rules x.config x.node bytes ≡ None) same
     (receives v k f bytes w r
     ∙ (ap (λ x. received_as rules x v.node f) next ∙ (ap (served_next rules v.node f) body
     ∙ ap (accepting f)
@@ -138,7 +138,7 @@ spent_post n v same k f bytes w r next m body e why spent =
     spent)))))
 
 -- nor is it for want of numbers that the heap does not grow
-pub spent_message : {B C : Type 0} (n v : Shown) → v ≡ n
+pub spent_message : {B C : Type 0} (n v : SiteView) → v ≡ n
     → (k : Config) (f : Frame) (bytes : List ℕ) (w : Verdict) → IsRead v k f bytes w
     → w ≡ verdict.Next → (m : Message) → f.body ≡ Some m → (e : Fault)
     → (IsMessageWant v.node.core.memory.coherence
@@ -153,7 +153,7 @@ spent_message n v same k f bytes w r next m body e why spent =
     ]
 
 -- the frame was heard: what the node and its outbox are before the frame is accepted
-pub record IsHeard (v : Shown) (f : Frame) (w : Verdict) (h : H) (box : Outbox) : Type 0 where
+pub record IsHeard (v : SiteView) (f : Frame) (w : Verdict) (h : H) (box : Outbox) : Type 0 where
   pub link : Linked
   pub sent : List (List ℕ)
   pub received : received_as rules w v.node f
@@ -181,7 +181,7 @@ quietly_as verdict.Next m f ne none = ap (served_next rules m f) (none refl)
 quietly_as verdict.Repeat m f ne none = refl
 quietly_as verdict.Ahead m f ne none = refl
 
-pub heard_quietly : (v : Shown) (f : Frame) (w : Verdict) → (w ≡ verdict.NotMine → ⊥)
+pub heard_quietly : (v : SiteView) (f : Frame) (w : Verdict) → (w ≡ verdict.NotMine → ⊥)
     → (w ≡ verdict.Next → f.body ≡ None) → IsHeard v f w v.node.core (box_of v)
 heard_quietly v f w ne none = record {
   link = v.node.link;
@@ -201,7 +201,7 @@ heard_quietly v f w ne none = record {
 }
 
 -- by a message that is served
-told_message : (v : Shown) (f : Frame) (w : Verdict) (m : Message) → w ≡ verdict.Next
+told_message : (v : SiteView) (f : Frame) (w : Verdict) (m : Message) → w ≡ verdict.Next
     → f.body ≡ Some m
     → HasNumbers (box_of v) (memory_handled managed_ops v.node.core.memory f.source m).posted
     → length (memory_handled managed_ops v.node.core.memory f.source m).posted ≤ most_posted
@@ -229,7 +229,7 @@ told_message v f w m next body numbers few =
       asking = λ a. serve-asking managed_ops v.node.core f.source m a;
     }
 
-pub heard_message : (v : Shown) (f : Frame) (w : Verdict) (m : Message)
+pub heard_message : (v : SiteView) (f : Frame) (w : Verdict) (m : Message)
     (memory : NodeMemory Managed) (box : Outbox) → w ≡ verdict.Next → f.body ≡ Some m
     → memory ≡ memory_told managed_ops v.node.core.memory f.source m
     → HasNumbers (box_of v) (memory_handled managed_ops v.node.core.memory f.source m).posted
@@ -252,7 +252,7 @@ heard_message v f w m memory box next body told numbers few posted =
 -- then the frame is accepted, and the event listed
 
 -- what the frame is does not change while its message is served
-offered_same : (v : Shown) (f : Frame) (w : Verdict) (h : H) (box : Outbox)
+offered_same : (v : SiteView) (f : Frame) (w : Verdict) (h : H) (box : Outbox)
     → (x : IsHeard v f w h box) → offered x.link f ≡ offered v.node.link f
 offered_same v f w h box x =
     ap (λ m. if f.dest == m then verdict_on (peer_at x.link f.source).delivered f.number
@@ -260,7 +260,7 @@ offered_same v f w h box x =
     ∙ ap (λ d. if f.dest == v.node.link.me then verdict_on d f.number else verdict.NotMine)
     (x.same f.source)
 
-abbrev heard_box : Shown → Linked → List (List ℕ) → Frame → Verdict → Outbox
+abbrev heard_box : SiteView → Linked → List (List ℕ) → Frame → Verdict → Outbox
 heard_box v link sent f w =
     record {
       config = v.config;
@@ -270,7 +270,7 @@ heard_box v link sent f w =
       held = moved_at w v.held f.source;
     }
 
-after_heard : (v : Shown) (f : Frame) (w : Verdict) (h : H) (box new : Outbox)
+after_heard : (v : SiteView) (f : Frame) (w : Verdict) (h : H) (box new : Outbox)
     → w ≡ offered v.node.link f → (x : IsHeard v f w h box)
     → new ≡ with_holding box (holding.accepted_at (holding_of box) f)
     → new ≡ heard_box v x.link x.sent f w
@@ -278,7 +278,7 @@ after_heard v f w h box new said x is =
     is ∙ (ap (λ (b : Outbox). with_holding b (holding.accepted_at (holding_of b) f)) x.outbox
     ∙ ap (heard_box v x.link x.sent f) (offered_same v f w h box x ∙ sym said))
 
-is_event : (v : Shown) (bytes : List ℕ) (w : Verdict) (source : ℕ) (e : Effect H)
+is_event : (v : SiteView) (bytes : List ℕ) (w : Verdict) (source : ℕ) (e : Effect H)
     → (w ≡ verdict.NotMine → ⊥)
     → after_hearing v bytes w source e ≡ after_delivery v bytes w source e
 is_event v bytes verdict.NotMine source e ne = absurd (ne refl)
@@ -286,7 +286,7 @@ is_event v bytes verdict.Next source e ne = refl
 is_event v bytes verdict.Repeat source e ne = refl
 is_event v bytes verdict.Ahead source e ne = refl
 
-pub heard_delivers : (n v : Shown) → v ≡ n → (k : Config) (f : Frame) (bytes : List ℕ) (w : Verdict)
+pub heard_delivers : (n v : SiteView) → v ≡ n → (k : Config) (f : Frame) (bytes : List ℕ) (w : Verdict)
     → IsRead v k f bytes w → (w ≡ verdict.NotMine → ⊥)
     → (h : H) (box new : Outbox) (events : List Mark) → IsHeard v f w h box
     → new ≡ with_holding box (holding.accepted_at (holding_of box) f)
@@ -307,7 +307,7 @@ heard_delivers n v same k f bytes w r ne h box new events x is listed =
     })
 
 -- a frame that is not for another node is for this one
-pub offered_mine : (v : Shown) (f : Frame) → offered v.node.link f ≢ verdict.NotMine
+pub offered_mine : (v : SiteView) (f : Frame) → offered v.node.link f ≢ verdict.NotMine
     → f.dest ≡ v.node.link.me
 offered_mine v f ne =
     elim (cases_eq f.dest v.node.link.me) [
@@ -315,7 +315,7 @@ offered_mine v f ne =
       | inr away ↦ absurd (ne (rw (ne_eqb f.dest v.node.link.me away) refl))
     ]
 
-pub heard_site : (v : Shown) (k : Config) (f : Frame) (bytes : List ℕ) (w : Verdict)
+pub heard_site : (v : SiteView) (k : Config) (f : Frame) (bytes : List ℕ) (w : Verdict)
     → FitsLink v.config v.node.link → IsRead v k f bytes w → (w ≡ verdict.NotMine → ⊥)
     → (h : H) (box new : Outbox) (events : List Mark) → IsSite v → IsHeard v f w h box
     → new ≡ with_holding box (holding.accepted_at (holding_of box) f)
@@ -347,7 +347,7 @@ heard_site v k f bytes w fits r ne h box new events site x is listed =
     }
 
 -- what came too early did so by its event
-pub came_as : (bytes : List ℕ) (w : Verdict) (old new : Shown)
+pub came_as : (bytes : List ℕ) (w : Verdict) (old new : SiteView)
     → early_at new ≡ early_at old ++ early_as w bytes → CameEarlyAs w bytes new
 came_as bytes verdict.NotMine old new is = tt
 came_as bytes verdict.Next old new is = tt
@@ -355,7 +355,7 @@ came_as bytes verdict.Repeat old new is = tt
 came_as bytes verdict.Ahead old new is =
     subst (λ l. Contains l bytes) (sym is) (Contains-push (early_at old) bytes)
 
-pub heard_early : (v : Shown) (k : Config) (f : Frame) (bytes : List ℕ) (w : Verdict)
+pub heard_early : (v : SiteView) (k : Config) (f : Frame) (bytes : List ℕ) (w : Verdict)
     → IsRead v k f bytes w → (w ≡ verdict.NotMine → ⊥)
     → (h : H) (box new : Outbox) (events : List Mark) → IsSite v → IsHeard v f w h box
     → new ≡ with_holding box (holding.accepted_at (holding_of box) f)
@@ -365,13 +365,13 @@ heard_early v k f bytes w r ne h box new events site x is listed =
     (delivery_early bytes w v (shown_of v.keep h new events) (subst IsConfig r.config r.limits) site.made
     (heard_delivers v v refl k f bytes w r ne h box new events x is listed)).1
 
-pub heard_few : (n v : Shown) → v ≡ n → (f : Frame) (w : Verdict) (h : H) (box new : Outbox)
+pub heard_few : (n v : SiteView) → v ≡ n → (f : Frame) (w : Verdict) (h : H) (box new : Outbox)
     → w ≡ offered v.node.link f → IsHeard v f w h box
     → new ≡ with_holding box (holding.accepted_at (holding_of box) f)
     → length new.waiting ≤ length n.waiting + most_posted
 heard_few n v same f w h box new said x is =
     let count : length new.waiting ≡ length (v.waiting ++ x.sent) =
     ap (λ (b : Outbox). length b.waiting) (after_heard v f w h box new said x is) in
-    let before : length v.waiting ≡ length n.waiting = ap (λ (y : Shown). length y.waiting) same in
+    let before : length v.waiting ≡ length n.waiting = ap (λ (y : SiteView). length y.waiting) same in
     let few = x.few in
     omega (arith, count, before, few, length-append v.waiting x.sent)

@@ -11,11 +11,11 @@ use Rattle.ivy_moves.proofs.Unseen.{events-over}
 use Rattle.ivy_program.specs.Owned.{IsFree, process_handed}
 use Rattle.ivy_program.specs.Steps.{Process, Asks, Ends, HasEnded, step_of}
 use Rattle.ivy_site.specs.Inside.{host_of}
-use Rattle.ivy_site.specs.Shown.{Shown, box_of, shown_of}
+use Rattle.ivy_site.specs.SiteView.{SiteView, box_of, shown_of}
 use Rattle.ivy_site.specs.Handed.{site_handed}
 use Rattle.ivy_site.specs.Sites.{IsSite, IsHeld, IsMadeByEvents, HoldsEarly, early_at}
 
-module _ (more : List (List Call)) (s : Shown) (made : IsMadeByEvents s) where
+module _ (more : List (List Call)) (s : SiteView) (made : IsMadeByEvents s) where
   carried : EventsCarryOver (host_rules managed_ops) s.config (handing more)
       (first_node managed_ops s.config s.me s.node.core.process.program) s.events made.effect
   carried = events-over (host_rules managed_ops) s.config (handing more) (unseen managed_ops more)
@@ -49,7 +49,7 @@ module _ (more : List (List Call)) (s : Shown) (made : IsMadeByEvents s) where
       }
 
 -- what holds of a site that was free
-pub handed_site : (more : List (List Call)) (s : Shown) → IsSite s → IsFree s.node.core.process
+pub handed_site : (more : List (List Call)) (s : SiteView) → IsSite s → IsFree s.node.core.process
     → IsSite (site_handed more s)
 handed_site more s h free = record {
   config = h.config;
@@ -66,20 +66,20 @@ idle_by p (Some call) asking ended =
     (let apart : Asks call ≡ Ends = sym (asking call refl) ∙ ended in absurd cc)
 
 -- a site that is free has no call in progress
-pub free_idle : (s : Shown) → IsSite s → IsFree s.node.core.process
+pub free_idle : (s : SiteView) → IsSite s → IsFree s.node.core.process
     → s.node.core.memory.asked ≡ None
 free_idle s h free = idle_by s.node.core.process s.node.core.memory.asked (λ call is. (h.asking call is).0)
     free.ended
 
 -- the site with this program, which has come this far
-abbrev with_process : Shown → Process → Shown
+abbrev with_process : SiteView → Process → SiteView
 with_process v p =
     shown_of v.keep (host_of v.node.core.memory p v.node.core.history) (box_of v) v.events
 
 -- it is so once the calls were handed in
-pub after_hand : (more : List (List Call)) (v n : Shown) → v ≡ n → (p : Process)
+pub after_hand : (more : List (List Call)) (v n : SiteView) → v ≡ n → (p : Process)
     → p ≡ process_handed more v.node.core.process → IsSite v → IsFree n.node.core.process
     → IsSite (with_process v p)
 after_hand more v n same p is h free =
     subst (λ q. IsSite (with_process v q)) (sym is)
-    (handed_site more v h (subst (λ (x : Shown). IsFree x.node.core.process) (sym same) free))
+    (handed_site more v h (subst (λ (x : SiteView). IsFree x.node.core.process) (sym same) free))

@@ -20,12 +20,12 @@ use Rattle.ivy_moves.specs.ivy_link.Accepted.{offered, accepted, delivered_then}
 use Rattle.ivy_moves.specs.ivy_link.Windows.{Window, place_at, place_of, is_free, moved_by, with_string, without_first}
 use Rattle.ivy_moves.specs.ivy_link.Windows as windows
 use Rattle.ivy_moves.specs.ivy_link.Holding.{holding, window_of, moved_at, can_hold_frame, place_in, after_hold, ready_of}
-use Rattle.ivy_moves.proofs.of_ivy_link.Holds.{moved-place, set-place, put-place, put-back, accepted-delivered, accepted-elsewhere}
-use Rattle.ivy_site.specs.Shown.{Shown, holding_at}
+use Rattle.ivy_moves.proofs.of_ivy_link.Holds.{moved-place, set-place, put-place, put_back, accepted-delivered, accepted-elsewhere}
+use Rattle.ivy_site.specs.SiteView.{SiteView, holding_at}
 use Rattle.ivy_site.specs.Sites.{early_at, IsHeld, HoldsEarly, holding_in, without_ready}
 
 -- the same string at another moment, in the place of its number then
-moved-held : (old new : Shown) (from place place' : ℕ) (bytes : List ℕ) (more : List (List ℕ))
+moved-held : (old new : SiteView) (from place place' : ℕ) (bytes : List ℕ) (more : List (List ℕ))
     → new.config ≡ old.config → new.node.link.me ≡ old.node.link.me
     → early_at new ≡ early_at old ++ more
     → (peer_at new.node.link from).delivered + place'
@@ -42,7 +42,7 @@ moved-held old new from place place' bytes more config me early count h = record
 }
 
 -- nothing is delivered
-pub record IsQuiet (old new : Shown) : Type 0 where
+pub record IsQuiet (old new : SiteView) : Type 0 where
   pub held : new.held ≡ old.held
   pub config : new.config ≡ old.config
   pub me : new.node.link.me ≡ old.node.link.me
@@ -51,14 +51,14 @@ pub record IsQuiet (old new : Shown) : Type 0 where
   pub more : List (List ℕ)
   pub early : early_at new ≡ early_at old ++ more
 
-pub quiet-holds : (old new : Shown) → HoldsEarly old → IsQuiet old new → HoldsEarly new
-quiet-holds old new h q from place bytes is =
+pub quiet_holds : (old new : SiteView) → HoldsEarly old → IsQuiet old new → HoldsEarly new
+quiet_holds old new h q from place bytes is =
     moved-held old new from place place bytes q.more q.config q.me q.early
     (ap (λ n. n + place) (q.delivered from))
     (h from place bytes (subst (λ hs. place_at (window_of hs from) place ≡ Some bytes) q.held is))
 
 -- a frame for this node is accepted
-pub record IsHearing (old new : Shown) (f : Frame) (w : Verdict) : Type 0 where
+pub record IsHearing (old new : SiteView) (f : Frame) (w : Verdict) : Type 0 where
   pub link : Linked
   pub me : link.me ≡ old.node.link.me
   pub delivered : (j : ℕ) → (peer_at link j).delivered ≡ (peer_at old.node.link j).delivered
@@ -86,7 +86,7 @@ had-place verdict.Repeat win place bytes is = record { was = place; there = is; 
 had-place verdict.Ahead win place bytes is = record { was = place; there = is; count = λ d. refl }
 had-place verdict.NotMine win place bytes is = record { was = place; there = is; count = λ d. refl }
 
-heard-place : (old new : Shown) (f : Frame) (w : Verdict) → HoldsEarly old
+heard-place : (old new : SiteView) (f : Frame) (w : Verdict) → HoldsEarly old
     → (x : IsHearing old new f w) → (from place : ℕ) (bytes : List ℕ) → from ≡ f.source
     → HadPlace w (window_of old.held f.source) place bytes → IsHeld new from place bytes
 heard-place old new f w h x from place bytes e had =
@@ -103,7 +103,7 @@ heard-place old new f w h x from place bytes e had =
     moved-held old new from had.was place bytes x.more x.config x.same_me x.early
     (ap (λ n. n + place) now ∙ had.count (peer_at old.node.link from).delivered) before
 
-pub hearing-holds : (old new : Shown) (f : Frame) (w : Verdict) → HoldsEarly old
+pub hearing-holds : (old new : SiteView) (f : Frame) (w : Verdict) → HoldsEarly old
     → IsHearing old new f w → HoldsEarly new
 hearing-holds old new f w h x from place bytes is =
     elim (set-place old.held f.source from place (moved_by w (window_of old.held f.source)) bytes
@@ -121,11 +121,11 @@ hearing-holds old new f w h x from place bytes is =
     ]
 
 -- a string that came too early and spells the frame
-pub record CameEarly (s : Shown) (f : Frame) (bytes : List ℕ) : Type 0 where
+pub record CameEarly (s : SiteView) (f : Frame) (bytes : List ℕ) : Type 0 where
   pub early : Contains (early_at s) bytes
   pub spelled : Spells s.config f bytes
 
-can-hold-parts : (s : Shown) (f : Frame) → can_hold_frame (holding_at s) f ≡ true
+can-hold-parts : (s : SiteView) (f : Frame) → can_hold_frame (holding_at s) f ≡ true
     → (f.dest ≡ s.node.link.me) × ((peer_at s.node.link f.source).delivered < f.number)
 can-hold-parts s f can =
     let both =
@@ -141,7 +141,7 @@ can-hold-parts s f can =
     grind (arith, nat_tests, more.0) in
     (dest, above)
 
-held-place : (s : Shown) (f : Frame) (bytes : List ℕ) → HoldsEarly s → CameEarly s f bytes
+held-place : (s : SiteView) (f : Frame) (bytes : List ℕ) → HoldsEarly s → CameEarly s f bytes
     → can_hold_frame (holding_at s) f ≡ true → (from place : ℕ) (x : List ℕ)
     → place_at
     (window_of
@@ -175,7 +175,7 @@ held-place s f bytes h came can from place x is =
     ]
 
 -- the string of a frame that came too early is held, if it can be
-held-as : (s : Shown) (f : Frame) (bytes : List ℕ) → HoldsEarly s → CameEarly s f bytes → (b : Bool)
+held_as : (s : SiteView) (f : Frame) (bytes : List ℕ) → HoldsEarly s → CameEarly s f bytes → (b : Bool)
     → can_hold_frame (holding_at s) f ≡ b → (from place : ℕ) (x : List ℕ)
     → place_at
     (window_of
@@ -183,10 +183,10 @@ held-as : (s : Shown) (f : Frame) (bytes : List ℕ) → HoldsEarly s → CameEa
     (set s.held f.source
     (with_string (window_of s.held f.source) (place_in (holding_at s) f) bytes))
     else holding_at s).held from) place ≡ Some x → IsHeld s from place x
-held-as s f bytes h came true can from place x is = held-place s f bytes h came can from place x is
-held-as s f bytes h came false can from place x is = h from place x is
+held_as s f bytes h came true can from place x is = held-place s f bytes h came can from place x is
+held_as s f bytes h came false can from place x is = h from place x is
 
-same-held : (s : Shown) (hs : List Window) (from place : ℕ) (x : List ℕ) → IsHeld s from place x
+same-held : (s : SiteView) (hs : List Window) (from place : ℕ) (x : List ℕ) → IsHeld s from place x
     → IsHeld (record s { held = hs }) from place x
 same-held s hs from place x h =
     record {
@@ -198,14 +198,14 @@ same-held s hs from place x h =
       number = h.number;
     }
 
-pub holding-holds : (s : Shown) (f : Frame) (bytes : List ℕ) → HoldsEarly s → CameEarly s f bytes
+pub holding-holds : (s : SiteView) (f : Frame) (bytes : List ℕ) → HoldsEarly s → CameEarly s f bytes
     → HoldsEarly (holding_in s f bytes)
 holding-holds s f bytes h came from place x is =
     same-held s (holding_in s f bytes).held from place x
-    (held-as s f bytes h came (can_hold_frame (holding_at s) f) refl from place x is)
+    (held_as s f bytes h came (can_hold_frame (holding_at s) f) refl from place x is)
 
 -- the string that is ready is taken out
-pub taking-holds : (s : Shown) (source : ℕ) → HoldsEarly s → HoldsEarly (without_ready s source)
+pub taking-holds : (s : SiteView) (source : ℕ) → HoldsEarly s → HoldsEarly (without_ready s source)
 taking-holds s source h from place x is =
     same-held s (without_ready s source).held from place x
     (elim (set-place s.held source from place (without_first (window_of s.held source)) x is) [
@@ -233,7 +233,7 @@ window-there held i s w is =
     ]
 
 -- a frame of the number that follows those delivered
-pub record IsNextOf (s : Shown) (from : ℕ) (f : Frame) : Type 0 where
+pub record IsNextOf (s : SiteView) (from : ℕ) (f : Frame) : Type 0 where
   pub source : f.source ≡ from
   pub dest : f.dest ≡ s.node.link.me
   pub number : f.number ≡ (peer_at s.node.link from).delivered + 1
@@ -266,7 +266,7 @@ put-held l held from f bytes source dest number ready =
     (with_string (window_of taken f.source) (place_of d f.number) bytes) ≡ held =
     ap (λ k. set taken f.source (with_string (window_of taken f.source) k bytes)) at
     ∙ (ap (λ w. set taken f.source (with_string w 0 bytes)) there
-    ∙ (ap (set taken f.source) (put-back (window_of held from) bytes ready)
+    ∙ (ap (set taken f.source) (put_back (window_of held from) bytes ready)
     ∙ (ap (λ i. set taken i (window_of held from)) source
     ∙ (set-set held from (without_first (window_of held from)) (window_of held from)
     ∙ set-get_or held from [])))) in
@@ -275,7 +275,7 @@ put-held l held from f bytes source dest number ready =
     (set taken f.source (with_string (window_of taken f.source) (place_of d f.number) bytes))
     else holding l taken).held) can ∙ written
 
-pub put-back-same : (s : Shown) (from : ℕ) (f : Frame) (bytes : List ℕ) → IsNextOf s from f
+pub put-back-same : (s : SiteView) (from : ℕ) (f : Frame) (bytes : List ℕ) → IsNextOf s from f
     → ready_of (holding_at s) from ≡ Some bytes → holding_in (without_ready s from) f bytes ≡ s
 put-back-same s from f bytes n ready =
     ap (λ (hs : List Window). record s { held = hs })

@@ -22,14 +22,14 @@ use Rattle.ivy_program.proofs.Nexts.{alone_waiting, asks_next, handed_and_answer
 use Rattle.ivy_site.specs.Calls.{AreAnswered, BeginsCall}
 use Rattle.ivy_site.specs.Handed.{site_handed}
 use Rattle.ivy_site.specs.Inside.{HasTurn, host_of}
-use Rattle.ivy_site.specs.Shown.{Shown, box_of, shown_of}
+use Rattle.ivy_site.specs.SiteView.{SiteView, box_of, shown_of}
 use Rattle.ivy_site.specs.Sites.{IsSite}
 use Rattle.ivy_site.proofs.Calling.{begin_alone, called}
 use Rattle.ivy_site.proofs.Handed.{handed_site}
 use Rattle.ivy_site.proofs.Turned.{called_site, called_turn, has_turned}
 
 -- a site whose own code was answered each call of these rows
-abbrev at : Keep → NodeMemory Managed → List (List Call) → List Record → Outbox → List Mark → Shown
+abbrev at : Keep → NodeMemory Managed → List (List Call) → List Record → Outbox → List Mark → SiteView
 at keep m rows history box events =
     shown_of keep (host_of m (asking rows None) history) box events
 
@@ -43,10 +43,10 @@ module _ (keep : Keep) (m mid : NodeMemory Managed) (rows : List (List Call)) (h
     (box : Outbox) (events : List Mark) (r : Record) (site : IsSite (at keep m rows history box events))
     (idle : m.asked ≡ None) (width : HasWidth r.call) (mine : r.node ≡ box.me)
     (room : length history + 1 < 2 ^ 64) (once : AtOnce r m mid) where
-  abbrev before : Shown
+  abbrev before : SiteView
   before = at keep m rows history box events
 
-  abbrev later : Shown
+  abbrev later : SiteView
   later = at keep mid (rows ++ (r.call ∷ []) ∷ []) (history ++ r ∷ []) box (events ++ Turn ∷ [])
 
   abbrev asks : Host Managed
@@ -106,7 +106,7 @@ record-width Stores node addr number = (3, omega arith, refl)
 
 -- the site once the calls of a row of words were answered, which are made one after another
 abbrev after : Keep → NodeMemory Managed → List (List Call) → List Record → Outbox → List Mark
-    → List Record → Shown
+    → List Record → SiteView
 after keep m rows history box events rs =
     at keep m (rows ++ one_by_one (calls_of rs)) (history ++ rs) box (events ++ turns (length rs))
 
@@ -131,7 +131,7 @@ after-none keep m rows history box events =
     ∙ ap (λ (es : List Mark). at keep m rows history box es) (append-nil events)
 
 -- the calls of a row of words are answered, and the site stays one
-pub record IsAfterRow (kind : Row) (numbers : List ℕ) (addr : ℕ) (old new : Shown) : Type 0 where
+pub record IsAfterRow (kind : Row) (numbers : List ℕ) (addr : ℕ) (old new : SiteView) : Type 0 where
   pub answered : AreAnswered (row kind old.me addr numbers) old new
   pub site : IsSite new
 
@@ -168,7 +168,7 @@ row_at kind (number ∷ more) addr keep m new rows history box events site idle 
       answered = (
         at keep mid (rows ++ (r.call ∷ []) ∷ []) (history ++ r ∷ []) box (events ++ Turn ∷ []),
         first,
-        subst (λ (s : Shown). AreAnswered rs
+        subst (λ (s : SiteView). AreAnswered rs
             (at keep mid (rows ++ (r.call ∷ []) ∷ []) (history ++ r ∷ []) box (events ++ Turn ∷ [])) s) all
             rest.answered,
       );
@@ -176,7 +176,7 @@ row_at kind (number ∷ more) addr keep m new rows history box events site idle 
     }
 
 -- as the code has it
-pub row_made : (kind : Row) (n v : Shown) → v ≡ n → IsSite v → Rests v.node.core.process
+pub row_made : (kind : Row) (n v : SiteView) → v ≡ n → IsSite v → Rests v.node.core.process
     → v.node.core.memory.asked ≡ None → (numbers : List ℕ) (addr : ℕ)
     → length v.node.core.history + length numbers < 2 ^ 64
     → (m : NodeMemory Managed)
@@ -208,7 +208,7 @@ row_made kind n v same site rests idle numbers addr room m hits p goes history k
     ∙ ap (λ (k : ℕ). shown_of v.keep (host_of m p history) (box_of v) (v.events ++ turns k))
     (length-row kind v.me addr numbers)
     ∙ ap (λ (es : List Mark). shown_of v.keep (host_of m p history) (box_of v) es) (sym listed) in
-    subst (λ (o : Shown). IsAfterRow kind numbers addr o
+    subst (λ (o : SiteView). IsAfterRow kind numbers addr o
     (shown_of v.keep (host_of m p history) (box_of v) events)) (sym is ∙ same)
-    (subst (λ (x : Shown). IsAfterRow kind numbers addr
+    (subst (λ (x : SiteView). IsAfterRow kind numbers addr
     (at v.keep v.node.core.memory rows v.node.core.history (box_of v) v.events) x) to made)

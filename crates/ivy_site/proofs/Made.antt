@@ -28,17 +28,17 @@ use Rattle.ivy_site.specs.declared.turn.Turn as turn
 use Rattle.ivy_site.specs.declared.turn.Turn.TheVariants.{Idle, Moved, Ended}
 use Rattle.ivy_host.proofs.Programs.{turned-program, posting-core, delivered-program}
 use Rattle.ivy_outbox.specs.Outboxes.{Outbox, TakesFirst}
-use Rattle.ivy_site.specs.Shown.{Shown, after_hearing, after_delivery, after_pulse_to, box_of, boxed}
+use Rattle.ivy_site.specs.SiteView.{SiteView, after_hearing, after_delivery, after_pulse_to, box_of, boxed}
 use Rattle.ivy_site.specs.Sites.{early_at, IsSite, HoldsEarly, IsMadeByEvents, AfterTurn, SiteDelivers, first_keeping, IsSentBy}
 
 abbrev rules : Core (Host Managed)
 rules = host_rules managed_ops
 
-abbrev program_in : Shown → Program
+abbrev program_in : SiteView → Program
 program_in s = s.node.core.process.program
 
 -- the events so far, and one effect more
-grown : (old new : Shown) (ms : List Mark) (e : Effect (Host Managed)) → IsMadeByEvents old
+grown : (old new : SiteView) (ms : List Mark) (e : Effect (Host Managed)) → IsMadeByEvents old
     → AllHappen rules old.config old.node ms e → new.config ≡ old.config → new.me ≡ old.me
     → program_in new ≡ program_in old
     → new.events ≡ old.events ++ ms → new.node ≡ e.after → new.waiting ≡ old.waiting ++ e.sent
@@ -64,11 +64,11 @@ grown old new ms e h more config me program events node waiting = record {
       ∙ ap (λ l. h.taken ++ l) (sym waiting);
 }
 
-unchanged : (old new : Shown) → IsMadeByEvents old → new ≡ old → IsMadeByEvents new
+unchanged : (old new : SiteView) → IsMadeByEvents old → new ≡ old → IsMadeByEvents new
 unchanged old new h same = subst IsMadeByEvents (sym same) h
 
 -- a turn
-pub turn_made : (t : turn.Turn) (old new : Shown) → IsMadeByEvents old → AfterTurn t old new
+pub turn_made : (t : turn.Turn) (old new : SiteView) → IsMadeByEvents old → AfterTurn t old new
     → IsMadeByEvents new
 unfolding turned
 turn_made Idle old new h after = unchanged old new h after.1
@@ -77,16 +77,16 @@ turn_made Moved old new h after =
     grown old new (Turn ∷ []) after.effect h
     (single rules old.config old.node Turn after.effect
     ((after.outcome, after.turn), ap (turned_to rules old.node) after.turn ∙ after.sent))
-    (ap (λ (s : Shown). s.config) after.after) (ap (λ (s : Shown). s.me) after.after)
+    (ap (λ (s : SiteView). s.config) after.after) (ap (λ (s : SiteView). s.me) after.after)
     (ap program_in after.after
     ∙ ap (λ (k : Host Managed). k.process.program)
     (posting-core old.node after.outcome.after after.outcome.posted after.effect after.sent)
     ∙ turned-program old.node.core after.outcome after.turn)
-    (ap (λ (s : Shown). s.events) after.after) (ap (λ (s : Shown). s.node) after.after)
-    (ap (λ (s : Shown). s.waiting) after.after)
+    (ap (λ (s : SiteView). s.events) after.after) (ap (λ (s : SiteView). s.node) after.after)
+    (ap (λ (s : SiteView). s.waiting) after.after)
 
 -- a delivery
-delivered_made : (bytes : List ℕ) (v : Verdict) (old new : Shown) → IsMadeByEvents old
+delivered_made : (bytes : List ℕ) (v : Verdict) (old new : SiteView) → IsMadeByEvents old
     → (d : SiteDelivers bytes v old new) → v ≢ verdict.NotMine
     → verdict_of old.config old.node bytes ≡ v → IsConfig old.config → (w : Verdict)
     → new ≡ after_hearing old bytes w d.frame.source d.effect → IsMadeByEvents new
@@ -94,21 +94,21 @@ delivered_made bytes v old new h d mine is limits w after =
     grown old new (Delivery bytes ∷ []) d.effect h
     (single rules old.config old.node (Delivery bytes) d.effect
     ((λ not. mine (sym is ∙ not)), d.delivered))
-    (ap (λ (s : Shown). s.config) after) (ap (λ (s : Shown). s.me) after)
+    (ap (λ (s : SiteView). s.config) after) (ap (λ (s : SiteView). s.me) after)
     (ap program_in after
     ∙ delivered-program old.config limits old.node d.frame bytes d.effect d.spelled d.delivered)
-    (ap (λ (s : Shown). s.events) after) (ap (λ (s : Shown). s.node) after)
-    (ap (λ (s : Shown). s.waiting) after)
+    (ap (λ (s : SiteView). s.events) after) (ap (λ (s : SiteView). s.node) after)
+    (ap (λ (s : SiteView). s.waiting) after)
 
 -- the verdict is what the definitions say of the string
-read_verdict : (bytes : List ℕ) (v : Verdict) (old new : Shown) → IsConfig old.config
+read_verdict : (bytes : List ℕ) (v : Verdict) (old new : SiteView) → IsConfig old.config
     → (d : SiteDelivers bytes v old new) → verdict_of old.config old.node bytes ≡ v
 read_verdict bytes v old new limits d =
     let once = spelled_once old.config d.frame bytes limits d.spelled in
     ap (λ r. verdict_as r old.node bytes) once.0 ∙ ap (λ f. offered old.node.link f) once.1
     ∙ sym d.is
 
-made_as : (bytes : List ℕ) (v : Verdict) (old new : Shown) → IsConfig old.config
+made_as : (bytes : List ℕ) (v : Verdict) (old new : SiteView) → IsConfig old.config
     → IsMadeByEvents old → (d : SiteDelivers bytes v old new) → (w : Verdict) → v ≡ w
     → IsMadeByEvents new
 made_as bytes v old new limits h d verdict.NotMine is =
@@ -129,7 +129,7 @@ made_as bytes v old new limits h d verdict.Ahead is =
     (read_verdict bytes v old new limits d) limits verdict.Ahead
     (d.after ∙ ap (λ x. after_delivery old bytes x d.frame.source d.effect) is)
 
-pub delivery_made : (bytes : List ℕ) (v : Verdict) (old new : Shown) → IsConfig old.config
+pub delivery_made : (bytes : List ℕ) (v : Verdict) (old new : SiteView) → IsConfig old.config
     → IsMadeByEvents old → (d : SiteDelivers bytes v old new) → IsMadeByEvents new
 delivery_made bytes v old new limits h d = made_as bytes v old new limits h d v refl
 
@@ -169,7 +169,7 @@ first_holds keep c me program from place bytes is =
           (omega (arith, past, length-replicate {A = Option (List ℕ)} 32 None))
     ]
 
-pub first_site : (keep : Keep) (c : Config) (me : ℕ) (program : Program) (s : Shown)
+pub first_site : (keep : Keep) (c : Config) (me : ℕ) (program : Program) (s : SiteView)
     → s ≡ first_keeping keep c me program → IsSite s
 first_site keep c me program s is =
     subst IsSite (sym is)
@@ -182,18 +182,18 @@ first_site keep c me program s is =
     })
 
 -- a pulse
-pub pulse_made-on : (to : ℕ) (old new : Shown) → IsMadeByEvents old
+pub pulse_made-on : (to : ℕ) (old new : SiteView) → IsMadeByEvents old
     → new ≡ after_pulse_to old to (pulsing old.node to) → IsMadeByEvents new
 unfolding pulsing
 pulse_made-on to old new h after =
     grown old new (pulse_marks to (pulsing old.node to).sent) (pulsing old.node to) h
     (pulsing-marks rules old.config old.node to (pulsing old.node to).sent refl)
-    (ap (λ (s : Shown). s.config) after) (ap (λ (s : Shown). s.me) after) (ap program_in after)
-    (ap (λ (s : Shown). s.events) after) (ap (λ (s : Shown). s.node) after)
-    (ap (λ (s : Shown). s.waiting) after)
+    (ap (λ (s : SiteView). s.config) after) (ap (λ (s : SiteView). s.me) after) (ap program_in after)
+    (ap (λ (s : SiteView). s.events) after) (ap (λ (s : SiteView). s.node) after)
+    (ap (λ (s : SiteView). s.waiting) after)
 
 -- a string that waited is taken
-pub take_site : (v : Shown) (bytes : Option (List ℕ)) (box : Outbox) → IsSite v
+pub take_site : (v : SiteView) (bytes : Option (List ℕ)) (box : Outbox) → IsSite v
     → TakesFirst bytes (box_of v) box → IsSite (boxed v box)
 take_site v None box s takes = subst (λ b. IsSite (boxed v b)) (sym takes.1) s
 take_site v (Some bytes) box s takes =
@@ -237,7 +237,7 @@ take_site v (Some bytes) box s takes =
     })
 
 -- all that waited was taken
-pub all_taken : (s : Shown) → IsMadeByEvents s → IsMadeByEvents (record s { waiting = [] })
+pub all_taken : (s : SiteView) → IsMadeByEvents s → IsMadeByEvents (record s { waiting = [] })
 all_taken s h = record {
   effect = h.effect;
   happen = h.happen;
@@ -247,7 +247,7 @@ all_taken s h = record {
 }
 
 -- what came too early by more events
-early_grown : (old new : Shown) (ms : List Mark) → IsMadeByEvents old → new.config ≡ old.config
+early_grown : (old new : SiteView) (ms : List Mark) → IsMadeByEvents old → new.config ≡ old.config
     → new.me ≡ old.me → program_in new ≡ program_in old → new.events ≡ old.events ++ ms
     → early_at new ≡ early_at old ++ early_in rules old.config old.node ms
 early_grown old new ms h config me program events =
@@ -263,54 +263,54 @@ early_grown old new ms h config me program events =
     old.events ms h.effect h.happen
     ∙ ap (λ n. early_at old ++ early_in rules old.config n ms) (sym h.node)
 
-early_same : (old new : Shown) → new ≡ old → early_at new ≡ early_at old ++ []
+early_same : (old new : SiteView) → new ≡ old → early_at new ≡ early_at old ++ []
 early_same old new same = ap early_at same ∙ sym (append-nil (early_at old))
 
 -- nothing comes by a turn or a pulse
-pub turn_early : (t : turn.Turn) (old new : Shown) → IsMadeByEvents old → AfterTurn t old new
+pub turn_early : (t : turn.Turn) (old new : SiteView) → IsMadeByEvents old → AfterTurn t old new
     → early_at new ≡ early_at old ++ []
 turn_early Idle old new h after = early_same old new after.1
 turn_early Ended old new h after = early_same old new after.2
 turn_early Moved old new h after =
-    early_grown old new (Turn ∷ []) h (ap (λ (s : Shown). s.config) after.after)
-    (ap (λ (s : Shown). s.me) after.after)
+    early_grown old new (Turn ∷ []) h (ap (λ (s : SiteView). s.config) after.after)
+    (ap (λ (s : SiteView). s.me) after.after)
     (ap program_in after.after
     ∙ ap (λ (k : Host Managed). k.process.program)
     (posting-core old.node after.outcome.after after.outcome.posted after.effect after.sent)
     ∙ turned-program old.node.core after.outcome after.turn)
-    (ap (λ (s : Shown). s.events) after.after)
+    (ap (λ (s : SiteView). s.events) after.after)
 
 pulse_nothing : (n : Node (Host Managed)) (c : Config) (to : ℕ) (strings : List (List ℕ))
     → early_in rules c n (pulse_marks to strings) ≡ []
 pulse_nothing n c to [] = refl
 pulse_nothing n c to (s ∷ strings) = refl
 
-pub pulse_early : (to : ℕ) (old new : Shown) → IsMadeByEvents old
+pub pulse_early : (to : ℕ) (old new : SiteView) → IsMadeByEvents old
     → new ≡ after_pulse_to old to (pulsing old.node to) → early_at new ≡ early_at old ++ []
 unfolding pulsing
 pulse_early to old new h after =
     early_grown old new (pulse_marks to (pulsing old.node to).sent) h
-    (ap (λ (s : Shown). s.config) after) (ap (λ (s : Shown). s.me) after) (ap program_in after)
-    (ap (λ (s : Shown). s.events) after)
+    (ap (λ (s : SiteView). s.config) after) (ap (λ (s : SiteView). s.me) after) (ap program_in after)
+    (ap (λ (s : SiteView). s.events) after)
     ∙ ap (λ l. early_at old ++ l) (pulse_nothing old.node old.config to (pulsing old.node to).sent)
 
 -- by a delivery a string that came too early
-delivered_early : (bytes : List ℕ) (v : Verdict) (old new : Shown) → IsConfig old.config
+delivered_early : (bytes : List ℕ) (v : Verdict) (old new : SiteView) → IsConfig old.config
     → IsMadeByEvents old → (d : SiteDelivers bytes v old new) (w : Verdict)
     → new ≡ after_hearing old bytes w d.frame.source d.effect
     → verdict_of old.config old.node bytes ≡ v
     → early_at new ≡ early_at old ++ early_as v bytes
 delivered_early bytes v old new limits h d w after is =
-    early_grown old new (Delivery bytes ∷ []) h (ap (λ (s : Shown). s.config) after)
-    (ap (λ (s : Shown). s.me) after)
+    early_grown old new (Delivery bytes ∷ []) h (ap (λ (s : SiteView). s.config) after)
+    (ap (λ (s : SiteView). s.me) after)
     (ap program_in after
     ∙ delivered-program old.config limits old.node d.frame bytes d.effect d.spelled d.delivered)
-    (ap (λ (s : Shown). s.events) after)
+    (ap (λ (s : SiteView). s.events) after)
     ∙ ap (λ l. early_at old ++ l)
     (append-nil (early_as (verdict_of old.config old.node bytes) bytes))
     ∙ ap (λ w. early_at old ++ early_as w bytes) is
 
-early_after : (bytes : List ℕ) (v : Verdict) (old new : Shown) → IsConfig old.config
+early_after : (bytes : List ℕ) (v : Verdict) (old new : SiteView) → IsConfig old.config
     → IsMadeByEvents old → (d : SiteDelivers bytes v old new) → (w : Verdict) → v ≡ w
     → early_at new ≡ early_at old ++ early_as w bytes
 early_after bytes v old new limits h d verdict.NotMine is =
@@ -328,20 +328,20 @@ early_after bytes v old new limits h d verdict.Ahead is =
     (d.after ∙ ap (λ x. after_delivery old bytes x d.frame.source d.effect) is)
     (read_verdict bytes v old new limits d) ∙ ap (λ w. early_at old ++ early_as w bytes) is
 
-pub delivery_early : (bytes : List ℕ) (v : Verdict) (old new : Shown) → IsConfig old.config
+pub delivery_early : (bytes : List ℕ) (v : Verdict) (old new : SiteView) → IsConfig old.config
     → IsMadeByEvents old → (d : SiteDelivers bytes v old new)
     → (verdict_of old.config old.node bytes ≡ v) × (early_at new ≡ early_at old ++ early_as v bytes)
 delivery_early bytes v old new limits h d =
     (read_verdict bytes v old new limits d, early_after bytes v old new limits h d v refl)
 
 -- which its events sent
-pub take_sent : (n v : Shown) → v ≡ n → (bytes : Option (List ℕ)) (box : Outbox) → IsSite v
+pub take_sent : (n v : SiteView) → v ≡ n → (bytes : Option (List ℕ)) (box : Outbox) → IsSite v
     → TakesFirst bytes (box_of v) box → IfSome bytes (IsSentBy n)
 take_sent n v same None box s takes = tt
 take_sent n v same (Some bytes) box s takes =
     let whole : s.made.effect.sent ≡ s.made.taken ++ bytes ∷ box.waiting =
     s.made.waits ∙ ap (λ l. s.made.taken ++ l) takes.0 in
-    subst (λ (x : Shown). IsSentBy x bytes) same (record {
+    subst (λ (x : SiteView). IsSentBy x bytes) same (record {
       made = s.made;
       sent = subst (λ l. Contains l bytes) (sym whole)
           (Contains-append_right s.made.taken (bytes ∷ box.waiting) bytes

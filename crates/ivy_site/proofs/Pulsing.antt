@@ -8,14 +8,14 @@ use Rattle.ivy_moves.specs.ivy_link.Pulsed.{frames_again, pulsed}
 use Rattle.ivy_moves.specs.Marks.{Mark, Pulse}
 use Rattle.ivy_moves.specs.Nodes.{pulsing}
 use Rattle.ivy_outbox.specs.Outboxes.{Outbox, with_sending}
-use Rattle.ivy_site.specs.Shown.{Shown, after_pulse_to, box_of, shown_of}
+use Rattle.ivy_site.specs.SiteView.{SiteView, after_pulse_to, box_of, shown_of}
 use Rattle.ivy_moves.specs.Parts.{pulse_marks}
 use Rattle.ivy_site.specs.Sites.{IsSite}
-use Rattle.ivy_host.proofs.Tame.{IsAskingHost}
+use Rattle.ivy_host.proofs.WellBehaved.{IsAskingHost}
 use Rattle.ivy_moves.specs.ivy_link.Linked.{peer_at}
 use Rattle.ivy_moves.proofs.of_ivy_link.Holds.{pulsed-delivered}
 use Rattle.ivy_site.proofs.Made.{pulse_made-on, pulse_early}
-use Rattle.ivy_site.proofs.HeldStrings.{quiet-holds}
+use Rattle.ivy_site.proofs.HeldStrings.{quiet_holds}
 
 -- a pulse is listed where a frame was made
 made-marks : (to : ℕ) (fs : List Frame) → fs ≢ []
@@ -27,18 +27,18 @@ none-marks : (to : ℕ) (fs : List Frame) → (fs ≢ [] → ⊥) → pulse_mark
 none-marks to [] none = refl
 none-marks to (f ∷ fs) none = absurd (none (λ e. absurd cc))
 
-pulse_is : (n v : Shown) → v ≡ n → (to : ℕ) (box : Outbox) (events : List Mark)
+pulse_is : (n v : SiteView) → v ≡ n → (to : ℕ) (box : Outbox) (events : List Mark)
     → box ≡ with_sending (box_of v) (pulsed v.node.link to)
     → events ≡ v.events ++ pulse_marks to (map spelling (frames_again v.node.link to))
     → shown_of v.keep v.node.core box events ≡ after_pulse_to n to (pulsing n.node to)
 unfolding pulsing
 pulse_is n v same to box events sent listed =
-    subst (λ (x : Shown). shown_of v.keep v.node.core box events ≡ after_pulse_to x to (pulsing x.node to)) same
+    subst (λ (x : SiteView). shown_of v.keep v.node.core box events ≡ after_pulse_to x to (pulsing x.node to)) same
     (ap (λ (b : Outbox). shown_of v.keep v.node.core b events) sent
     ∙ ap (λ (es : List Mark). shown_of v.keep v.node.core (with_sending (box_of v) (pulsed v.node.link to)) es)
     listed)
 
-pub pulse_made : (n v : Shown) → v ≡ n → (to : ℕ) (box : Outbox) (reserved events : List Mark)
+pub pulse_made : (n v : SiteView) → v ≡ n → (to : ℕ) (box : Outbox) (reserved events : List Mark)
     → box ≡ with_sending (box_of v) (pulsed v.node.link to)
     → frames_again v.node.link to ≢ [] → reserved ≡ v.events → events ≡ reserved ++ Pulse to ∷ []
     → shown_of v.keep v.node.core box events ≡ after_pulse_to n to (pulsing n.node to)
@@ -48,7 +48,7 @@ pulse_made n v same to box reserved events sent some room listed =
     ∙ ap (λ (ms : List Mark). v.events ++ ms)
     (sym (made-marks to (frames_again v.node.link to) some))))
 
-pub pulse_none : (n v : Shown) → v ≡ n → (to : ℕ) (box : Outbox) (events : List Mark)
+pub pulse_none : (n v : SiteView) → v ≡ n → (to : ℕ) (box : Outbox) (events : List Mark)
     → box ≡ with_sending (box_of v) (pulsed v.node.link to)
     → (frames_again v.node.link to ≢ [] → ⊥) → events ≡ v.events
     → shown_of v.keep v.node.core box events ≡ after_pulse_to n to (pulsing n.node to)
@@ -66,23 +66,23 @@ not_made false is h p =
     absurd cc
 
 -- what holds of a site holds after a pulse
-pub pulsed_site : (v : Shown) → IsSite v → (to : ℕ) (new : Shown)
+pub pulsed_site : (v : SiteView) → IsSite v → (to : ℕ) (new : SiteView)
     → new ≡ after_pulse_to v to (pulsing v.node to) → IsSite new
 unfolding pulsing
 pulsed_site v s to new after = record {
   config =
-      ap (λ (x : Shown). x.node.core.memory.coherence.config) after ∙ s.config
-      ∙ sym (ap (λ (x : Shown). x.config) after);
-  me = ap (λ (x : Shown). x.node.core.memory.coherence.me) after ∙ s.me
-      ∙ sym (ap (λ (x : Shown). x.me) after);
-  asking = subst (λ (x : Shown). IsAskingHost x.node.core) (sym after) s.asking;
+      ap (λ (x : SiteView). x.node.core.memory.coherence.config) after ∙ s.config
+      ∙ sym (ap (λ (x : SiteView). x.config) after);
+  me = ap (λ (x : SiteView). x.node.core.memory.coherence.me) after ∙ s.me
+      ∙ sym (ap (λ (x : SiteView). x.me) after);
+  asking = subst (λ (x : SiteView). IsAskingHost x.node.core) (sym after) s.asking;
   made = pulse_made-on to v new s.made after;
-  held = quiet-holds v new s.held (record {
-    held = ap (λ (x : Shown). x.held) after;
-    config = ap (λ (x : Shown). x.config) after;
-    me = ap (λ (x : Shown). x.node.link.me) after;
+  held = quiet_holds v new s.held (record {
+    held = ap (λ (x : SiteView). x.held) after;
+    config = ap (λ (x : SiteView). x.config) after;
+    me = ap (λ (x : SiteView). x.node.link.me) after;
     delivered =
-        λ j. ap (λ (x : Shown). (peer_at x.node.link j).delivered) after
+        λ j. ap (λ (x : SiteView). (peer_at x.node.link j).delivered) after
         ∙ pulsed-delivered v.node.link to j;
     more = [];
     early = pulse_early to v new s.made after;

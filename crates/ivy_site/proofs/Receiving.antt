@@ -8,11 +8,11 @@ use Rattle.ivy_moves.specs.ivy_link.Limits.{most_ahead}
 use Rattle.ivy_model.specs.declared.Config.{Config}
 use Rattle.ivy_model.specs.Config.{IsConfig}
 use Rattle.ivy_model.specs.declared.Fault.{Fault}
-use Rattle.ivy_model.specs.Wants.{IsWant}
+use Rattle.ivy_model.specs.Wants.{RanOut}
 use Rattle.ivy_wire.specs.declared.FrameKind.{FrameKind}
 use Rattle.ivy_wire.specs.declared.frame.Frame as frame
 use Rattle.ivy_wire.specs.Data.{Frame}
-use Rattle.ivy_wire.specs.Faults.{checked}
+use Rattle.ivy_wire.specs.DecodeErrors.{checked}
 use Rattle.ivy_wire.specs.Reading.{frame_at}
 use Rattle.ivy_wire.specs.Spelling.{Spells, frame_kind}
 use Rattle.ivy_wire.proofs.Frames.{spelled_once}
@@ -23,7 +23,7 @@ use Rattle.ivy_moves.specs.ivy_link.Accepted.{offered}
 use Rattle.ivy_moves.specs.ivy_link.Windows.{with_string}
 use Rattle.ivy_moves.specs.ivy_link.Holding.{Holding, link_of, window_at, can_hold_frame, place_in, after_hold, after_taking, ready_of}
 use Rattle.ivy_outbox.specs.Outboxes.{Outbox, holding_of, with_holding}
-use Rattle.ivy_site.specs.Shown.{Shown, holding_at, after_delivery, box_of, boxed}
+use Rattle.ivy_site.specs.SiteView.{SiteView, holding_at, after_delivery, box_of, boxed}
 use Rattle.ivy_site.specs.Sites.{early_at, IsSite, IsHeld, SiteDelivers}
 use Rattle.ivy_site.specs.Sites.{holding_in, without_ready}
 use Rattle.ivy_site.specs.Sites.{GoesOnOnce, SiteGoesOn, FollowsDelivery, AfterDelivery, GoesAsFar, DeliversWhole}
@@ -62,7 +62,7 @@ held_link h f bytes =
     link-kept (can_hold_frame h f) h f.source
     (with_string (window_at h f.source) (place_in h f) bytes)
 
-pub boxed_held : {B : Type 0} (v : Shown) (f : frame.Frame B) (bytes : List ℕ) (box : Outbox)
+pub boxed_held : {B : Type 0} (v : SiteView) (f : frame.Frame B) (bytes : List ℕ) (box : Outbox)
     → box ≡ with_holding (box_of v) (after_hold (holding_of (box_of v)) f bytes)
     → boxed v box ≡ record v { held = (after_hold (holding_at v) f bytes).held }
 boxed_held v f bytes box is =
@@ -72,37 +72,37 @@ boxed_held v f bytes box is =
       held = (after_hold (holding_at v) f bytes).held;
     }) (held_link (holding_at v) f bytes)
 
-pub came_early : (n v : Shown) → v ≡ n → (k : Config) (f : Frame) (string bytes : List ℕ)
+pub came_early : (n v : SiteView) → v ≡ n → (k : Config) (f : Frame) (string bytes : List ℕ)
     → Contains (early_at n) string → k ≡ v.config → Spells k f bytes → bytes ≡ string
     → CameEarly v f string
 came_early n v same k f string bytes came config spelled is = record {
-  early = subst (λ (x : Shown). Contains (early_at x) string) (sym same) came;
+  early = subst (λ (x : SiteView). Contains (early_at x) string) (sym same) came;
   spelled = subst (Spells v.config f) is (subst (λ c. Spells c f bytes) config spelled);
 }
 
 -- it is held where the frame in it says
-pub holds_string : (n v : Shown) → v ≡ n
-    → (k : Config) (f : Frame) (string bytes : List ℕ) (new : Shown) → IsConfig k → k ≡ v.config
+pub holds_string : (n v : SiteView) → v ≡ n
+    → (k : Config) (f : Frame) (string bytes : List ℕ) (new : SiteView) → IsConfig k → k ≡ v.config
     → Spells k f bytes → bytes ≡ string → new ≡ holding_in v f string → HoldsString string n new
 holds_string n v same k f string bytes new limits config spelled is held g there =
     let mine : Spells n.config f string =
-    subst (λ (x : Shown). Spells x.config f string) same
+    subst (λ (x : SiteView). Spells x.config f string) same
     (subst (Spells v.config f) is (subst (λ c. Spells c f bytes) config spelled)) in
     let well : IsConfig n.config =
-    subst (λ (x : Shown). IsConfig x.config) same (subst IsConfig config limits) in
+    subst (λ (x : SiteView). IsConfig x.config) same (subst IsConfig config limits) in
     held ∙ (ap (λ x. holding_in v x string) (spelled_same n.config well f g string mine there)
     ∙ ap (λ x. holding_in x g string) same)
 
-pub never_refused : (n v : Shown) → v ≡ n
-    → (k : Config) (string bytes : List ℕ) (new : Shown) (Q : Fault → Type 0) → IsConfig k
+pub never_refused : (n v : SiteView) → v ≡ n
+    → (k : Config) (string bytes : List ℕ) (new : SiteView) (Q : Fault → Type 0) → IsConfig k
     → k ≡ v.config → bytes ≡ string → MatchResult (checked k bytes) (λ x. false ≡ true) Q
     → HoldsString string n new
 never_refused n v same k string bytes new Q limits config is why g there =
-    let at : n.config ≡ k = sym (ap (λ (x : Shown). x.config) same) ∙ sym config in
+    let at : n.config ≡ k = sym (ap (λ (x : SiteView). x.config) same) ∙ sym config in
     absurd (read_there k limits g bytes Q
     (subst (Spells k g) (sym is) (subst (λ c. Spells c g string) at there)) why)
 
-pub holding_site : (v : Shown) (f : Frame) (bytes : List ℕ) → IsSite v → CameEarly v f bytes
+pub holding_site : (v : SiteView) (f : Frame) (bytes : List ℕ) → IsSite v → CameEarly v f bytes
     → IsSite (holding_in v f bytes)
 holding_site v f bytes s came = record {
   config = s.config;
@@ -119,12 +119,12 @@ holding_site v f bytes s came = record {
 }
 
 -- the string that is ready is taken out
-pub boxed_taken : (v : Shown) (from : ℕ) (box : Outbox)
+pub boxed_taken : (v : SiteView) (from : ℕ) (box : Outbox)
     → box ≡ with_holding (box_of v) (after_taking (holding_of (box_of v)) from)
     → boxed v box ≡ without_ready v from
 boxed_taken v from box is = ap (boxed v) is
 
-pub taking_site : (v : Shown) (from : ℕ) → IsSite v → IsSite (without_ready v from)
+pub taking_site : (v : SiteView) (from : ℕ) → IsSite v → IsSite (without_ready v from)
 taking_site v from s = record {
   config = s.config;
   me = s.me;
@@ -139,21 +139,21 @@ taking_site v from s = record {
   held = taking-holds v from s.held;
 }
 
-pub taken_held : (n v : Shown) → v ≡ n → IsSite v → (from : ℕ) (o : Option (List ℕ))
+pub taken_held : (n v : SiteView) → v ≡ n → IsSite v → (from : ℕ) (o : Option (List ℕ))
     → o ≡ ready_of (holding_at v) from → IfSome o (IsHeld n from 0)
 taken_held n v same s from None is = tt
 taken_held n v same s from (Some bytes) is =
-    subst (λ (x : Shown). IsHeld x from 0 bytes) same (s.held from 0 bytes (sym is))
+    subst (λ (x : SiteView). IsHeld x from 0 bytes) same (s.held from 0 bytes (sym is))
 
 -- a string that comes, before the site goes on
-nothing_held : (w : Verdict) (f : Frame) (bytes : List ℕ) (mid : Shown) → w ≢ verdict.Ahead
+nothing_held : (w : Verdict) (f : Frame) (bytes : List ℕ) (mid : SiteView) → w ≢ verdict.Ahead
     → Holds w f bytes mid mid
 nothing_held verdict.NotMine f bytes mid ne = refl
 nothing_held verdict.Next f bytes mid ne = refl
 nothing_held verdict.Repeat f bytes mid ne = refl
 nothing_held verdict.Ahead f bytes mid ne = absurd (ne refl)
 
-pub hears : (bytes : List ℕ) (w : Verdict) (from : ℕ) (early : Option (List ℕ)) (old new : Shown)
+pub hears : (bytes : List ℕ) (w : Verdict) (from : ℕ) (early : Option (List ℕ)) (old new : SiteView)
     → IsConfig old.config → (f : Frame) → Spells old.config f bytes → f.source ≡ from
     → SiteDelivers bytes w old new → CameEarlyAs w bytes new
     → MatchOption early (w ≢ verdict.Ahead) (λ string. (string ≡ bytes) × (w ≡ verdict.Ahead))
@@ -177,7 +177,7 @@ hears bytes w from (Some string) old new limits f spelled source d came early = 
 }
 
 pub received_none : (bytes : List ℕ) (w : Verdict) (from : ℕ) (early : Option (List ℕ))
-    (old mid : Shown) → early ≡ None → Hears bytes w from early old mid
+    (old mid : SiteView) → early ≡ None → Hears bytes w from early old mid
     → Receives bytes w from old mid
 received_none bytes w from early old mid none h =
     let ne : w ≢ verdict.Ahead =
@@ -192,24 +192,24 @@ received_none bytes w from early old mid none h =
     }
 
 pub told_early : (bytes string : List ℕ) (w : Verdict) (from : ℕ) (early : Option (List ℕ))
-    (old mid : Shown) → early ≡ Some string → Hears bytes w from early old mid
+    (old mid : SiteView) → early ≡ Some string → Hears bytes w from early old mid
     → (string ≡ bytes) × Contains (early_at mid) string × (w ≡ verdict.Ahead)
 told_early bytes string w from early old mid some h =
     subst (λ o. MatchOption o (w ≢ verdict.Ahead)
     (λ s. (s ≡ bytes) × Contains (early_at mid) s × (w ≡ verdict.Ahead))) some h.early
 
 pub received_early : (bytes string : List ℕ) (w : Verdict) (from : ℕ) (early : Option (List ℕ))
-    (old mid : Shown) → early ≡ Some string → Hears bytes w from early old mid
+    (old mid : SiteView) → early ≡ Some string → Hears bytes w from early old mid
     → Contains (early_at mid) string
 received_early bytes string w from early old mid some h =
     (told_early bytes string w from early old mid some h).1
 
-held_as : (w : Verdict) (f : Frame) (bytes : List ℕ) (mid new : Shown) → w ≡ verdict.Ahead
+held_as : (w : Verdict) (f : Frame) (bytes : List ℕ) (mid new : SiteView) → w ≡ verdict.Ahead
     → new ≡ holding_in mid f bytes → Holds w f bytes mid new
 held_as w f bytes mid new ahead is = subst (λ x. Holds x f bytes mid new) (sym ahead) is
 
 pub received_some : (bytes string : List ℕ) (w : Verdict) (from : ℕ) (early : Option (List ℕ))
-    (old mid new : Shown) → early ≡ Some string → Hears bytes w from early old mid
+    (old mid new : SiteView) → early ≡ Some string → Hears bytes w from early old mid
     → mid.config ≡ old.config → HoldsString string mid new → Receives bytes w from old new
 received_some bytes string w from early old mid new some h config held =
     let told = told_early bytes string w from early old mid some h in
@@ -225,12 +225,12 @@ received_some bytes string w from early old mid new some h config held =
     }
 
 -- a string that was held
-next_of : (s : Shown) (from : ℕ) (bytes : List ℕ) (h : IsHeld s from 0 bytes)
+next_of : (s : SiteView) (from : ℕ) (bytes : List ℕ) (h : IsHeld s from 0 bytes)
     → IsNextOf s from h.frame
 next_of s from bytes h =
     record { source = h.source; dest = h.dest; number = let n = h.number in omega (arith, n) }
 
-offered-next : (s : Shown) (from : ℕ) (f : Frame) → IsNextOf s from f
+offered-next : (s : SiteView) (from : ℕ) (f : Frame) → IsNextOf s from f
     → offered s.node.link f ≡ verdict.Next
 offered-next s from f n =
     let number : f.number ≡ (peer_at s.node.link f.source).delivered + 1 =
@@ -240,7 +240,7 @@ offered-next s from f n =
       eq-eqb f.number ((peer_at s.node.link f.source).delivered + 1) number,
     ) refl
 
-pub went_once : (old new : Shown) (from source : ℕ) (bytes : List ℕ) (w : Verdict)
+pub went_once : (old new : SiteView) (from source : ℕ) (bytes : List ℕ) (w : Verdict)
     → IsConfig old.config → Some bytes ≡ ready_of (holding_at old) from → IsHeld old from 0 bytes
     → Receives bytes w source (without_ready old from) new → GoesOnOnce from bytes old new
 went_once old new from source bytes w limits ready h r =
@@ -270,18 +270,18 @@ went_once old new from source bytes w limits ready h r =
     }
 
 -- refused, and held again
-pub held_again : (old mid new : Shown) (from : ℕ) (bytes : List ℕ)
+pub held_again : (old mid new : SiteView) (from : ℕ) (bytes : List ℕ)
     → Some bytes ≡ ready_of (holding_at old) from → (h : IsHeld old from 0 bytes)
     → mid ≡ without_ready old from
     → ((g : Frame) → Spells mid.config g bytes → new ≡ holding_in mid g bytes) → new ≡ old
 held_again old mid new from bytes ready h is held =
     held h.frame
-    (subst (λ k. Spells k h.frame bytes) (sym (ap (λ (x : Shown). x.config) is)) h.spelled)
+    (subst (λ k. Spells k h.frame bytes) (sym (ap (λ (x : SiteView). x.config) is)) h.spelled)
     ∙ (ap (λ x. holding_in x h.frame bytes) is
     ∙ put-back-same old from h.frame bytes (next_of old from bytes h) (sym ready))
 
 -- one string more
-goes_more : (from : ℕ) (more : List (List ℕ)) (a b d : Shown) (bytes : List ℕ)
+goes_more : (from : ℕ) (more : List (List ℕ)) (a b d : SiteView) (bytes : List ℕ)
     → SiteGoesOn from more a b → GoesOnOnce from bytes b d → SiteGoesOn from (more ++ bytes ∷ []) a d
 goes_more from [] a b d bytes same once =
     (d, subst (λ x. GoesOnOnce from bytes x d) same once, refl)
@@ -289,11 +289,11 @@ goes_more from (x ∷ more) a b d bytes on once =
     (on.0, on.1, goes_more from more on.0 b d bytes on.2 once)
 
 -- so many
-abbrev pub WentSoOften : ℕ → ℕ → Shown → Shown → Type 0
+abbrev pub WentSoOften : ℕ → ℕ → SiteView → SiteView → Type 0
 WentSoOften from count a b =
     (more : List (List ℕ)) × SiteGoesOn from more a b × (length more ≡ count)
 
-pub went_more : (from count : ℕ) (bytes : List ℕ) (a b d : Shown) → WentSoOften from count a b
+pub went_more : (from count : ℕ) (bytes : List ℕ) (a b d : SiteView) → WentSoOften from count a b
     → GoesOnOnce from bytes b d → WentSoOften from (count + 1) a d
 went_more from count bytes a b d on once = (
   on.0 ++ bytes ∷ [],
@@ -302,7 +302,7 @@ went_more from count bytes a b d on once = (
 )
 
 -- and no more
-pub went_to_end : (from count : ℕ) (a b d : Shown) → WentSoOften from count a b → d ≡ b
+pub went_to_end : (from count : ℕ) (a b d : SiteView) → WentSoOften from count a b → d ≡ b
     → ready_of (holding_at d) from ≡ None → GoesAsFar from None a d
 went_to_end from count a b d on same none = record {
   more = on.0;
@@ -310,11 +310,11 @@ went_to_end from count a b d on same none = record {
   rest = inl none;
 }
 
-pub went_all : (from : ℕ) (a b : Shown) → WentSoOften from most_ahead a b → GoesAsFar from None a b
+pub went_all : (from : ℕ) (a b : SiteView) → WentSoOften from most_ahead a b → GoesAsFar from None a b
 went_all from a b on = record { more = on.0; on = on.1; rest = inr on.2 }
 
-pub went_to_refusal : (from count : ℕ) (a b d : Shown) (fault : Fault) → WentSoOften from count a b
-    → d ≡ b → IsWant fault → GoesAsFar from (Some fault) a d
+pub went_to_refusal : (from count : ℕ) (a b d : SiteView) (fault : Fault) → WentSoOften from count a b
+    → d ≡ b → RanOut fault → GoesAsFar from (Some fault) a d
 went_to_refusal from count a b d fault on same want = record {
   more = on.0;
   on = subst (SiteGoesOn from on.0 a) (sym same) on.1;
@@ -322,14 +322,14 @@ went_to_refusal from count a b d fault on same want = record {
 }
 
 -- a delivery
-rests : (w : Verdict) (f : Frame) (bytes : List ℕ) (mid new : Shown) → w ≢ verdict.Next
+rests : (w : Verdict) (f : Frame) (bytes : List ℕ) (mid new : SiteView) → w ≢ verdict.Next
     → Holds w f bytes mid new → FollowsDelivery w f bytes mid new
 rests verdict.NotMine f bytes mid new ne h = h
 rests verdict.Next f bytes mid new ne h = absurd (ne refl)
 rests verdict.Repeat f bytes mid new ne h = h
 rests verdict.Ahead f bytes mid new ne h = h
 
-pub after_rest : (bytes : List ℕ) (w : Verdict) (from : ℕ) (old new : Shown) → w ≢ verdict.Next
+pub after_rest : (bytes : List ℕ) (w : Verdict) (from : ℕ) (old new : SiteView) → w ≢ verdict.Next
     → Receives bytes w from old new → AfterDelivery bytes w old new
 after_rest bytes w from old new ne r =
     record {
@@ -338,7 +338,7 @@ after_rest bytes w from old new ne r =
       follows = rests w r.first.frame bytes r.mid new ne r.holds;
     }
 
-after_next : (bytes : List ℕ) (from : ℕ) (refused : Option Fault) (old mid new : Shown)
+after_next : (bytes : List ℕ) (from : ℕ) (refused : Option Fault) (old mid new : SiteView)
     → Receives bytes verdict.Next from old mid → GoesAsFar from refused mid new
     → DeliversWhole verdict.Next refused bytes old new
 after_next bytes from refused old mid new r far =
@@ -350,14 +350,14 @@ after_next bytes from refused old mid new r far =
     )
 
 pub whole_next : (bytes : List ℕ) (w : Verdict) (from : ℕ) (refused : Option Fault)
-    (old mid new : Shown) → w ≡ verdict.Next → Receives bytes w from old mid
+    (old mid new : SiteView) → w ≡ verdict.Next → Receives bytes w from old mid
     → GoesAsFar from refused mid new → DeliversWhole w refused bytes old new
 whole_next bytes w from refused old mid new next r far =
     subst (λ x. DeliversWhole x refused bytes old new) (sym next)
     (after_next bytes from refused old mid new
     (subst (λ x. Receives bytes x from old mid) next r) far)
 
-pub whole_rest : (bytes : List ℕ) (w : Verdict) (from : ℕ) (old new : Shown) → w ≢ verdict.Next
+pub whole_rest : (bytes : List ℕ) (w : Verdict) (from : ℕ) (old new : SiteView) → w ≢ verdict.Next
     → Receives bytes w from old new → DeliversWhole w None bytes old new
 whole_rest bytes verdict.Next from old new ne r = absurd (ne refl)
 whole_rest bytes verdict.NotMine from old new ne r =
@@ -368,7 +368,7 @@ whole_rest bytes verdict.Ahead from old new ne r =
     (after_rest bytes verdict.Ahead from old new ne r, refl)
 
 -- so it is delivered
-pub whole_delivers : (bytes : List ℕ) (w : Verdict) (refused : Option Fault) (old new : Shown)
+pub whole_delivers : (bytes : List ℕ) (w : Verdict) (refused : Option Fault) (old new : SiteView)
     → DeliversWhole w refused bytes old new → AfterDelivery bytes w old new
 whole_delivers bytes verdict.Next refused old new d = d.0
 whole_delivers bytes verdict.NotMine refused old new d = d.0

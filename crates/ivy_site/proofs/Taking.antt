@@ -10,18 +10,18 @@ use Rattle.ivy_model.proofs.Rows.{length-row}
 use Rattle.ivy_host.specs.Managers.{Managed, managed_ops}
 use Rattle.ivy_host.specs.ivy_heap.declared.Answer.TheVariants.{Given}
 use Rattle.ivy_host.specs.ivy_memory.Memories.{NodeMemory, CallBegun, polled}
-use Rattle.ivy_host.specs.ivy_memory.Together as memories
+use Rattle.ivy_host.specs.ivy_memory.Together.{TakesRecords}
 use Rattle.ivy_host.proofs.of_ivy_memory.Along.{AreFirst}
 use Rattle.ivy_host.proofs.of_ivy_memory.Polling.{polled-begun}
-use Rattle.ivy_host.proofs.of_ivy_memory.Tame.{GoesOn, IsBegun, one_goes}
-use Rattle.ivy_host.proofs.Tame.{first_asks}
+use Rattle.ivy_host.proofs.of_ivy_memory.Begun.{GoesOn, IsBegun, one_goes}
+use Rattle.ivy_host.proofs.WellBehaved.{first_asks}
 use Rattle.ivy_moves.specs.declared.keep.Keep.{Keep}
 use Rattle.ivy_moves.specs.Marks.{Mark, Turn, turns}
 use Rattle.ivy_outbox.specs.Outboxes.{Outbox, HasNumbers, posted_by, takes_none, after_none}
 use Rattle.ivy_program.specs.Steps.{AsksMany, AsksRow, Process, answered_all, answered_with}
 use Rattle.ivy_site.specs.Calls.{AreTaken, IsTaken}
 use Rattle.ivy_site.specs.Inside.{HasTurn, host_of}
-use Rattle.ivy_site.specs.Shown.{Shown, box_of, shown_of}
+use Rattle.ivy_site.specs.SiteView.{SiteView, box_of, shown_of}
 use Rattle.ivy_site.specs.Sites.{IsSite}
 use Rattle.ivy_site.proofs.Calling.{called, poll_call}
 use Rattle.ivy_site.proofs.InRow.{record-node}
@@ -37,10 +37,10 @@ module _ (keep : Keep) (m mid : NodeMemory Managed) (p : Process) (history : Lis
     (site : IsSite (shown_of keep (host_of m p history) box events))
     (asked : m.asked ≡ Some r.call) (mine : r.node ≡ box.me)
     (there : polled managed_ops m ≡ record { answer = Given r.reply; after = mid; posted = [] }) where
-  abbrev before : Shown
+  abbrev before : SiteView
   before = shown_of keep (host_of m p history) box events
 
-  abbrev later : Shown
+  abbrev later : SiteView
   later =
       shown_of keep (host_of mid (answered_with p r.reply) (history ++ r ∷ [])) box
       (events ++ Turn ∷ [])
@@ -77,7 +77,7 @@ module _ (keep : Keep) (m mid : NodeMemory Managed) (p : Process) (history : Lis
 
 -- the site once these replies were taken, and its memory is this
 abbrev after : Keep → NodeMemory Managed → Process → List Record → Outbox → List Mark
-    → List Record → Shown
+    → List Record → SiteView
 after keep m p history box events rs =
     shown_of keep (host_of m (answered_all p (replies_of rs)) (history ++ rs)) box
     (events ++ turns (length rs))
@@ -102,14 +102,14 @@ after-none keep m p history box events =
     ∙ ap (λ (es : List Mark). shown_of keep (host_of m p history) box es) (append-nil events)
 
 -- the replies in a row are taken, and the site stays one
-pub record IsAfterTaking (kind : Row) (numbers : List ℕ) (addr : ℕ) (old new : Shown) : Type 0 where
+pub record IsAfterTaking (kind : Row) (numbers : List ℕ) (addr : ℕ) (old new : SiteView) : Type 0 where
   pub taken : AreTaken (row kind old.me addr numbers) old new
   pub site : IsSite new
 
 taking_at : (kind : Row) (numbers : List ℕ) (addr : ℕ) (keep : Keep) (m new : NodeMemory Managed)
     (p : Process) (history : List Record) (box : Outbox) (events : List Mark)
     → IsSite (shown_of keep (host_of m p history) box events)
-    → memories.AreTaken managed_ops (row kind box.me addr numbers) m new
+    → TakesRecords managed_ops (row kind box.me addr numbers) m new
     → IsAfterTaking kind numbers addr (shown_of keep (host_of m p history) box events)
     (after keep new p history box events (row kind box.me addr numbers))
 taking_at kind [] addr keep m new p history box events site is =
@@ -136,7 +136,7 @@ taking_at kind (number ∷ more) addr keep m new p history box events site is =
       taken = (
         shown_of keep (host_of mid (answered_with p r.reply) (history ++ r ∷ [])) box (events ++ Turn ∷ []),
         first,
-        subst (λ (s : Shown). AreTaken rs
+        subst (λ (s : SiteView). AreTaken rs
             (shown_of keep (host_of mid (answered_with p r.reply) (history ++ r ∷ [])) box
             (events ++ Turn ∷ [])) s) all
             rest.taken,
@@ -147,7 +147,7 @@ taking_at kind (number ∷ more) addr keep m new p history box events site is =
 -- the calls whose replies are taken are the first of those that go on
 module _ (new : NodeMemory Managed) where
   first_taken : (rs : List Record) (m : NodeMemory Managed) (calls : List Call) (number : ℕ)
-      → GoesOn calls number m → memories.AreTaken managed_ops rs m new → AreFirst (calls_of rs) calls
+      → GoesOn calls number m → TakesRecords managed_ops rs m new → AreFirst (calls_of rs) calls
   first_taken [] m calls number goes is = (calls, refl)
   first_taken (r ∷ rs) m calls number goes is =
       let x = goes.first r.call is.1 in
@@ -162,7 +162,7 @@ module _ (new : NodeMemory Managed) where
   -- the program makes them, whatever it is answered
   asks_taken : (rs : List Record) (m : NodeMemory Managed) (p : Process)
       → ((call : Call) → m.asked ≡ Some call → AsksRow p (call ∷ m.along))
-      → memories.AreTaken managed_ops rs m new → AsksMany p (length rs)
+      → TakesRecords managed_ops rs m new → AsksMany p (length rs)
   asks_taken [] m p asking is = ([], refl, tt)
   asks_taken (r ∷ rs) m p asking is =
       let calls : List Call = r.call ∷ m.along in
@@ -174,17 +174,17 @@ module _ (new : NodeMemory Managed) where
       )
 
 -- as the code has it
-pub row_asks : (kind : Row) (v : Shown) → IsSite v → (numbers : List ℕ) (addr : ℕ)
+pub row_asks : (kind : Row) (v : SiteView) → IsSite v → (numbers : List ℕ) (addr : ℕ)
     → (m : NodeMemory Managed)
-    → memories.AreTaken managed_ops (row kind v.me addr numbers) v.node.core.memory m
+    → TakesRecords managed_ops (row kind v.me addr numbers) v.node.core.memory m
     → AsksMany v.node.core.process (length numbers)
 row_asks kind v site numbers addr m is =
     subst (AsksMany v.node.core.process) (length-row kind v.me addr numbers)
     (asks_taken m (row kind v.me addr numbers) v.node.core.memory v.node.core.process site.asking is)
 
-pub row_taken : (kind : Row) (n v : Shown) → v ≡ n → IsSite v → (numbers : List ℕ) (addr : ℕ)
+pub row_taken : (kind : Row) (n v : SiteView) → v ≡ n → IsSite v → (numbers : List ℕ) (addr : ℕ)
     → (m : NodeMemory Managed)
-    → memories.AreTaken managed_ops (row kind v.me addr numbers) v.node.core.memory m
+    → TakesRecords managed_ops (row kind v.me addr numbers) v.node.core.memory m
     → (p : Process)
     → ((replies : List Reply) → length replies ≡ length numbers
     → p ≡ answered_all v.node.core.process replies)
@@ -206,6 +206,6 @@ row_taken kind n v same site numbers addr m is p goes history kept events listed
     (v.events ++ turns (length rs))) (sym kept)
     ∙ ap (λ (k : ℕ). shown_of v.keep (host_of m p history) (box_of v) (v.events ++ turns k)) long
     ∙ ap (λ (es : List Mark). shown_of v.keep (host_of m p history) (box_of v) es) (sym listed) in
-    subst (λ (o : Shown). IsAfterTaking kind numbers addr o
+    subst (λ (o : SiteView). IsAfterTaking kind numbers addr o
     (shown_of v.keep (host_of m p history) (box_of v) events)) same
-    (subst (λ (x : Shown). IsAfterTaking kind numbers addr v x) to made)
+    (subst (λ (x : SiteView). IsAfterTaking kind numbers addr v x) to made)

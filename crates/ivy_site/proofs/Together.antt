@@ -1,5 +1,5 @@
 -- Calls of own code that are made together: the turn in which the first of them begins.
-use Rattle.std.proofs.Common.{◌≡◌, ℕ, zero, suc, ◌+◌, ◌-◌, ◌%◌, ◌≤◌, true, List, [], ◌∷◌, Some, None, drop, length, min, if◌then◌else◌, refl, sym, ap, ◌∙◌, subst, arith}
+use Rattle.std.proofs.Common.{◌≡◌, ℕ, zero, suc, ◌+◌, ◌-◌, ◌%◌, ◌≤◌, true, List, [], ◌∷◌, Some, None, drop, min, if◌then◌else◌, sym, ap, ◌∙◌, subst, arith}
 use Rattle.std.specs.Prelude.{All}
 use Rattle.ivy_model.specs.declared.Call.{Call}
 use Rattle.ivy_model.specs.declared.Config.{Config}
@@ -18,7 +18,7 @@ use Rattle.ivy_pagetable.specs.Rows.{row_len}
 use Rattle.ivy_site.specs.Calls.{BeginsRow, row_together}
 use Rattle.ivy_site.specs.Handed.{site_handed}
 use Rattle.ivy_site.specs.Inside.{host_of}
-use Rattle.ivy_site.specs.Shown.{Shown}
+use Rattle.ivy_site.specs.SiteView.{SiteView}
 use Rattle.ivy_site.specs.Sites.{SiteTurns}
 use Rattle.ivy_site.proofs.Calling.{IsCall, IsNumbered, begin_call}
 
@@ -60,7 +60,7 @@ module _ (m : NodeMemory Managed) (p : Process) (history : List Record) (rests :
       (record { is = n.is; below = n.below }))
 
 -- the row that a site begins
-pub begins_row : (n new : Shown) (kind : Row) (addr words : ℕ) (bytes : List ℕ) → 1 ≤ words
+pub begins_row : (n new : SiteView) (kind : Row) (addr words : ℕ) (bytes : List ℕ) → 1 ≤ words
     → SiteTurns (site_handed (calls_of (row kind 0 addr (numbers_in words bytes)) ∷ []) n) new
     → new.node.core.history ≡ n.node.core.history
     → new.node.core.memory.asked ≡ Some (first_call kind addr bytes)
@@ -76,22 +76,13 @@ begins_row n new kind addr words bytes some turns recorded asked along =
     })
 
 -- how many calls it has, as the code has it
-pub together_is : (n v : Shown) → v ≡ n → (kind : Row) (addr words len many : ℕ)
+pub together_is : (n v : SiteView) → v ≡ n → (kind : Row) (addr words len many : ℕ)
     → row_has_to_wait v.node.core.memory kind addr ≡ true → (c : Config) → c ≡ v.config
     → many ≡ min words (row_len c.page_size (addr % c.page_size) len)
     → row_together n kind addr words len ≡ many
 together_is n v same kind addr words len many waits c config is =
-    ap (λ (s : Shown). row_together s kind addr words len) (sym same)
+    ap (λ (s : SiteView). row_together s kind addr words len) (sym same)
     ∙ ap (λ b. if b then min words (row_len v.config.page_size (addr % v.config.page_size) len) else 0)
     waits
     ∙ ap (λ (k : Config). min words (row_len k.page_size (addr % k.page_size) len)) (sym config)
     ∙ sym is
-
--- whether there are calls along, told by their number
-pub none_along : (calls : List Call) (k : ℕ) → k ≡ length calls → k ≡ 0 → calls ≡ []
-none_along [] k is none = refl
-none_along (call ∷ calls) k is none =
-    absurd (let e : length (call ∷ calls) ≡ suc (length calls) = refl in omega (arith, is, none, e))
-
-pub along_none : (calls : List Call) (k : ℕ) → k ≡ length calls → calls ≡ [] → k ≡ 0
-along_none calls k is none = is ∙ ap length none

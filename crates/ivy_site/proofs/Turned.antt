@@ -12,17 +12,17 @@ use Rattle.ivy_moves.specs.Marks.{Mark, Turn}
 use Rattle.ivy_host.specs.ivy_memory.Memories.{NodeMemory}
 use Rattle.ivy_host.specs.Hosts.{Host, turn_of}
 use Rattle.ivy_outbox.specs.Outboxes.{Outbox}
-use Rattle.ivy_site.specs.Shown.{Shown, box_of, shown_of}
+use Rattle.ivy_site.specs.SiteView.{SiteView, box_of, shown_of}
 use Rattle.ivy_site.specs.Sites.{SiteTurns, IsSpentTurn, IsMadeByEvents, IsSite}
 use Rattle.ivy_site.specs.Inside.{HasTurn, AfterHostTurn, HasNoNumbers, host_of}
 use Rattle.ivy_host.proofs.Same.{turn-same}
-use Rattle.ivy_host.proofs.Tame.{IsAskingHost, turn-asking}
+use Rattle.ivy_host.proofs.WellBehaved.{IsAskingHost, turn-asking}
 use Rattle.ivy_site.specs.declared.turn.Turn.TheVariants as turn
 use Rattle.ivy_moves.specs.ivy_link.Linked.{Linked, peer_at, after_sends}
 use Rattle.ivy_moves.proofs.of_ivy_link.Sending.{sends-me}
 use Rattle.ivy_moves.proofs.of_ivy_link.Holds.{sends-delivered}
 use Rattle.ivy_host.proofs.Programs.{posting-link}
-use Rattle.ivy_site.proofs.HeldStrings.{IsQuiet, quiet-holds}
+use Rattle.ivy_site.proofs.HeldStrings.{IsQuiet, quiet_holds}
 use Rattle.ivy_site.proofs.Made.{turn_made, turn_early}
 use Rattle.ivy_site.proofs.Turning.{turn_steps, moved_quietly, moved_by_call, spent_call}
 
@@ -30,7 +30,7 @@ abbrev H : Type 0
 H = Host Managed
 
 -- the site with this core, and these events listed
-abbrev with_core : Shown → H → List Mark → Shown
+abbrev with_core : SiteView → H → List Mark → SiteView
 with_core v h events =
     record {
       config = v.config;
@@ -47,7 +47,7 @@ hosts : (m m' : NodeMemory Managed) (p p' : Process) (hs hs' : List Record) → 
 hosts m m' p p' hs hs' a b d =
     ap (λ x. host_of x p hs) a ∙ (ap (λ x. host_of m' x hs) b ∙ ap (λ x. host_of m' p' x) d)
 
-stays_so : (v : Shown) (m : NodeMemory Managed) (p : Process) (hs : List Record)
+stays_so : (v : SiteView) (m : NodeMemory Managed) (p : Process) (hs : List Record)
     (events : List Mark) → m ≡ v.node.core.memory → p ≡ v.node.core.process
     → hs ≡ v.node.core.history → events ≡ v.events → with_core v (host_of m p hs) events ≡ v
 stays_so v m p hs events a b d e =
@@ -56,7 +56,7 @@ stays_so v m p hs events a b d e =
     ∙ ap (λ es. with_core v v.node.core es) e
 
 -- the program has ended
-pub ended_turn : (n v : Shown) → v ≡ n
+pub ended_turn : (n v : SiteView) → v ≡ n
     → (x : Next) (p : Process) (hs : List Record) (events : List Mark)
     → v.node.core.memory.asked ≡ None → TellsStep x v.node.core.process p → x ≡ next.Ended
     → hs ≡ v.node.core.history → events ≡ v.events
@@ -65,14 +65,14 @@ pub ended_turn : (n v : Shown) → v ≡ n
 ended_turn n v same x p hs events idle steps is history listed =
     let s : TellsStep next.Ended v.node.core.process p =
     subst (λ y. TellsStep y v.node.core.process p) is steps in (
-      subst (λ (y : Shown). HasEnded y.node.core.process) same s.0,
-      subst (λ (y : Shown). turn_of managed_ops y.node.core ≡ None) same
+      subst (λ (y : SiteView). HasEnded y.node.core.process) same s.0,
+      subst (λ (y : SiteView). turn_of managed_ops y.node.core ≡ None) same
           (turn_steps v.node.core Ends idle s.0),
       stays_so v v.node.core.memory p hs events refl s.1 history listed ∙ same,
     )
 
 -- an instruction of its own
-pub local_turn : (n v : Shown) → v ≡ n
+pub local_turn : (n v : SiteView) → v ≡ n
     → (x : Next) (p : Process) (hs : List Record) (events : List Mark)
     → v.node.core.memory.asked ≡ None → TellsStep x v.node.core.process p → x ≡ next.Local
     → hs ≡ v.node.core.history → events ≡ v.events ++ Turn ∷ []
@@ -88,7 +88,7 @@ local_turn n v same x p hs events idle steps is history listed =
     (moved_quietly n v same h events (turn_steps v.node.core (Local p.state) idle s.0) listed)
 
 -- the program and the history are as they were, as the code has them
-pub record IsAtRest (v : Shown) (p : Process) (hs : List Record) : Type 0 where
+pub record IsAtRest (v : SiteView) (p : Process) (hs : List Record) : Type 0 where
   pub process : p ≡ v.node.core.process
   pub history : hs ≡ v.node.core.history
 
@@ -98,19 +98,19 @@ pub makes_call : (q : Process) (c : Call) (x : Next) (p : Process) → TellsStep
 makes_call q c x p steps is =
     let s : TellsStep (next.Call c) q p = subst (λ y. TellsStep y q p) is steps in s.1
 
-resting_host : (v : Shown) (p : Process) (hs : List Record) → IsAtRest v p hs
+resting_host : (v : SiteView) (p : Process) (hs : List Record) → IsAtRest v p hs
     → host_of v.node.core.memory p hs ≡ v.node.core
 resting_host v p hs k =
     hosts v.node.core.memory v.node.core.memory p v.node.core.process hs v.node.core.history refl
     k.process k.history
 
-pub spent_turn : (n v : Shown) → v ≡ n → (p : Process) (hs : List Record) (f : Fault)
+pub spent_turn : (n v : SiteView) → v ≡ n → (p : Process) (hs : List Record) (f : Fault)
     → IsAtRest v p hs → HasNoNumbers (host_of v.node.core.memory p hs) (box_of v) f
     → IsSpentTurn n f
 spent_turn n v same p hs f k cannot =
     spent_call n v same f (subst (λ h. HasNoNumbers h (box_of v) f) (resting_host v p hs k) cannot)
 
-pub called_turn : (n v : Shown) → v ≡ n
+pub called_turn : (n v : SiteView) → v ≡ n
     → (p : Process) (hs : List Record) (h : H) (box : Outbox) (reserved events : List Mark)
     → IsAtRest v p hs → HasTurn (host_of v.node.core.memory p hs) (box_of v) h box
     → reserved ≡ v.events → events ≡ reserved ++ Turn ∷ [] → SiteTurns n (shown_of v.keep h box events)
@@ -120,24 +120,24 @@ called_turn n v same p hs h box reserved events k b room listed =
     (listed ∙ ap (λ es. es ++ Turn ∷ []) room)
 
 -- a turn delivers nothing
-turns_quietly : (old new : Shown) → IsMadeByEvents old → SiteTurns old new → IsQuiet old new
+turns_quietly : (old new : SiteView) → IsMadeByEvents old → SiteTurns old new → IsQuiet old new
 turns_quietly old new made t =
     let link : t.effect.after.link ≡ after_sends old.node.link t.outcome.posted =
     posting-link old.node t.outcome.after t.outcome.posted t.effect t.sent in
     record {
-      held = ap (λ (x : Shown). x.held) t.after;
-      config = ap (λ (x : Shown). x.config) t.after;
-      me = ap (λ (x : Shown). x.node.link.me) t.after
+      held = ap (λ (x : SiteView). x.held) t.after;
+      config = ap (λ (x : SiteView). x.config) t.after;
+      me = ap (λ (x : SiteView). x.node.link.me) t.after
           ∙ (ap (λ (l : Linked). l.me) link ∙ sends-me old.node.link t.outcome.posted);
       delivered =
-          λ j. ap (λ (x : Shown). (peer_at x.node.link j).delivered) t.after
+          λ j. ap (λ (x : SiteView). (peer_at x.node.link j).delivered) t.after
           ∙ (ap (λ (l : Linked). (peer_at l j).delivered) link
           ∙ sends-delivered old.node.link t.outcome.posted j);
       more = [];
       early = turn_early turn.Moved old new made t;
     }
 
-pub called_site : (v : Shown) (p : Process) (hs : List Record) (h : H) (box : Outbox)
+pub called_site : (v : SiteView) (p : Process) (hs : List Record) (h : H) (box : Outbox)
     (reserved events : List Mark) → IsSite v → IsAtRest v p hs
     → HasTurn (host_of v.node.core.memory p hs) (box_of v) h box
     → reserved ≡ v.events → events ≡ reserved ++ Turn ∷ [] → IsSite (shown_of v.keep h box events)
@@ -156,13 +156,13 @@ called_site v p hs h box reserved events s k b0 room listed =
           (turn-asking managed_ops v.node.core b.outcome s.asking b.turn);
       made = turn_made turn.Moved v (shown_of v.keep h box events) s.made
           (called_turn v v refl p hs h box reserved events k b0 room listed);
-      held = quiet-holds v (shown_of v.keep h box events) s.held
+      held = quiet_holds v (shown_of v.keep h box events) s.held
           (turns_quietly v (shown_of v.keep h box events) s.made
           (called_turn v v refl p hs h box reserved events k b0 room listed));
     }
 
 -- what holds of a site holds after an instruction of its own
-pub local_site : (v : Shown) (x : Next) (p : Process) (hs : List Record) (events : List Mark)
+pub local_site : (v : SiteView) (x : Next) (p : Process) (hs : List Record) (events : List Mark)
     → IsSite v → v.node.core.memory.asked ≡ None → TellsStep x v.node.core.process p
     → x ≡ next.Local
     → hs ≡ v.node.core.history → events ≡ v.events ++ Turn ∷ []
@@ -173,7 +173,7 @@ local_site v x p hs events s idle steps is history listed = record {
   asking = λ call asked. absurd (none-some call (sym idle ∙ asked));
   made = turn_made turn.Moved v (with_core v (host_of v.node.core.memory p hs) events) s.made
       (local_turn v v refl x p hs events idle steps is history listed);
-  held = quiet-holds v (with_core v (host_of v.node.core.memory p hs) events) s.held
+  held = quiet_holds v (with_core v (host_of v.node.core.memory p hs) events) s.held
       (turns_quietly v (with_core v (host_of v.node.core.memory p hs) events) s.made
       (local_turn v v refl x p hs events idle steps is history listed));
 }
@@ -190,22 +190,22 @@ not_turned true is old box new after h = absurd cc
 not_turned false is old box new after h = h
 
 -- nothing changed
-pub record IsIdle (v : Shown) (p : Process) (hs : List Record) (h : H) (box : Outbox) : Type 0 where
+pub record IsIdle (v : SiteView) (p : Process) (hs : List Record) (h : H) (box : Outbox) : Type 0 where
   pub rests : IsAtRest v p hs
   pub after : AfterHostTurn false (host_of v.node.core.memory p hs) (box_of v) h box
 
-idle_same : (v : Shown) (p : Process) (hs : List Record) (h : H) (box : Outbox) (events : List Mark)
+idle_same : (v : SiteView) (p : Process) (hs : List Record) (h : H) (box : Outbox) (events : List Mark)
     → IsIdle v p hs h box → events ≡ v.events → shown_of v.keep h box events ≡ v
 idle_same v p hs h box events u listed =
     ap (λ x. shown_of v.keep x box events) (u.after.1 ∙ resting_host v p hs u.rests)
     ∙ (ap (λ x. shown_of v.keep v.node.core x events) u.after.2 ∙ ap (with_core v v.node.core) listed)
 
-pub idle_turn : (n v : Shown) → v ≡ n
+pub idle_turn : (n v : SiteView) → v ≡ n
     → (p : Process) (hs : List Record) (h : H) (box : Outbox) (events : List Mark)
     → IsIdle v p hs h box → events ≡ v.events
     → (turn_of managed_ops n.node.core ≡ None) × (shown_of v.keep h box events ≡ n)
 idle_turn n v same p hs h box events u listed = (
-  subst (λ (y : Shown). turn_of managed_ops y.node.core ≡ None) same
+  subst (λ (y : SiteView). turn_of managed_ops y.node.core ≡ None) same
       (subst (λ x. turn_of managed_ops x ≡ None) (resting_host v p hs u.rests) u.after.0),
   idle_same v p hs h box events u listed ∙ same,
 )

@@ -12,7 +12,7 @@ use Rattle.ivy_moves.specs.Cores.{Outcome}
 use Rattle.ivy_moves.specs.Nodes.{Node, Effect, posting, turned, turned_to}
 use Rattle.ivy_host.specs.Hosts.{Host, host_rules, turn_of, turned_at, steps, quietly}
 use Rattle.ivy_outbox.specs.Outboxes.{Outbox}
-use Rattle.ivy_site.specs.Shown.{Shown, box_of, shown_of}
+use Rattle.ivy_site.specs.SiteView.{SiteView, box_of, shown_of}
 use Rattle.ivy_site.specs.Sites.{SiteTurns, IsSpentTurn}
 use Rattle.ivy_site.specs.Inside.{HasTurn, HasNoNumbers}
 
@@ -28,7 +28,7 @@ unfolding turn_of
 turn_steps h t idle is = ap (turned_at managed_ops h) idle ∙ ap (steps managed_ops h) is
 
 -- a turn that posts nothing
-pub moved_quietly : (n v : Shown) → v ≡ n → (h : H) (events : List Mark)
+pub moved_quietly : (n v : SiteView) → v ≡ n → (h : H) (events : List Mark)
     → turn v.node.core ≡ Some (quietly h) → events ≡ v.events ++ Turn ∷ []
     → SiteTurns n
     (record {
@@ -93,7 +93,7 @@ not_sent : (n : Node H) (h : H) (parcels : List Parcel) → has_numbers n.link p
 not_sent n h parcels numbers = rw numbers refl
 
 -- a turn in which a call begins, or is asked for its reply
-pub moved_by_call : (n v : Shown) → v ≡ n → (h : H) (box : Outbox) (events : List Mark)
+pub moved_by_call : (n v : SiteView) → v ≡ n → (h : H) (box : Outbox) (events : List Mark)
     → HasTurn v.node.core (box_of v) h box
     → events ≡ v.events ++ Turn ∷ []
     → SiteTurns n (shown_of v.keep h box events)
@@ -152,10 +152,10 @@ moved_by_call n v same h box events b listed =
           }) listed;
     })
 
-pub spent_call : (n v : Shown) → v ≡ n → (fault : Fault) → HasNoNumbers v.node.core (box_of v) fault
+pub spent_call : (n v : SiteView) → v ≡ n → (fault : Fault) → HasNoNumbers v.node.core (box_of v) fault
     → IsSpentTurn n fault
 unfolding turned
 spent_call n v same fault cannot is =
     let x = cannot is in
-    subst (λ (y : Shown). turned_to (host_rules managed_ops) y.node (turn y.node.core) ≡ None) same
+    subst (λ (y : SiteView). turned_to (host_rules managed_ops) y.node (turn y.node.core) ≡ None) same
     (ap (turned_to (host_rules managed_ops) v.node) x.1 ∙ not_sent v.node x.0.after x.0.posted x.2)

@@ -2,13 +2,15 @@
 use Rattle.std.specs.Prelude.{◌≡◌, ℕ, ◌+◌, ◌%◌, ◌<◌, ◌^◌, Bool, false, List, [], ◌∷◌, ◌++◌}
 use Rattle.std.specs.Prelude.{length, min, Option, Some, None, if◌then◌else◌}
 use Rattle.ivy_model.specs.declared.Call.{Call}
+use Rattle.ivy_model.specs.declared.Config.{Config}
 use Rattle.ivy_model.specs.declared.Record.{Record}
 use Rattle.ivy_model.specs.declared.Reply.{Reply}
 use Rattle.ivy_host.specs.ivy_heap.declared.Answer.{Answer}
 use Rattle.ivy_host.specs.ivy_heap.declared.Answer.TheVariants.{Given}
 use Rattle.ivy_model.specs.declared.Row.{Row}
 use Rattle.ivy_pagetable.specs.Rows.{row_len}
-use Rattle.ivy_host.specs.ivy_memory.Memories.{in_progress}
+use Rattle.ivy_host.specs.Managers.{Managed}
+use Rattle.ivy_host.specs.ivy_memory.Memories.{NodeMemory, in_progress}
 use Rattle.ivy_host.specs.ivy_memory.Rows.{row_has_to_wait}
 use Rattle.ivy_host.specs.Hosts.{number_of}
 use Rattle.ivy_moves.specs.declared.keep.Keep.TheVariants.{Nothing}
@@ -17,7 +19,7 @@ use Rattle.ivy_program.specs.Owned.{IsFree}
 use Rattle.ivy_program.specs.Programs.{IsCalled}
 use Rattle.ivy_program.specs.Steps.{Process}
 use Rattle.ivy_site.specs.Handed.{site_handed}
-use Rattle.ivy_site.specs.Shown.{Shown}
+use Rattle.ivy_site.specs.SiteView.{SiteView}
 use Rattle.ivy_site.specs.Sites.{SiteTurns}
 
 -- the reply that an answer gives, if it gives one
@@ -33,17 +35,17 @@ recorded_by history node call (Some reply) =
 
 -- own code makes the call, alone in its row, and has a turn, in which it begins: its reply is
 -- recorded, where that is there then
-pub record BeginsCall (call : Call) (reply : Option Reply) (old new : Shown) : Type 0 where
+pub record BeginsCall (call : Call) (reply : Option Reply) (old new : SiteView) : Type 0 where
   pub turns : SiteTurns (site_handed ((call ∷ []) ∷ []) old) new
   pub recorded : new.node.core.history
       ≡ recorded_by old.node.core.history (number_of old.node.core) call reply
 
 -- own code makes these calls one after another, and each is answered so in the turn in which it
 -- begins
-abbrev pub AreAnswered : List Record → Shown → Shown → Type 0
+abbrev pub AreAnswered : List Record → SiteView → SiteView → Type 0
 AreAnswered [] old new = new ≡ old
 AreAnswered (r ∷ more) old new =
-    (mid : Shown) × BeginsCall r.call (Some r.reply) old mid × AreAnswered more mid new
+    (mid : SiteView) × BeginsCall r.call (Some r.reply) old mid × AreAnswered more mid new
 
 -- calls in a row, of so many bytes from an address on, can be listed with no place for them: each
 -- call before has its reply, no list of the past is kept, and the calls can be counted
@@ -56,42 +58,54 @@ pub record TakesRow (process : Process) (history : HistoryState) (events_kept : 
   pub below : addr + bytes < 2 ^ 64
 
 -- so own code of this site may make calls in a row
-pub record MayCallInRow (s : Shown) (addr bytes : ℕ) : Type 0 where
+pub record MayCallInRow (s : SiteView) (addr bytes : ℕ) : Type 0 where
   pub free : IsFree s.node.core.process
   pub unkept : s.keep ≡ Nothing
   pub counted : length s.node.core.history + bytes < 2 ^ 64
   pub below : addr + bytes < 2 ^ 64
 
+-- own code may make calls together, of so many bytes from an address on: each call before has its
+-- reply, and the calls can be counted
+pub record MayCallTogether (process : Process) (history : List Record) (addr bytes : ℕ) : Type 0
+  where
+    pub free : IsFree process
+    pub counted : length history + bytes < 2 ^ 64
+    pub below : addr + bytes < 2 ^ 64
+
 -- own code makes these calls together and has a turn, in which the first of them begins and waits:
 -- they are in progress then
-pub record BeginsTogether (calls : List Call) (old new : Shown) : Type 0 where
+pub record BeginsTogether (calls : List Call) (old new : SiteView) : Type 0 where
   pub turns : SiteTurns (site_handed (calls ∷ []) old) new
   pub recorded : new.node.core.history ≡ old.node.core.history
   pub waits : in_progress new.node.core.memory.asked new.node.core.memory.along ≡ calls
 
 -- so it is, or there are none, and nothing is done
-abbrev pub BeginsRow : List Call → Shown → Shown → Type 0
+abbrev pub BeginsRow : List Call → SiteView → SiteView → Type 0
 BeginsRow [] old new = new ≡ old
 BeginsRow (call ∷ more) old new = BeginsTogether (call ∷ more) old new
 
 -- how many calls own code can make together, on words in a row from an address on: none where the
 -- first need not wait, else as many as it wants, as lie in the page, and as there are bytes for
-abbrev pub row_together : Shown → Row → ℕ → ℕ → ℕ → ℕ
-row_together s kind addr words bytes =
-    if row_has_to_wait s.node.core.memory kind addr
-    then min words (row_len s.config.page_size (addr % s.config.page_size) bytes)
+abbrev pub words_together : Config → NodeMemory Managed → Row → ℕ → ℕ → ℕ → ℕ
+words_together c m kind addr words bytes =
+    if row_has_to_wait m kind addr
+    then min words (row_len c.page_size (addr % c.page_size) bytes)
     else 0
 
+-- those of this site
+abbrev pub row_together : SiteView → Row → ℕ → ℕ → ℕ → ℕ
+row_together s = words_together s.config s.node.core.memory
+
 -- the call in progress has its reply, which is recorded in a turn
-pub record IsTaken (r : Record) (old new : Shown) : Type 0 where
+pub record IsTaken (r : Record) (old new : SiteView) : Type 0 where
   pub asked : old.node.core.memory.asked ≡ Some r.call
   pub turns : SiteTurns old new
   pub recorded : new.node.core.history ≡ old.node.core.history ++ r ∷ []
 
 -- one after another
-abbrev pub AreTaken : List Record → Shown → Shown → Type 0
+abbrev pub AreTaken : List Record → SiteView → SiteView → Type 0
 AreTaken [] old new = new ≡ old
-AreTaken (r ∷ more) old new = (mid : Shown) × IsTaken r old mid × AreTaken more mid new
+AreTaken (r ∷ more) old new = (mid : SiteView) × IsTaken r old mid × AreTaken more mid new
 
 -- replies in a row, to calls of own code on so many bytes from an address on, can be listed with no
 -- place for them: no list of the past is kept, and the calls can be counted

@@ -19,23 +19,23 @@ use Rattle.ivy_outbox.specs.Outboxes.{Outbox, HasNumbers, posted_by}
 use Rattle.ivy_host.specs.Hosts.{Host, turn_of}
 use Rattle.ivy_moves.specs.ivy_link.Holding.{ready_of}
 use Rattle.ivy_site.specs.Calls.{reply_in, recorded_by}
-use Rattle.ivy_site.specs.Shown.{Shown, holding_at}
+use Rattle.ivy_site.specs.SiteView.{SiteView, holding_at}
 use Rattle.ivy_site.specs.Sites.{early_at, SiteDelivers, holding_in, GoesOnOnce}
 
 -- a string with this verdict came too early, told from the events
-abbrev pub CameEarlyAs : Verdict → List ℕ → Shown → Type 0
+abbrev pub CameEarlyAs : Verdict → List ℕ → SiteView → Type 0
 CameEarlyAs verdict.NotMine bytes s = Unit {0}
 CameEarlyAs verdict.Next bytes s = Unit {0}
 CameEarlyAs verdict.Repeat bytes s = Unit {0}
 CameEarlyAs verdict.Ahead bytes s = Contains (early_at s) bytes
 
 -- the string is held, where there is a place for it: the frame in it says where
-abbrev pub HoldsString : List ℕ → Shown → Shown → Type 0
+abbrev pub HoldsString : List ℕ → SiteView → SiteView → Type 0
 HoldsString bytes old new =
     (f : Frame) → Spells old.config f bytes → new ≡ holding_in old f bytes
 
 -- one string, before the site goes on: the string of a frame that came too early is held
-abbrev pub Holds : Verdict → Frame → List ℕ → Shown → Shown → Type 0
+abbrev pub Holds : Verdict → Frame → List ℕ → SiteView → SiteView → Type 0
 Holds verdict.NotMine f bytes mid new = new ≡ mid
 Holds verdict.Next f bytes mid new = new ≡ mid
 Holds verdict.Repeat f bytes mid new = new ≡ mid
@@ -43,22 +43,22 @@ Holds verdict.Ahead f bytes mid new = new ≡ holding_in mid f bytes
 
 -- the string is delivered; the source is told, and the string again where it came too early
 pub record Hears (bytes : List ℕ) (answer : Verdict) (source : ℕ) (again : Option (List ℕ))
-    (old new : Shown) : Type 0 where
+    (old new : SiteView) : Type 0 where
   pub first : SiteDelivers bytes answer old new
   pub from : first.frame.source ≡ source
   pub early : MatchOption again (answer ≢ verdict.Ahead)
       (λ string. (string ≡ bytes) × Contains (early_at new) string × (answer ≡ verdict.Ahead))
 
 -- the string is delivered, and held where it came too early; the source is told
-pub record Receives (bytes : List ℕ) (verdict : Verdict) (source : ℕ) (old new : Shown) : Type 0
+pub record Receives (bytes : List ℕ) (verdict : Verdict) (source : ℕ) (old new : SiteView) : Type 0
   where
-    pub mid : Shown
+    pub mid : SiteView
     pub first : SiteDelivers bytes verdict old mid
     pub from : first.frame.source ≡ source
     pub holds : Holds verdict first.frame bytes mid new
 
 -- the site went on once, with this string that it held, or it holds none that is the next one
-abbrev pub AfterOnce : Option (List ℕ) → ℕ → Shown → Shown → Type 0
+abbrev pub AfterOnce : Option (List ℕ) → ℕ → SiteView → SiteView → Type 0
 AfterOnce (Some bytes) source old new = GoesOnOnce source bytes old new
 AfterOnce None source old new = (ready_of (holding_at new) source ≡ None) × (new ≡ old)
 

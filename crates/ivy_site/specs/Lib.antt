@@ -1,4 +1,4 @@
-pub mod Shown
+pub mod SiteView
 pub mod Sites
 pub mod Inside
 pub mod Handed

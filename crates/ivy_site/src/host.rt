@@ -4,7 +4,7 @@ ghost use Rattle.ivy_model.specs.declared.Call.{Call};
 ghost use Rattle.ivy_model.specs.Legal.{HasWidth};
 ghost use Rattle.ivy_model.specs.Rows.{calls_of, numbers_in, row};
 ghost use Rattle.ivy_moves.specs.Marks.{turns};
-ghost use Rattle.ivy_model.specs.Wants.{IsWant};
+ghost use Rattle.ivy_model.specs.Wants.{RanOut};
 ghost use Rattle.ivy_program.specs.Owned.{AsksNext, IsFree, Rests, asking, process_handed};
 ghost use Rattle.ivy_program.specs.Programs.{one_by_one};
 ghost use Rattle.ivy_program.specs.Programs.{IsCalled};
@@ -12,7 +12,7 @@ ghost use Rattle.ivy_model.specs.declared.Reply.{Reply};
 ghost use Rattle.ivy_program.specs.Steps.{Asks, AsksMany, along_of, answered_all, step_of};
 ghost use Rattle.ivy_host.specs.ivy_coherence.Limits.{most_posted};
 ghost use Rattle.ivy_host.specs.ivy_memory.Rows.{first_call, other_calls, row_has_to_wait};
-ghost use Rattle.ivy_site.specs.Calls.{TakesReplies, TakesRow, recorded_by, reply_in};
+ghost use Rattle.ivy_site.specs.Calls.{MayCallTogether, TakesReplies, TakesRow, recorded_by, reply_in};
 ghost use Rattle.ivy_site.specs.Inside.{host_of, is_served, kept_by, told_by, HasTurn, AfterHostTurn, HasNoNumbers};
 
 use ivy_host::NodeManager;
@@ -126,7 +126,7 @@ pub(crate) fn begin<A: Allocator + Copy>(
     ensures kept { history.new.kept ≡ history.old.kept }
     ensures few { OnOk result (length outbox.new.waiting ≤ length outbox.old.waiting + most_posted) }
     ensures spent { IfErr result (HasNoNumbers (host_of memory.old machine.old history.old.records) outbox.old) }
-    ensures want { IfErr result IsWant }
+    ensures want { IfErr result RanOut }
 {
     let number = history.next_number();
     let answer = memory.begin(call, number, outbox)?;
@@ -158,7 +158,7 @@ pub(crate) fn make<A: Allocator + Copy>(
     ensures kept { history.new.kept ≡ history.old.kept }
     ensures few { OnOk result (length outbox.new.waiting ≤ length outbox.old.waiting + most_posted) }
     ensures spent { IfErr result (HasNoNumbers (host_of memory.old (process_handed ((call ∷ []) ∷ []) machine.old) history.old.records) outbox.old) }
-    ensures want { IfErr result IsWant }
+    ensures want { IfErr result RanOut }
 {
     let number = history.next_number();
     let begun = memory.begin(call, number, outbox)?;
@@ -185,7 +185,7 @@ pub(crate) fn poll<A: Allocator + Copy>(
     ensures kept { history.new.kept ≡ history.old.kept }
     ensures few { OnOk result (length outbox.new.waiting ≤ length outbox.old.waiting + most_posted) }
     ensures spent { IfErr result (HasNoNumbers (host_of memory.old machine.old history.old.records) outbox.old) }
-    ensures want { IfErr result IsWant }
+    ensures want { IfErr result RanOut }
 {
     let answer = memory.poll_reply(outbox)?;
     Ok(keep(history, machine, outbox.me(), call, answer))
@@ -240,6 +240,21 @@ pub(crate) fn list_row<A: Allocator + Copy>(
     events.push_turns(words as u64);
 }
 
+/// Whether own code can make calls together, of so many bytes from `addr` on: none waits, and the calls can be counted.
+pub(crate) fn takes_together<A: Allocator + Copy>(
+    machine: &Machine<A>,
+    history: &History<A>,
+    addr: u64,
+    bytes: usize,
+) -> bool
+    ensures takes { IsTrue result ↔ MayCallTogether machine.now history.now.records addr bytes }
+    ensures rests { IsTrue result → Rests machine.now }
+{
+    machine.is_free()
+        && bytes as u64 <= u64::MAX - history.count()
+        && bytes as u64 <= u64::MAX - addr
+}
+
 /// Own code makes calls in a row together, of which the first has to wait: it is in progress from now on, and the others are
 /// after it [1, 17]. A refused row changes nothing.
 pub(crate) fn begin_row<A: Allocator + Copy>(
@@ -272,7 +287,7 @@ pub(crate) fn begin_row<A: Allocator + Copy>(
     ensures kept { history.new.kept ≡ history.old.kept }
     ensures few { OnOk result (length outbox.new.waiting ≤ length outbox.old.waiting + most_posted) }
     ensures spent { IfErr result (HasNoNumbers (host_of memory.old (process_handed (calls_of (row kind 0 addr (numbers_in words bytes.now)) ∷ []) machine.old) history.old.records) outbox.old) }
-    ensures want { IfErr result IsWant }
+    ensures want { IfErr result RanOut }
 {
     let number = history.next_number();
     memory.begin_row(kind, addr, words, bytes, number, outbox)?;

@@ -1,13 +1,13 @@
 //! Calls of own code that are made together, and their replies.
-ghost use Rattle.std.specs.Prelude.{◌≡◌, ◌≢◌, ◌+◌, ◌*◌, ◌%◌, ◌<◌, ◌≤◌, [], ◌∷◌, None, length, min, IfErr, IfOk, MatchResult};
+ghost use Rattle.std.specs.Prelude.{◌≡◌, ◌≢◌, ◌+◌, ◌*◌, ◌%◌, ◌<◌, ◌≤◌, [], ◌∷◌, None, Ok, length, min, IfErr, IfOk, MatchResult};
 ghost use Rattle.ivy_model.specs.Rows.{calls_of, numbers_in, row};
-ghost use Rattle.ivy_model.specs.Wants.{IsWant};
+ghost use Rattle.ivy_model.specs.Wants.{RanOut};
 ghost use Rattle.ivy_pagetable.specs.Rows.{row_len};
-ghost use Rattle.ivy_site.specs.Calls.{AreTaken, BeginsRow, MayCallInRow, row_together};
+ghost use Rattle.ivy_site.specs.Calls.{AreTaken, BeginsRow, MayCallTogether, row_together};
 ghost use Rattle.ivy_site.specs.Handed.{site_handed};
 ghost use Rattle.ivy_site.specs.Sites.{most_sent, IsSameNode, IsSpentTurn};
 
-use crate::host::{begin_row, list_taken, takes_replies, takes_row};
+use crate::host::{begin_row, list_taken, takes_replies, takes_together};
 use crate::site::Site;
 use ivy_model::{Fault, Row};
 use std::alloc::Allocator;
@@ -26,11 +26,12 @@ fn words_together(page_size: u32, addr: u64, words: usize, len: usize) -> usize
 impl<A: Allocator + Copy> Site<A> {
     /// Own code makes calls in a row together, on words of 8 bytes from `addr` on, and has a turn, in which the first of them
     /// begins and waits [1, 17]: as many as `words`, as the bytes have, and as lie in the page of the address. It says how many.
-    /// Later turns ask for their replies, or all are taken at once, by [`Site::take_loads`] or [`Site::take_stores`].
+    /// Later turns ask for their replies, one each; where the site keeps no list of its own past, all can be taken at once,
+    /// by [`Site::take_loads`] or [`Site::take_stores`].
     ///
     /// Where that is none, nothing was done: so it is where the first word need not wait, and [`Site::load_row`],
-    /// [`Site::store_row`] or a call serves it, where a call before has no reply, and where the site keeps a list of its own
-    /// past. A refused row was not made, and changes nothing.
+    /// [`Site::store_row`] or a call serves it, and where a call before has no reply. No fault comes then. A refused row was
+    /// not made, and changes nothing.
     pub fn call_row(
         &mut self,
         kind: Row,
@@ -40,19 +41,15 @@ impl<A: Allocator + Copy> Site<A> {
     ) -> Result<usize, Fault>
         ensures same { IsSameNode self.old self.new }
         ensures done { MatchResult result (λ n. BeginsRow (calls_of (row kind 0 addr (numbers_in n bytes.now))) self.old self.new) (λ _. self.new ≡ self.old) }
-        ensures many { MayCallInRow self.old addr (length bytes.now) → IfOk result (λ n. n ≡ row_together self.old kind addr words (length bytes.now)) }
+        ensures many { MayCallTogether self.old.node.core.process self.old.node.core.history addr (length bytes.now) → IfOk result (λ n. n ≡ row_together self.old kind addr words (length bytes.now)) }
+        ensures none { row_together self.old kind addr words (length bytes.now) ≡ 0 → result ≡ Ok 0 }
+        ensures busy { (MayCallTogether self.old.node.core.process self.old.node.core.history addr (length bytes.now) → ⊥) → result ≡ Ok 0 }
         ensures fits { IfOk result (λ n. (n ≤ words) × (8 * n ≤ length bytes.now)) }
         ensures few { length self.new.waiting ≤ length self.old.waiting + most_sent }
         ensures spent { IfErr result (IsSpentTurn (site_handed (calls_of (row kind 0 addr (numbers_in (row_together self.old kind addr words (length bytes.now)) bytes.now)) ∷ []) self.old)) }
-        ensures want { IfErr result IsWant }
+        ensures want { IfErr result RanOut }
     {
-        if !takes_row(
-            &self.machine,
-            &self.history,
-            &self.events,
-            addr,
-            bytes.len(),
-        ) {
+        if !takes_together(&self.machine, &self.history, addr, bytes.len()) {
             return Ok(0);
         }
         if !self.memory.has_to_wait(kind, addr) {
@@ -63,6 +60,7 @@ impl<A: Allocator + Copy> Site<A> {
             return Ok(0);
         }
         self.history.reserve()?;
+        self.events.reserve()?;
         begin_row(
             &mut self.memory,
             &mut self.outbox,
@@ -73,7 +71,7 @@ impl<A: Allocator + Copy> Site<A> {
             words,
             bytes,
         )?;
-        self.events.push_turns(1);
+        self.events.push_turn();
         Ok(words)
     }
 

@@ -2,8 +2,8 @@
 ghost use Rattle.std.specs.Prelude.{◌*◌, ◌≡◌, ◌↔◌, ◌≢◌, ◌+◌, ◌<◌, ◌≤◌, [], ◌∷◌, None, Some, Err, length, vec_len, vec_capacity};
 ghost use Rattle.std.specs.Prelude.{IsTrue, IsSome, IfOk, IfErr, OnOk, OnErr, IfSome, IsOkUnless, MatchBool, MatchResult, MatchOption, Contains};
 ghost use Rattle.ivy_model.specs.Config.{IsConfig};
-ghost use Rattle.ivy_model.specs.Wants.{IsWant};
-ghost use Rattle.ivy_wire.specs.Faults.{checked};
+ghost use Rattle.ivy_model.specs.Wants.{RanOut};
+ghost use Rattle.ivy_wire.specs.DecodeErrors.{checked};
 ghost use Rattle.ivy_program.specs.Owned.{IsFree};
 ghost use Rattle.ivy_program.specs.Programs.{Called};
 ghost use Rattle.ivy_program.specs.States.{first_state};
@@ -18,7 +18,7 @@ ghost use Rattle.ivy_model.specs.Rows.{numbers_in, row};
 ghost use Rattle.ivy_host.specs.ivy_memory.AtOnce.{IsStored, row_at_hand};
 ghost use Rattle.ivy_site.specs.Calls.{AreAnswered, BeginsCall, MayCallInRow};
 ghost use Rattle.ivy_site.specs.Handed.{site_handed};
-ghost use Rattle.ivy_site.specs.Shown.{holding_at, after_pulse_to};
+ghost use Rattle.ivy_site.specs.SiteView.{holding_at, after_pulse_to};
 ghost use Rattle.ivy_site.specs.Sites.{most_sent, most_delivered, first_shown, first_keeping, AfterTurn, AfterDelivery};
 ghost use Rattle.ivy_moves.specs.Keeping.{keeps_history, keeps_events, read_of, last_of};
 ghost use Rattle.ivy_site.specs.Sites.{SpellsFrame, GoesAsFar, DeliversWhole, IsHeld, early_at, without_ready, IsSpentTurn, IsSpentDelivery, TakesFrame, IsSameNode, IsMadeByEvents, IsSentBy, Awaits, await_in};
@@ -67,12 +67,12 @@ impl<A: Allocator> Drop for Site<A> {
 }
 
 impl<A: Allocator> Model for Site<A> {
-    ghost use Rattle.ivy_site.specs.Shown.{Shown, shown_of};
+    ghost use Rattle.ivy_site.specs.SiteView.{SiteView, shown_of};
     ghost use Rattle.ivy_site.specs.Inside.{host_of};
     ghost use Rattle.ivy_site.specs.Sites.{IsSite};
     ghost use Rattle.ivy_moves.specs.Keeping.{AreKept};
 
-    ghost Value = { Shown };
+    ghost Value = { SiteView };
 
     ghost use Rattle.std.specs.Coded.{codes};
     ghost use Rattle.ivy_pagetable.specs.NodeSets.{nodes_code};
@@ -212,7 +212,7 @@ impl<A: Allocator + Copy> Site<A> {
         ensures same { IsSameNode self.old self.new }
         ensures done { MatchResult result (λ reply. BeginsCall call reply self.old self.new) (λ _. self.new ≡ self.old) }
         ensures busy { (IsFree self.old.node.core.process → ⊥) → result ≡ Err Fault.Busy }
-        ensures want { IsFree self.old.node.core.process → IfErr result IsWant }
+        ensures want { IsFree self.old.node.core.process → IfErr result RanOut }
         ensures few { length self.new.waiting ≤ length self.old.waiting + most_sent }
         ensures spent { IfErr result (IsSpentTurn (site_handed ((call ∷ []) ∷ []) self.old)) }
     {
@@ -239,7 +239,7 @@ impl<A: Allocator + Copy> Site<A> {
         ensures same { IsSameNode self.old self.new }
         ensures done { MatchResult result (λ reply. BeginsCall call reply self.old self.new) (λ _. self.new ≡ self.old) }
         ensures busy { (IsFree self.old.node.core.process → ⊥) → result ≡ Err Fault.Busy }
-        ensures want { IsFree self.old.node.core.process → IfErr result IsWant }
+        ensures want { IsFree self.old.node.core.process → IfErr result RanOut }
         ensures few { length self.new.waiting ≤ length self.old.waiting + most_sent }
         ensures spent { IfErr result (IsSpentTurn (site_handed ((call ∷ []) ∷ []) self.old)) }
     {
@@ -365,12 +365,11 @@ impl<A: Allocator + Copy> Site<A> {
         self.memory.asked()
     }
 
-    #[tactic(auto, using(crate::proofs::Together::none_along, crate::proofs::Together::along_none))]
     /// Whether no call was made along with the one in progress. It takes no memory.
     pub fn is_alone(&self) -> bool
         ensures { IsTrue result ↔ (self.now.node.core.memory.along ≡ []) }
     {
-        self.memory.along() == 0
+        self.memory.is_alone()
     }
 
     /// The count and the least value of the await in progress, where the call in progress is one. It takes no memory.
@@ -467,7 +466,7 @@ impl<A: Allocator + Copy> Site<A> {
         ensures waits { IfOk result (λ turn. turn ≡ Turn.Idle → IsSome self.old.node.core.memory.asked) }
         ensures few { length self.new.waiting ≤ length self.old.waiting + most_sent }
         ensures spent { IfErr result (IsSpentTurn self.old) }
-        ensures want { IfErr result IsWant }
+        ensures want { IfErr result RanOut }
     {
         self.history.reserve()?;
         self.events.reserve()?;
@@ -518,7 +517,7 @@ impl<A: Allocator + Copy> Site<A> {
         ensures same { IsSameNode self.old self.new }
         ensures done { MatchResult result (λ h. Hears string.now h.0 h.1 h.2 self.old self.new) (λ _. self.new ≡ self.old) }
         ensures from { IfOk result (λ h. h.1 < self.old.config.nodes) }
-        ensures want { IfErr result IsWant }
+        ensures want { IfErr result RanOut }
         ensures few { length self.new.waiting ≤ length self.old.waiting + most_posted }
         ensures spent { IfErr result (IsSpentDelivery self.old string.now) }
     {
@@ -560,7 +559,7 @@ impl<A: Allocator + Copy> Site<A> {
         ensures same { IsSameNode self.old self.new }
         ensures done { MatchResult result (λ r. Receives string.now r.0 r.1 self.old self.new) (λ _. self.new ≡ self.old) }
         ensures from { IfOk result (λ r. r.1 < self.old.config.nodes) }
-        ensures want { IfErr result IsWant }
+        ensures want { IfErr result RanOut }
         ensures few { length self.new.waiting ≤ length self.old.waiting + most_posted }
         ensures spent { IfErr result (IsSpentDelivery self.old string.now) }
     {
@@ -589,7 +588,7 @@ impl<A: Allocator + Copy> Site<A> {
         requires from { from < self.old.config.nodes }
         ensures same { IsSameNode self.old self.new }
         ensures done { MatchResult result (λ string. AfterOnce string from self.old self.new) (λ _. self.new ≡ self.old) }
-        ensures want { IfErr result IsWant }
+        ensures want { IfErr result RanOut }
         ensures few { length self.new.waiting ≤ length self.old.waiting + most_posted }
     {
         let Some(string) = self.take_ready(from) else {
@@ -633,7 +632,7 @@ impl<A: Allocator + Copy> Site<A> {
     pub fn deliver(&mut self, bytes: &[u8]) -> Result<Verdict, Fault>
         ensures same { IsSameNode self.old self.new }
         ensures done { MatchResult result (λ verdict. AfterDelivery bytes.now verdict self.old self.new) (λ _. self.new ≡ self.old) }
-        ensures refused { MatchResult (checked self.old.config bytes.now) (λ _. IfErr result IsWant) (λ fault. result ≡ Err fault) }
+        ensures refused { MatchResult (checked self.old.config bytes.now) (λ _. IfErr result RanOut) (λ fault. result ≡ Err fault) }
         ensures few { length self.new.waiting ≤ length self.old.waiting + most_delivered }
         ensures spent { IfErr result (IsSpentDelivery self.old bytes.now) }
     {
@@ -648,7 +647,7 @@ impl<A: Allocator + Copy> Site<A> {
     pub fn deliver_shared(&mut self, string: &Bytes<A>) -> Result<Verdict, Fault>
         ensures same { IsSameNode self.old self.new }
         ensures done { MatchResult result (λ verdict. AfterDelivery string.now verdict self.old self.new) (λ _. self.new ≡ self.old) }
-        ensures refused { MatchResult (checked self.old.config string.now) (λ _. IfErr result IsWant) (λ fault. result ≡ Err fault) }
+        ensures refused { MatchResult (checked self.old.config string.now) (λ _. IfErr result RanOut) (λ fault. result ≡ Err fault) }
         ensures few { length self.new.waiting ≤ length self.old.waiting + most_delivered }
         ensures spent { IfErr result (IsSpentDelivery self.old string.now) }
     {
@@ -662,7 +661,7 @@ impl<A: Allocator + Copy> Site<A> {
     pub fn deliver_telling(&mut self, string: &Bytes<A>) -> Result<(Verdict, Option<Fault>), Fault>
         ensures same { IsSameNode self.old self.new }
         ensures done { MatchResult result (λ d. DeliversWhole d.0 d.1 string.now self.old self.new) (λ _. self.new ≡ self.old) }
-        ensures refused { MatchResult (checked self.old.config string.now) (λ _. IfErr result IsWant) (λ fault. result ≡ Err fault) }
+        ensures refused { MatchResult (checked self.old.config string.now) (λ _. IfErr result RanOut) (λ fault. result ≡ Err fault) }
         ensures few { length self.new.waiting ≤ length self.old.waiting + most_delivered }
         ensures spent { IfErr result (IsSpentDelivery self.old string.now) }
     {
@@ -677,7 +676,7 @@ impl<A: Allocator + Copy> Site<A> {
         ensures same { IsSameNode self.old self.new }
         ensures done { MatchResult result (λ r. Receives string.now r.0 r.1 self.old self.new) (λ _. self.new ≡ self.old) }
         ensures from { IfOk result (λ r. r.1 < self.old.config.nodes) }
-        ensures refused { MatchResult (checked self.old.config string.now) (λ _. IfErr result IsWant) (λ fault. result ≡ Err fault) }
+        ensures refused { MatchResult (checked self.old.config string.now) (λ _. IfErr result RanOut) (λ fault. result ≡ Err fault) }
         ensures few { length self.new.waiting ≤ length self.old.waiting + most_posted }
         ensures spent { IfErr result (IsSpentDelivery self.old string.now) }
     {
@@ -691,7 +690,7 @@ impl<A: Allocator + Copy> Site<A> {
         requires spelled { SpellsFrame self.old.config string.now }
         ensures same { IsSameNode self.old self.new }
         ensures done { MatchResult result (λ verdict. AfterDelivery string.now verdict self.old self.new) (λ _. self.new ≡ self.old) }
-        ensures want { IfErr result IsWant }
+        ensures want { IfErr result RanOut }
         ensures few { length self.new.waiting ≤ length self.old.waiting + most_delivered }
         ensures spent { IfErr result (IsSpentDelivery self.old string.now) }
     {
@@ -704,7 +703,7 @@ impl<A: Allocator + Copy> Site<A> {
         requires spelled { SpellsFrame self.old.config string.now }
         ensures same { IsSameNode self.old self.new }
         ensures done { MatchResult result (λ d. DeliversWhole d.0 d.1 string.now self.old self.new) (λ _. self.new ≡ self.old) }
-        ensures want { IfErr result IsWant }
+        ensures want { IfErr result RanOut }
         ensures few { length self.new.waiting ≤ length self.old.waiting + most_delivered }
         ensures spent { IfErr result (IsSpentDelivery self.old string.now) }
     {

@@ -20,7 +20,7 @@ use Rattle.ivy_sync.proofs.Cuts.{OwnOr, part_cut, leads_cut, nodes_there, own_or
 use Rattle.ivy_sync.proofs.Lists.{two_cuts, short_prefix, All-append, All-both}
 use Rattle.ivy_sync.proofs.Totals.{tally, tally-append}
 use Rattle.ivy_sync.proofs.Words.{word_last, read_step, whole_quiet}
-use Rattle.ivy_sync.proofs.Registers.{last-append, last-none, last-part}
+use Rattle.ivy_sync.proofs.Registers.{last-append, last-none, last_part}
 use Rattle.ivy_sync.proofs.Phases.{no_write_whole}
 
 -- each advance of k is node i's, and each write to d
@@ -182,7 +182,7 @@ module _ (c : Config) (old new : Memory) (order : List Record) (d k count i j : 
     stored =
         word_last c old leads.0 d front
         (record { config = run.config; sized = run.sized; led = leads.1 }) place front_whole
-        ∙ last-part d i (word c old d) front
+        ∙ last_part d i (word c old d) front
         (of_front (λ (q : Answer). is_write_in d q.call ≡ false) writes)
         ∙ ap (last d (word c old d)) done.1
         ∙ last-append d (word c old d) (before ++ arrives k ∷ []) done.0

@@ -20,7 +20,7 @@ use Rattle.ivy_sync.specs.Phases.{PhasesShare, IsSetUp, SetUpIsThere}
 use Rattle.ivy_sync.proofs.Cuts.{nodes_there, all_parts, part_all, own_or}
 use Rattle.ivy_sync.proofs.Lists.{All-both, all_weaker}
 use Rattle.ivy_sync.proofs.Words.{word_last, whole_quiet}
-use Rattle.ivy_sync.proofs.Registers.{reads_all, reads_same, last-append, last-part}
+use Rattle.ivy_sync.proofs.Registers.{reads_all, reads_same, last-append, last_part}
 use Rattle.ivy_sync.proofs.Separates.{barrier-separates}
 
 abbrev Whole : ℕ → Answer → Type 0
@@ -105,7 +105,7 @@ module _ (c : Config) (old new : Memory) (order : List Record) (k count : ℕ)
   word_there =
       word_last c old cut.mid a cut.first
       (record { config = run.config; sized = run.sized; led = cut.leads }) place first_whole
-      ∙ last-part a i (word c old a) cut.first
+      ∙ last_part a i (word c old a) cut.first
       (own_or (Quiet a) i c.nodes cut.first (nodes_there c old cut.mid cut.first cut.leads)
       others_quiet)
       ∙ ap (last a (word c old a)) (cut.firsts i l)

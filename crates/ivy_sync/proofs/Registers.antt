@@ -113,12 +113,12 @@ last_step a i v r rs false is (inl own) = absurd (both_ways (r.node == i) is (eq
 last_step a i v r rs false is (inr quiet) =
     ap (λ u. last a u (answers_of i rs)) (written_quiet a v r.call quiet)
 
-pub last-part : (a i v : ℕ) (rs : List Record)
+pub last_part : (a i v : ℕ) (rs : List Record)
     → Each (OwnOr i (λ q. is_write_in a q.call ≡ false)) rs
     → last a v (answers rs) ≡ last a v (answers_of i rs)
-last-part a i v [] h = refl
-last-part a i v (r ∷ rs) h =
-    last-part a i (word_after a v r.call) rs h.1 ∙ last_step a i v r rs (r.node == i) refl h.0
+last_part a i v [] h = refl
+last_part a i v (r ∷ rs) h =
+    last_part a i (word_after a v r.call) rs h.1 ∙ last_step a i v r rs (r.node == i) refl h.0
 
 -- where nothing is written, all reads are answered alike
 pub reads_same : (a v : ℕ) (rs : List Answer) → NoWrite a rs

@@ -17,14 +17,14 @@ appends-more (Some us) (Some vs) None xs ys h k = absurd k
 appends-more (Some us) (Some vs) (Some ws) xs ys h k =
     k ∙ ap (λ (zs : List ℕ). zs ++ ys) h ∙ append_assoc us xs ys
 
-pub taken-more : {X : Type 0} (xs : List X) (i : ℕ) (x : X) → slice_get xs i ≡ Some x
+pub taken_more : {X : Type 0} (xs : List X) (i : ℕ) (x : X) → slice_get xs i ≡ Some x
     → take (i + 1) xs ≡ take i xs ++ x ∷ []
-taken-more xs i x there =
+taken_more xs i x there =
     take_more xs i x (slice_get_within xs i x there)
     ∙ ap (λ y. take i xs ++ y ∷ []) (get_or_from_slice_get xs i x x there)
 
 pub flat_map-more : {X : Type 0} (f : X → List ℕ) (xs : List X) (i : ℕ) (x : X)
     → slice_get xs i ≡ Some x → flat_map f (take (i + 1) xs) ≡ flat_map f (take i xs) ++ f x
 flat_map-more f xs i x there =
-    ap (flat_map f) (taken-more xs i x there) ∙ flat_map-append f (take i xs) (x ∷ [])
+    ap (flat_map f) (taken_more xs i x there) ∙ flat_map-append f (take i xs) (x ∷ [])
     ∙ ap (λ (t : List ℕ). flat_map f (take i xs) ++ t) (append-nil (f x))

@@ -14,7 +14,7 @@ use Rattle.ivy_wire.specs.declared.frame.FrameKind.TheVariants as kinds
 use Rattle.ivy_wire.specs.Data.{Content}
 use Rattle.ivy_wire.specs.declared.frame.Content.TheVariants as contents
 use Rattle.ivy_wire.specs.Spelling.{kind_of, content_text, text_len, FitsContent}
-use Rattle.ivy_wire.specs.Faults.{is_sound_content}
+use Rattle.ivy_wire.specs.DecodeErrors.{is_sound_content}
 use Rattle.ivy_wire.specs.Reading.{content_at}
 use Rattle.ivy_wire.proofs.Fields.{IsBytes, IsBytes-drop, field_1, field_4, only_1, only_4, only_8}
 

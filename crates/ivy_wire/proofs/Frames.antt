@@ -20,7 +20,7 @@ use Rattle.ivy_wire.specs.Data.{Message}
 use Rattle.ivy_wire.specs.Data.{Frame}
 use Rattle.ivy_wire.specs.Lengths.{frame_version}
 use Rattle.ivy_wire.specs.Spelling.{code_of, kind_of, frame_kind, content_text, message_text, spelling, text_len, FitsMessage, Fits, Spells}
-use Rattle.ivy_wire.specs.Faults.{kind_byte, source_at, dest_at, len_at, frame_number_at, ack_at, text_at, kind_at, is_sound_content, is_sound_text, checked_in, checked_kind, checked}
+use Rattle.ivy_wire.specs.DecodeErrors.{kind_byte, source_at, dest_at, len_at, frame_number_at, ack_at, text_at, kind_at, is_sound_content, is_sound_text, checked_in, checked_kind, checked}
 use Rattle.ivy_wire.specs.Reading.{content_at, message_at, frame_at}
 use Rattle.ivy_model.proofs.Limits.{page_has_words}
 use Rattle.ivy_wire.proofs.Fields.{IsBytes, IsBytes-drop, field_1, field_2, field_8}

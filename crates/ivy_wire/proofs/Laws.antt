@@ -4,7 +4,7 @@ use Rattle.std.proofs.lemmas.List.{append-nil, length-append}
 use Rattle.ivy_model.specs.declared.Fault.{Fault}
 use Rattle.ivy_wire.specs.declared.frame.FrameKind.{FrameKind}
 use Rattle.ivy_wire.specs.Spelling.{frame_kind, spelling, Spells}
-use Rattle.ivy_wire.specs.Faults.{len_at}
+use Rattle.ivy_wire.specs.DecodeErrors.{len_at}
 use Rattle.ivy_wire.specs.Reading.{frame_at}
 use Rattle.ivy_wire.specs.Grammar.{HasOneSpelling, SpellsAtMostOne, NoneBeginsAnother}
 use Rattle.ivy_wire.proofs.Frames.{sound_checked, spelled_once, no_text}

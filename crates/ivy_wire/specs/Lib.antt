@@ -2,7 +2,7 @@ pub mod Data
 pub mod Lengths
 pub mod Spelling
 pub mod Heads
-pub mod Faults
+pub mod DecodeErrors
 pub mod Reading
 pub mod Destinations
 pub mod Grammar

@@ -3,7 +3,7 @@
 use Rattle.std.specs.Prelude.{◌≡◌, ℕ, List, [], Result, OnOk, IfErr}
 use Rattle.ivy_model.specs.declared.Config.{Config}
 use Rattle.ivy_model.specs.declared.Fault.{Fault}
-use Rattle.ivy_model.specs.Wants.{IsWant}
+use Rattle.ivy_model.specs.Wants.{RanOut}
 use Rattle.ivy_wire.specs.Data.{Content, Parcel}
 
 -- `config` is the configuration of the nodes, and `node` the one whose messages are taken. `takes`
@@ -54,4 +54,4 @@ pub record HasPosted {P A : Type 0} (ops : PostOps P) (post then : P) (r : Resul
   pub posted : OnOk r (then ≡ ops.after post messages)
   pub took : OnOk r (ops.takes post messages)
   pub fault : IfErr r (HasRefused ops post then messages)
-  pub want : IfErr r IsWant
+  pub want : IfErr r RanOut

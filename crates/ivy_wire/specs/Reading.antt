@@ -8,7 +8,7 @@ use Rattle.ivy_wire.specs.declared.frame.Content.TheVariants as contents
 use Rattle.ivy_wire.specs.Data.{Message}
 use Rattle.ivy_wire.specs.Data.{Frame}
 use Rattle.ivy_wire.specs.Lengths.{call_len}
-use Rattle.ivy_wire.specs.Faults.{source_at, dest_at, frame_number_at, ack_at, text_at}
+use Rattle.ivy_wire.specs.DecodeErrors.{source_at, dest_at, frame_number_at, ack_at, text_at}
 
 -- what follows origin and call in a body of this kind
 unfoldable pub content_at : FrameKind → List ℕ → Option Content

@@ -1,6 +1,6 @@
 //! Messages on their way to the link, and what takes them.
 ghost use Rattle.std.specs.Prelude.{◌≡◌, [], ◌∷◌, map, All, IfErr, OnOk};
-ghost use Rattle.ivy_model.specs.Wants.{IsWant};
+ghost use Rattle.ivy_model.specs.Wants.{RanOut};
 ghost use Rattle.ivy_wire.specs.Lent.{owned_content, owned_parcel};
 ghost use Rattle.ivy_wire.specs.Spelling.{FitsParcel};
 ghost use Rattle.ivy_wire.specs.Posts.{parcel_to, HasPosted};
@@ -39,7 +39,7 @@ pub trait Post {
         ensures fault { IfErr result (ops.refuses self.old (map owned_parcel parcels.now)) }
         ensures err { IfErr result
             (λ fault. self.new ≡ ops.after_refusal self.old (map owned_parcel parcels.now) fault) }
-        ensures want { IfErr result IsWant };
+        ensures want { IfErr result RanOut };
 
     ghost laws: { PostLaws ops };
 }

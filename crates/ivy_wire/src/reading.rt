@@ -8,7 +8,7 @@ ghost use Rattle.ivy_wire.specs.Reading.{content_at, message_at, frame_at};
 ghost use Rattle.ivy_wire.specs.Destinations.{dest_of, IsDestination};
 ghost use Rattle.ivy_wire.specs.Lent.{head_of, owned_content, owned_body, owned_frame};
 ghost use Rattle.ivy_model.specs.declared.Config.{Config};
-ghost use Rattle.ivy_wire.specs.Faults.{kind_at, is_sound_content, is_sound_text, checked_in, checked, len_at, frame_number_at, ack_at, text_at};
+ghost use Rattle.ivy_wire.specs.DecodeErrors.{kind_at, is_sound_content, is_sound_text, checked_in, checked, len_at, frame_number_at, ack_at, text_at};
 
 use crate::frame::{CALL_LEN, Content, Frame, FrameKind, HEADER_LEN, KINDS, Message, VERSION};
 use crate::page::Page;
@@ -28,14 +28,14 @@ pub fn destination(bytes: &[u8]) -> Option<u8>
     bytes.get(DESTINATION).copied()
 }
 
-#[tactic(auto, unfolding(crate::specs::Faults::kind_at))]
+#[tactic(auto, unfolding(crate::specs::DecodeErrors::kind_at))]
 fn kind_at(code: u8) -> Option<FrameKind>
     ensures { result ≡ kind_at code }
 {
     KINDS.get(usize::from(code)).copied()
 }
 
-#[tactic(auto, unfolding(crate::specs::Faults::is_sound_content))]
+#[tactic(auto, unfolding(crate::specs::DecodeErrors::is_sound_content))]
 fn is_sound_content(config: &Config, kind: FrameKind, rest: &[u8]) -> bool
     requires limits { IsConfig config.now }
     requires len { call_len + length rest.now ≡ text_len config.now kind }
@@ -61,7 +61,7 @@ fn is_sound_content(config: &Config, kind: FrameKind, rest: &[u8]) -> bool
     }
 }
 
-#[tactic(auto, unfolding(crate::specs::Faults::is_sound_text))]
+#[tactic(auto, unfolding(crate::specs::DecodeErrors::is_sound_text))]
 fn is_sound_text(config: &Config, kind: FrameKind, number: u64, text: &[u8]) -> bool
     requires limits { IsConfig config.now }
     requires len { length text.now ≡ text_len config.now kind }
@@ -76,7 +76,7 @@ fn is_sound_text(config: &Config, kind: FrameKind, number: u64, text: &[u8]) -> 
         && is_sound_content(config, kind, &text[CALL_LEN..])
 }
 
-#[tactic(auto, unfolding(crate::specs::Faults::len_at))]
+#[tactic(auto, unfolding(crate::specs::DecodeErrors::len_at))]
 fn len_at(bytes: &[u8]) -> u16
     requires { header_len ≤ length bytes.now }
     ensures { result ≡ len_at bytes.now }
@@ -84,7 +84,7 @@ fn len_at(bytes: &[u8]) -> u16
     BigEndian::read_u16(&bytes[6..])
 }
 
-#[tactic(auto, unfolding(crate::specs::Faults::frame_number_at))]
+#[tactic(auto, unfolding(crate::specs::DecodeErrors::frame_number_at))]
 fn frame_number_at(bytes: &[u8]) -> u64
     requires { header_len ≤ length bytes.now }
     ensures { result ≡ frame_number_at bytes.now }
@@ -92,7 +92,7 @@ fn frame_number_at(bytes: &[u8]) -> u64
     BigEndian::read_u64(&bytes[8..])
 }
 
-#[tactic(auto, unfolding(crate::specs::Faults::ack_at))]
+#[tactic(auto, unfolding(crate::specs::DecodeErrors::ack_at))]
 fn ack_at(bytes: &[u8]) -> u64
     requires { header_len ≤ length bytes.now }
     ensures { result ≡ ack_at bytes.now }
@@ -100,7 +100,7 @@ fn ack_at(bytes: &[u8]) -> u64
     BigEndian::read_u64(&bytes[16..])
 }
 
-#[tactic(auto, unfolding(crate::specs::Faults::text_at))]
+#[tactic(auto, unfolding(crate::specs::DecodeErrors::text_at))]
 fn text_at(bytes: &[u8]) -> &[u8]
     requires { header_len ≤ length bytes.now }
     ensures text { result.now ≡ text_at bytes.now }
@@ -110,7 +110,7 @@ fn text_at(bytes: &[u8]) -> &[u8]
 }
 
 /// The tests of nodes, length and body, for a string of this kind that is long enough.
-#[tactic(auto, unfolding(crate::specs::Faults::checked_in))]
+#[tactic(auto, unfolding(crate::specs::DecodeErrors::checked_in))]
 fn checked_in(config: &Config, kind: FrameKind, bytes: &[u8]) -> Result<FrameKind, Fault>
     requires limits { IsConfig config.now }
     requires len { header_len + len_at bytes.now ≤ length bytes.now }
@@ -136,7 +136,7 @@ fn checked_in(config: &Config, kind: FrameKind, bytes: &[u8]) -> Result<FrameKin
 }
 
 /// The kind of the frame, or what is wrong with the string.
-#[tactic(auto, unfolding(crate::specs::Faults::checked, crate::specs::Faults::checked_kind))]
+#[tactic(auto, unfolding(crate::specs::DecodeErrors::checked, crate::specs::DecodeErrors::checked_kind))]
 fn checked(config: &Config, bytes: &[u8]) -> Result<FrameKind, Fault>
     requires { IsConfig config.now }
     ensures { result ≡ checked config.now bytes.now }

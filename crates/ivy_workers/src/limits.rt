@@ -19,7 +19,7 @@ const MOST_ITEMS: u64 = 65_536;
 
 impl Limits {
     /// Whether each limit is within its bounds.
-    pub fn are_fair(&self) -> bool
+    pub fn are_valid(&self) -> bool
         ensures { IsTrue result ↔ AreLimits self.now }
     {
         self.capacity >= 1

@@ -17,11 +17,11 @@ use Rattle.ivy_moves.specs.declared.Move.TheVariants.{Turn, Deliver, Pulse}
 use Rattle.ivy_moves.specs.Following.{links_of, IsString}
 use Rattle.ivy_moves.specs.Nodes.{Node}
 use Rattle.ivy_moves.specs.Worlds.{World, Moves}
-use Rattle.ivy_moves.proofs.Places.{link-of}
+use Rattle.ivy_moves.proofs.Places.{link_of}
 use Rattle.ivy_site.proofs.Receiving.{spelled_same}
 use Rattle.ivy_site.specs.ivy_host.Hosts.{Host, host_rules}
 use Rattle.ivy_site.specs.ivy_host.Managers.{Managed, managed_ops}
-use Rattle.ivy_site.specs.Shown.{Shown}
+use Rattle.ivy_site.specs.SiteView.{SiteView}
 use Rattle.proof_headline.specs.Keeping.{Keeps}
 use Rattle.proof_headline.specs.RunState.{Run}
 use Rattle.proof_headline.specs.proof_progress.Still.{HasNothingUnderWay, IsStill}
@@ -39,7 +39,7 @@ get_left (z ∷ xs) ys zero x below is = is
 get_left (z ∷ xs) ys (suc i) x below is = get_left xs ys i x (omega (arith, below)) is
 
 -- what comes to a site comes to the node of its place
-module _ (c : Config) (sites : List Shown) (sent : List (List ℕ)) (are : AreSites c sites) where
+module _ (c : Config) (sites : List SiteView) (sent : List (List ℕ)) (are : AreSites c sites) where
   pub to_comes : (index to : ℕ) → IsUnderWay sites sent index to
       → Comes c (world_of sites sent) index to
   to_comes index to u = record {
@@ -47,8 +47,8 @@ module _ (c : Config) (sites : List Shown) (sent : List (List ℕ)) (are : AreSi
     there = u.there;
     byte = u.way.dest;
     node = u.way.site.node;
-    at = slice_get-map (λ (s : Shown). s.node) sites to
-        ∙ ap (option_map (λ (s : Shown). s.node)) u.way.there;
+    at = slice_get-map (λ (s : SiteView). s.node) sites to
+        ∙ ap (option_map (λ (s : SiteView). s.node)) u.way.there;
     frame = u.way.awaited.frame;
     spelled = subst (λ k. Spells k u.way.awaited.frame u.string)
         (are.config to u.way.site u.way.there) u.way.awaited.spelled;
@@ -59,7 +59,7 @@ module _ (c : Config) (sites : List Shown) (sent : List (List ℕ)) (are : AreSi
   pub from_comes : (index to : ℕ) → Comes c (world_of sites sent) index to
       → IsUnderWay sites sent index to
   from_comes index to u =
-      let s = get_map (λ (s : Shown). s.node) sites u.node to u.at in record {
+      let s = get_map (λ (s : SiteView). s.node) sites u.node to u.at in record {
         string = u.string;
         there = u.there;
         way = record {
@@ -178,7 +178,7 @@ module _ (r : Run) (keeps : Keeps r) (none : HasNothingUnderWay r.world) where
       ≡ length (posted src dst) =
       follows.paired.counted src dst (omega (arith, a, count)) (omega (arith, b, count)) in
       let at_src : link_at (links_of r.world) src ≡ n.0.link =
-      link-of r.world.nodes src n.0 n.1 in
+      link_of r.world.nodes src n.0 n.1 in
       let here : slice_get r.world.nodes dst ≡ Some u.node =
       ap (slice_get r.world.nodes) u.dest ∙ u.at in
       let all : (peer_at u.node.link src).delivered ≡ (peer_at n.0.link dst).sent =

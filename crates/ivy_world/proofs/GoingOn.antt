@@ -17,14 +17,14 @@ use Rattle.ivy_moves.specs.Nodes.{Node, verdict_of, delivered}
 use Rattle.ivy_moves.specs.Worlds as worlds
 use Rattle.ivy_moves.proofs.Kept.{stays-there}
 use Rattle.ivy_moves.proofs.Places.{set-there}
-use Rattle.ivy_site.specs.Shown.{Shown}
+use Rattle.ivy_site.specs.SiteView.{SiteView}
 use Rattle.ivy_site.specs.Sites.{early_at, IsMadeByEvents, SiteDelivers, without_ready, GoesOnOnce, SiteGoesOn, FollowsDelivery, AfterDelivery}
 use Rattle.ivy_world.specs.WorldSites.{programs_of, world_of, AreSites}
 use Rattle.ivy_site.proofs.Made.{delivery_made, delivery_early, all_taken}
 use Rattle.ivy_world.proofs.Making.{IsGone, Went, node_there, quiet, changed_world, changed_are, same_map, delivery_gone, delivered_went}
 
 -- what a call of `make` did: the move, with one site changed
-pub record Moved (c : Config) (sites sites' : List Shown) (sent sent' : List (List ℕ))
+pub record Moved (c : Config) (sites sites' : List SiteView) (sent sent' : List (List ℕ))
     (step : Move) : Type 0 where
   pub made : worlds.Moves (host_rules managed_ops) c (world_of sites sent) step
       (world_of sites' sent')
@@ -32,7 +32,7 @@ pub record Moved (c : Config) (sites sites' : List Shown) (sent sent' : List (Li
   pub programs : programs_of sites' ≡ programs_of sites
 
 -- a move whose node does not go on
-pub went_there : (c : Config) (sites sites' : List Shown) (sent sent' : List (List ℕ)) (step : Move)
+pub went_there : (c : Config) (sites sites' : List SiteView) (sent sent' : List (List ℕ)) (step : Move)
     → Went c sites sites' sent sent' step → Moved c sites sites' sent sent' step
 went_there c sites sites' sent sent' step w = record {
   made = stays-there (host_rules managed_ops) c (world_of sites sent) (world_of sites' sent') step
@@ -41,24 +41,24 @@ went_there c sites sites' sent sent' step w = record {
   programs = w.programs;
 }
 
-abbrev program_in : Shown → Program
+abbrev program_in : SiteView → Program
 program_in s = s.node.core.process.program
 
 -- made by the same events
-same_made : (s : Shown) (held : List Window) → IsMadeByEvents s
+same_made : (s : SiteView) (held : List Window) → IsMadeByEvents s
     → IsMadeByEvents (record s { held = held })
 same_made s held m =
     record { effect = m.effect; happen = m.happen; node = m.node; taken = m.taken; waits = m.waits }
 
 -- the same node, later
-pub record IsLater (old new : Shown) : Type 0 where
+pub record IsLater (old new : SiteView) : Type 0 where
   pub config : new.config ≡ old.config
   pub me : new.me ≡ old.me
   pub keep : new.keep ≡ old.keep
   pub program : program_in new ≡ program_in old
   pub made : IsMadeByEvents new
 
-later : (a b c : Shown) → IsLater a b → IsLater b c → IsLater a c
+later : (a b c : SiteView) → IsLater a b → IsLater b c → IsLater a c
 later a b c x y =
     record {
       config = y.config ∙ x.config;
@@ -68,7 +68,7 @@ later a b c x y =
       made = y.made;
     }
 
-pub delivered_later : (bytes : List ℕ) (v : Verdict) (old new : Shown) → IsConfig old.config
+pub delivered_later : (bytes : List ℕ) (v : Verdict) (old new : SiteView) → IsConfig old.config
     → IsMadeByEvents old → SiteDelivers bytes v old new → IsLater old new
 delivered_later bytes v old new limits made d =
     let gone : IsGone old new d.effect = delivery_gone old new bytes v limits d in
@@ -80,44 +80,44 @@ delivered_later bytes v old new limits made d =
       made = delivery_made bytes v old new limits made d;
     }
 
-pub once_later : (source : ℕ) (bytes : List ℕ) (old new : Shown) → IsConfig old.config
+pub once_later : (source : ℕ) (bytes : List ℕ) (old new : SiteView) → IsConfig old.config
     → IsMadeByEvents old → GoesOnOnce source bytes old new → IsLater old new
 once_later source bytes old new limits made once =
     let x = delivered_later bytes verdict.Next (without_ready old source) new limits
     (same_made old (without_ready old source).held made) once.next in
     record { config = x.config; me = x.me; keep = x.keep; program = x.program; made = x.made }
 
-module _ (c : Config) (limits : IsConfig c) (sites : List Shown) (sent : List (List ℕ)) (i : ℕ)
-    (was : Shown) (there : slice_get sites i ≡ Some was) where
+module _ (c : Config) (limits : IsConfig c) (sites : List SiteView) (sent : List (List ℕ)) (i : ℕ)
+    (was : SiteView) (there : slice_get sites i ≡ Some was) where
   -- the world with this site in the place of the one that was there, once its strings are put on
   -- the wire
-  abbrev sites_with : Shown → List Shown
+  abbrev sites_with : SiteView → List SiteView
   sites_with s = set sites i (record s { waiting = [] })
 
-  abbrev world_with : Shown → worlds.World (Host Managed)
+  abbrev world_with : SiteView → worlds.World (Host Managed)
   world_with s = world_of (sites_with s) (sent ++ s.waiting)
 
-  same_world : (s : Shown) (held : List Window)
+  same_world : (s : SiteView) (held : List Window)
       → world_with (record s { held = held }) ≡ world_with s
   same_world s held =
-      let t : Shown = record s { held = held; waiting = [] } in
-      let u : Shown = record s { waiting = [] } in λ k. record {
-        nodes = (map-set (λ (x : Shown). x.node) sites i t
-            ∙ sym (map-set (λ (x : Shown). x.node) sites i u)) k;
+      let t : SiteView = record s { held = held; waiting = [] } in
+      let u : SiteView = record s { waiting = [] } in λ k. record {
+        nodes = (map-set (λ (x : SiteView). x.node) sites i t
+            ∙ sym (map-set (λ (x : SiteView). x.node) sites i u)) k;
         sent = sent ++ s.waiting;
         early = (map-set early_at sites i t ∙ sym (map-set early_at sites i u)) k;
       }
 
-  site_there : (s : Shown) → slice_get (sites_with s) i ≡ Some (record s { waiting = [] })
+  site_there : (s : SiteView) → slice_get (sites_with s) i ≡ Some (record s { waiting = [] })
   site_there s = set-there sites i (record s { waiting = [] }) was there
 
-  early_there : (s : Shown) → worlds.early_of (world_with s) i ≡ early_at s
+  early_there : (s : SiteView) → worlds.early_of (world_with s) i ≡ early_at s
   early_there s =
       get_or_from_slice_get (map early_at (sites_with s)) i (early_at s) []
       (slice_get-map early_at (sites_with s) i ∙ ap (option_map early_at) (site_there s))
 
   -- the node goes on with one string
-  goes_once : (source : ℕ) (bytes : List ℕ) (old mid : Shown) → old.config ≡ c → IsMadeByEvents old
+  goes_once : (source : ℕ) (bytes : List ℕ) (old mid : SiteView) → old.config ≡ c → IsMadeByEvents old
       → GoesOnOnce source bytes old mid
       → worlds.delivery_of (host_rules managed_ops) c (world_with old) i
       (slice_get (world_with old).nodes i) (Some bytes) ≡ Some (world_with mid)
@@ -135,7 +135,7 @@ module _ (c : Config) (limits : IsConfig c) (sites : List Shown) (sent : List (L
       let gone : IsGone (without_ready old source) mid d.effect =
       delivery_gone (without_ready old source) mid bytes verdict.Next well d in
       let w : worlds.World (Host Managed) = world_with old in
-      let mid' : Shown = record mid { waiting = [] } in
+      let mid' : SiteView = record mid { waiting = [] } in
       let now : worlds.World (Host Managed) =
       world_of (set (sites_with old) i mid') ((sent ++ old.waiting) ++ d.effect.sent) in
       let changed : worlds.gone_on w i d.effect ≡ now =
@@ -156,17 +156,17 @@ module _ (c : Config) (limits : IsConfig c) (sites : List Shown) (sent : List (L
       ∙ ap Some (changed ∙ same)))
 
   -- and with one after another
-  record HasGone (more : List (List ℕ)) (old new : Shown) : Type 0 where
+  record HasGone (more : List (List ℕ)) (old new : SiteView) : Type 0 where
     later : IsLater old new
     goes : worlds.GoesOnWith (host_rules managed_ops) c (world_with old) i more (world_with new)
 
-  goes_all : (source : ℕ) (more : List (List ℕ)) (old new : Shown) → old.config ≡ c
+  goes_all : (source : ℕ) (more : List (List ℕ)) (old new : SiteView) → old.config ≡ c
       → IsMadeByEvents old → SiteGoesOn source more old new → HasGone more old new
   goes_all source [] old new config made same = record {
     later = record {
-      config = ap (λ (s : Shown). s.config) same;
-      me = ap (λ (s : Shown). s.me) same;
-      keep = ap (λ (s : Shown). s.keep) same;
+      config = ap (λ (s : SiteView). s.config) same;
+      me = ap (λ (s : SiteView). s.me) same;
+      keep = ap (λ (s : SiteView). s.keep) same;
       program = ap program_in same;
       made = subst IsMadeByEvents (sym same) made;
     };
@@ -185,19 +185,19 @@ module _ (c : Config) (limits : IsConfig c) (sites : List Shown) (sent : List (L
         );
       }
 
-  record HasFollowed (mid new : Shown) : Type 0 where
+  record HasFollowed (mid new : SiteView) : Type 0 where
     more : List (List ℕ)
     gone : HasGone more mid new
 
-  stays : (mid new : Shown) (held : List Window) → IsMadeByEvents mid
+  stays : (mid new : SiteView) (held : List Window) → IsMadeByEvents mid
       → new ≡ record mid { held = held } → HasFollowed mid new
   stays mid new held made same = record {
     more = [];
     gone = record {
       later = record {
-        config = ap (λ (s : Shown). s.config) same;
-        me = ap (λ (s : Shown). s.me) same;
-        keep = ap (λ (s : Shown). s.keep) same;
+        config = ap (λ (s : SiteView). s.config) same;
+        me = ap (λ (s : SiteView). s.me) same;
+        keep = ap (λ (s : SiteView). s.keep) same;
         program = ap program_in same;
         made = subst IsMadeByEvents (sym same) (same_made mid held made);
       };
@@ -205,7 +205,7 @@ module _ (c : Config) (limits : IsConfig c) (sites : List Shown) (sent : List (L
     };
   }
 
-  followed : (v : Verdict) (f : Frame) (bytes : List ℕ) (mid new : Shown) → mid.config ≡ c
+  followed : (v : Verdict) (f : Frame) (bytes : List ℕ) (mid new : SiteView) → mid.config ≡ c
       → IsMadeByEvents mid → FollowsDelivery v f bytes mid new → HasFollowed mid new
   followed verdict.NotMine f bytes mid new config made same = stays mid new mid.held made same
   followed verdict.Repeat f bytes mid new config made same = stays mid new mid.held made same
@@ -214,7 +214,7 @@ module _ (c : Config) (limits : IsConfig c) (sites : List Shown) (sent : List (L
       record { more = on.0; gone = goes_all f.source on.0 mid new config made on.1 }
 
   -- a delivery to the site, what it goes on with, and its strings put on the wire
-  pub deliveries : (index : ℕ) (done : Shown) (bytes : List ℕ) (v : Verdict) → AreSites c sites
+  pub deliveries : (index : ℕ) (done : SiteView) (bytes : List ℕ) (v : Verdict) → AreSites c sites
       → slice_get sent index ≡ Some bytes → AfterDelivery bytes v was done
       → Moved c sites (sites_with done) sent (sent ++ done.waiting) (move.Deliver index i)
   deliveries index done bytes v h found d =
@@ -240,8 +240,8 @@ module _ (c : Config) (limits : IsConfig c) (sites : List Shown) (sent : List (L
         programs = same_map program_in sites i was (record done { waiting = [] }) there all.program;
       }
 
-pub delivery_went : (c : Config) (sites : List Shown) (sent : List (List ℕ)) (index i : ℕ)
-    (old done site : Shown) (bytes : List ℕ) (v : Verdict) (step : Move) (more : List (List ℕ))
+pub delivery_went : (c : Config) (sites : List SiteView) (sent : List (List ℕ)) (index i : ℕ)
+    (old done site : SiteView) (bytes : List ℕ) (v : Verdict) (step : Move) (more : List (List ℕ))
     → IsConfig c → AreSites c sites → slice_get sites i ≡ Some old
     → slice_get sent index ≡ Some bytes → AfterDelivery bytes v old done
     → step ≡ move.Deliver index i → site ≡ record done { waiting = [] }

@@ -8,7 +8,7 @@ use Rattle.ivy_model.specs.declared.Config.{Config}
 use Rattle.ivy_model.specs.declared.Fault.{Fault}
 use Rattle.ivy_wire.specs.Data.{Message, Frame, Parcel}
 use Rattle.ivy_wire.specs.declared.FrameKind.{FrameKind}
-use Rattle.ivy_wire.specs.Faults.{checked}
+use Rattle.ivy_wire.specs.DecodeErrors.{checked}
 use Rattle.ivy_wire.specs.Reading.{frame_at}
 use Rattle.ivy_wire.specs.Spelling.{spelling}
 use Rattle.ivy_moves.specs.ivy_link.declared.Verdict.{Verdict}

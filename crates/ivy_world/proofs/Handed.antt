@@ -20,7 +20,7 @@ use Rattle.ivy_site.specs.ivy_host.Hosts.{Host, host_rules}
 use Rattle.ivy_site.specs.ivy_host.Managers.{Managed, managed_ops}
 use Rattle.ivy_site.specs.ivy_host.Openings.{opening}
 use Rattle.ivy_site.specs.Handed.{site_handed}
-use Rattle.ivy_site.specs.Shown.{Shown}
+use Rattle.ivy_site.specs.SiteView.{SiteView}
 use Rattle.ivy_site.specs.Sites.{early_at, IsMadeByEvents}
 use Rattle.ivy_site.proofs.Handed.{handed_made, handed_early}
 use Rattle.ivy_site.proofs.of_ivy_host.Handed.{AreHanded, handed_none, handing_none, opening_handed, unseen}
@@ -39,13 +39,13 @@ map_changed f g (x ∷ xs) zero old new there is =
 map_changed f g (x ∷ xs) (suc i) old new there is =
     ap (λ l. f x ∷ l) (map_changed f g xs i old new there is)
 
-module _ (c : Config) (sites : List Shown) (sent : List (List ℕ)) (node : ℕ) (old : Shown)
+module _ (c : Config) (sites : List SiteView) (sent : List (List ℕ)) (node : ℕ) (old : SiteView)
     (there : slice_get sites node ≡ Some old) (more : List (List Call))
     (h : IsRunning c sites sent) where
-  abbrev new : Shown
+  abbrev new : SiteView
   new = site_handed more old
 
-  abbrev sites' : List Shown
+  abbrev sites' : List SiteView
   sites' = set sites node new
 
   made : IsMadeByEvents old
@@ -66,10 +66,10 @@ module _ (c : Config) (sites : List Shown) (sent : List (List ℕ)) (node : ℕ)
   handed_run =
       λ k. record {
         config = c;
-        programs = map_changed (λ (s : Shown). s.node.core.process.program) (handed more) sites
+        programs = map_changed (λ (s : SiteView). s.node.core.process.program) (handed more) sites
             node old new there refl k;
         world = record {
-          nodes = map_changed (λ (s : Shown). s.node) (node_changed (handing more)) sites node old
+          nodes = map_changed (λ (s : SiteView). s.node) (node_changed (handing more)) sites node old
               new there refl k;
           sent = sent;
           early = same_map early_at sites node old new there (handed_early more old made) k;
@@ -80,7 +80,7 @@ module _ (c : Config) (sites : List Shown) (sent : List (List ℕ)) (node : ℕ)
   node_kept n = ap (λ h. record { core = h; link = n.link }) (handing_none n.core)
 
   -- what the sites show of what the calls change
-  module _ {Y : Type 0} (f : Shown → Y) (g : List (List Call) → Y → Y) (none : (y : Y) → g [] y ≡ y)
+  module _ {Y : Type 0} (f : SiteView → Y) (g : List (List Call) → Y → Y) (none : (y : Y) → g [] y ≡ y)
       (is : f new ≡ g more (f old)) where
     changed_there : (i : ℕ) (y : Y) → slice_get (map f sites) i ≡ Some y
         → slice_get (map f sites') i ≡ Some (g (more_at i) y)
@@ -110,16 +110,16 @@ module _ (c : Config) (sites : List Shown) (sent : List (List ℕ)) (node : ℕ)
   world_changed : IsChangedBy (λ i. handing (more_at i)) (world_of sites sent)
       (world_of sites' sent)
   world_changed = record {
-    there = changed_there (λ (s : Shown). s.node) (λ m. node_changed (handing m)) node_kept refl;
-    count = changed_count (λ (s : Shown). s.node) (λ m. node_changed (handing m)) node_kept refl;
+    there = changed_there (λ (s : SiteView). s.node) (λ m. node_changed (handing m)) node_kept refl;
+    count = changed_count (λ (s : SiteView). s.node) (λ m. node_changed (handing m)) node_kept refl;
     sent = refl;
     early = same_map early_at sites node old new there (handed_early more old made);
   }
 
   programs_handed : AreHanded more_at (programs_of sites) (programs_of sites')
   programs_handed = record {
-    count = changed_count (λ (s : Shown). s.node.core.process.program) handed handed_none refl;
-    each = changed_there (λ (s : Shown). s.node.core.process.program) handed handed_none refl;
+    count = changed_count (λ (s : SiteView). s.node.core.process.program) handed handed_none refl;
+    each = changed_there (λ (s : SiteView). s.node.core.process.program) handed handed_none refl;
   }
 
   -- the world runs on
@@ -156,18 +156,18 @@ module _ (c : Config) (sites : List Shown) (sent : List (List ℕ)) (node : ℕ)
         (let is : new.node ≡ k.node =
         same_Some new.node k.node
         (ap Some refl
-        ∙ sym (slice_get-map (λ (s : Shown). s.node) sites' to
-        ∙ ap (λ j. option_map (λ (s : Shown). s.node) (slice_get sites' j)) same
-        ∙ ap (option_map (λ (s : Shown). s.node)) (set-there sites node new old there))
+        ∙ sym (slice_get-map (λ (s : SiteView). s.node) sites' to
+        ∙ ap (λ j. option_map (λ (s : SiteView). s.node) (slice_get sites' j)) same
+        ∙ ap (option_map (λ (s : SiteView). s.node)) (set-there sites node new old there))
         ∙ k.at) in
         record {
           string = k.string;
           there = k.there;
           byte = k.byte;
           node = old.node;
-          at = slice_get-map (λ (s : Shown). s.node) sites to
-              ∙ ap (λ j. option_map (λ (s : Shown). s.node) (slice_get sites j)) same
-              ∙ ap (option_map (λ (s : Shown). s.node)) there;
+          at = slice_get-map (λ (s : SiteView). s.node) sites to
+              ∙ ap (λ j. option_map (λ (s : SiteView). s.node) (slice_get sites j)) same
+              ∙ ap (option_map (λ (s : SiteView). s.node)) there;
           frame = k.frame;
           spelled = k.spelled;
           dest = k.dest;
@@ -180,10 +180,10 @@ module _ (c : Config) (sites : List Shown) (sent : List (List ℕ)) (node : ℕ)
           there = k.there;
           byte = k.byte;
           node = k.node;
-          at = slice_get-map (λ (s : Shown). s.node) sites to
-              ∙ ap (option_map (λ (s : Shown). s.node))
+          at = slice_get-map (λ (s : SiteView). s.node) sites to
+              ∙ ap (option_map (λ (s : SiteView). s.node))
               (sym (set-elsewhere sites node to new (λ e. apart (sym e))))
-              ∙ sym (slice_get-map (λ (s : Shown). s.node) sites' to) ∙ k.at;
+              ∙ sym (slice_get-map (λ (s : SiteView). s.node) sites' to) ∙ k.at;
           frame = k.frame;
           spelled = k.spelled;
           dest = k.dest;
@@ -204,23 +204,23 @@ there_is (x ∷ xs) zero l = (x, refl)
 there_is (x ∷ xs) (suc i) l = there_is xs i (omega (arith, l))
 
 -- the sites after a call was handed in, or refused
-pub record AreAfter (sites : List Shown) (node : ℕ) (more : List (List Call)) (r : Result (Unit {0}) Fault)
-    (end : List Shown) : Type 0 where
+pub record AreAfter (sites : List SiteView) (node : ℕ) (more : List (List Call)) (r : Result (Unit {0}) Fault)
+    (end : List SiteView) : Type 0 where
   pub ok : OnOk r (IfSome (slice_get sites node)
       (λ s. end ≡ set sites node (site_handed more s)))
   pub err : OnErr r (end ≡ sites)
 
-module _ (c : Config) (sites : List Shown) (sent : List (List ℕ)) (passed node : ℕ)
+module _ (c : Config) (sites : List SiteView) (sent : List (List ℕ)) (passed node : ℕ)
     (more : List (List Call)) (h : IsRunning c sites sent) (p : IsPassed c (world_of sites sent) passed)
     (l : node < length sites) where
-  old : Shown
+  old : SiteView
   old = (there_is sites node l).0
 
   there : slice_get sites node ≡ Some old
   unfolding old
   there = (there_is sites node l).1
 
-  pub after_running : (r : Result (Unit {0}) Fault) (end : List Shown)
+  pub after_running : (r : Result (Unit {0}) Fault) (end : List SiteView)
       → AreAfter sites node more r end
       → IsRunning c end sent × IsPassed c (world_of end sent) passed
   after_running (Ok u) end a =
@@ -232,7 +232,7 @@ module _ (c : Config) (sites : List Shown) (sent : List (List ℕ)) (passed node
   after_running (Err e) end a =
       subst (λ ss. IsRunning c ss sent × IsPassed c (world_of ss sent) passed) (sym a.err) (h, p)
 
-  pub after_run : (r : Result (Unit {0}) Fault) (end : List Shown)
+  pub after_run : (r : Result (Unit {0}) Fault) (end : List SiteView)
       → AreAfter sites node more r end
       → OnOk r (run_of c end sent ≡ run_handed node more (run_of c sites sent))
   after_run (Ok u) end a =
@@ -241,23 +241,23 @@ module _ (c : Config) (sites : List Shown) (sent : List (List ℕ)) (passed node
   after_run (Err e) end a = tt
 
 -- where it was refused the world is as it was
-pub after_refusal : (c : Config) (sites : List Shown) (sent : List (List ℕ))
-    (r : Result (Unit {0}) Fault) (end : List Shown) → OnErr r (end ≡ sites)
+pub after_refusal : (c : Config) (sites : List SiteView) (sent : List (List ℕ))
+    (r : Result (Unit {0}) Fault) (end : List SiteView) → OnErr r (end ≡ sites)
     → OnErr r (run_of c end sent ≡ run_of c sites sent)
 after_refusal c sites sent (Ok u) end same = tt
 after_refusal c sites sent (Err e) end same = ap (λ ss. run_of c ss sent) same
 
-free_of : (o : Option Shown)
-    → IfSome (option_map (λ (s : Shown). s.node) o) (λ n. IsFree n.core.process)
+free_of : (o : Option SiteView)
+    → IfSome (option_map (λ (s : SiteView). s.node) o) (λ n. IsFree n.core.process)
     → IfSome o (λ s. IsFree s.node.core.process)
 free_of None f = tt
 free_of (Some s) f = f
 
 -- a node that is free is a site that is
-pub free_site : (sites : List Shown) (node : ℕ)
-    → IfSome (slice_get (map (λ (s : Shown). s.node) sites) node) (λ n. IsFree n.core.process)
+pub free_site : (sites : List SiteView) (node : ℕ)
+    → IfSome (slice_get (map (λ (s : SiteView). s.node) sites) node) (λ n. IsFree n.core.process)
     → IfSome (slice_get sites node) (λ s. IsFree s.node.core.process)
 free_site sites node f =
     free_of (slice_get sites node)
     (subst (λ o. IfSome o (λ n. IsFree n.core.process))
-    (slice_get-map (λ (s : Shown). s.node) sites node) f)
+    (slice_get-map (λ (s : SiteView). s.node) sites node) f)

@@ -10,7 +10,7 @@ use Rattle.ivy_site.specs.ivy_host.Hosts.{turn_of}
 use Rattle.ivy_site.specs.ivy_host.Managers.{managed_ops}
 use Rattle.ivy_site.specs.declared.turn.Turn as turn
 use Rattle.ivy_site.specs.declared.turn.Turn.TheVariants.{Idle, Moved, Ended}
-use Rattle.ivy_site.specs.Shown.{Shown}
+use Rattle.ivy_site.specs.SiteView.{SiteView}
 use Rattle.ivy_site.specs.Sites.{AfterTurn}
 use Rattle.ivy_world.specs.WorldSites.{world_of, AreSites}
 use Rattle.ivy_world.specs.Settling.{HasStopped}
@@ -22,7 +22,7 @@ set_same (y ∷ xs) zero x e = ap (λ z. z ∷ xs) (sym (same_Some y x e))
 set_same (y ∷ xs) (suc i) x e = ap (λ l. y ∷ l) (set_same xs i x e)
 
 -- what the site was and is where its turn is not one that does anything
-quiet_turn : (t : turn.Turn) (old done : Shown) → AfterTurn t old done
+quiet_turn : (t : turn.Turn) (old done : SiteView) → AfterTurn t old done
     → (t ≡ Idle → IsSome old.node.core.memory.asked) → (t ≡ Moved → ⊥)
     → (turn_of managed_ops old.node.core ≡ None) × HasStopped old.node.core × (done ≡ old)
 quiet_turn Idle old done after waits not = (after.0, inr (waits refl), after.1)
@@ -30,8 +30,8 @@ quiet_turn Moved old done after waits not = absurd (not refl)
 quiet_turn Ended old done after waits not = (after.1, inl after.0, after.2)
 
 -- the site is back in its place, and no string was sent
-pub idle_turn : (c : Config) (sites : List Shown) (sent more : List (List ℕ)) (i : ℕ)
-    (old done site : Shown) (t : turn.Turn) (step : Move) → AreSites c sites
+pub idle_turn : (c : Config) (sites : List SiteView) (sent more : List (List ℕ)) (i : ℕ)
+    (old done site : SiteView) (t : turn.Turn) (step : Move) → AreSites c sites
     → slice_get sites i ≡ Some old → AfterTurn t old done
     → (t ≡ Idle → IsSome old.node.core.memory.asked) → (t ≡ Moved → ⊥) → step ≡ move.Turn i
     → site ≡ record done { waiting = [] } → more ≡ sent ++ done.waiting
@@ -39,13 +39,13 @@ pub idle_turn : (c : Config) (sites : List Shown) (sent more : List (List ℕ)) 
 idle_turn c sites sent more i old done site t step are there after waits not is same added =
     let q = quiet_turn t old done after waits not in
     let none = are.none_waits i old there in
-    let back : site ≡ old = same ∙ ap (λ (s : Shown). record s { waiting = [] }) q.2
+    let back : site ≡ old = same ∙ ap (λ (s : SiteView). record s { waiting = [] }) q.2
     ∙ (λ k. record old { waiting = sym none k }) in
     let idle : HasIdleTurn (world_of sites sent) i =
-    λ n e. (let s = get_map (λ (s : Shown). s.node) sites n i e in
+    λ n e. (let s = get_map (λ (s : SiteView). s.node) sites n i e in
     rw s.2 (rw (same_Some s.0 old (sym s.1 ∙ there)) (q.0, q.1))) in (
       rw is idle,
       ap (set sites i) back ∙ set_same sites i old there,
-      added ∙ ap (λ (s : Shown). sent ++ s.waiting) q.2 ∙ ap (λ l. sent ++ l) none
+      added ∙ ap (λ (s : SiteView). sent ++ s.waiting) q.2 ∙ ap (λ l. sent ++ l) none
           ∙ append-nil sent,
     )

@@ -4,6 +4,7 @@ pub mod Idling
 pub mod Worlds
 pub mod Making
 pub mod Handed
+pub mod Together
 pub mod GoingOn
 pub mod Growing
 pub mod Coming

@@ -10,7 +10,7 @@ use Rattle.ivy_model.specs.declared.Config.{Config}
 use Rattle.ivy_model.specs.declared.Fault.{Fault}
 use Rattle.std.specs.Prelude.{IfSome}
 use Rattle.ivy_model.specs.declared.Record.{Record}
-use Rattle.ivy_model.specs.Wants.{IsWant}
+use Rattle.ivy_model.specs.Wants.{RanOut}
 use Rattle.ivy_site.specs.ivy_host.Managers.{Managed, managed_ops}
 use Rattle.ivy_wire.specs.Data.{Frame}
 use Rattle.ivy_moves.specs.ivy_link.declared.Verdict.{Verdict}
@@ -25,20 +25,20 @@ use Rattle.ivy_site.specs.declared.turn.Turn.TheVariants.{Idle, Moved, Ended}
 use Rattle.ivy_site.specs.ivy_host.Hosts.{Host, host_rules}
 use Rattle.ivy_site.specs.ivy_host.Holding.{AllSpell}
 use Rattle.ivy_world.specs.Runs.{IsRefusedBy}
-use Rattle.ivy_site.specs.Shown.{Shown, after_pulse_to, after_delivery}
+use Rattle.ivy_site.specs.SiteView.{SiteView, after_pulse_to, after_delivery}
 use Rattle.ivy_site.specs.Sites.{SpellsFrame, early_at, IsMadeByEvents, AfterTurn, IsSpentTurn, SiteDelivers, IsSpentDelivery}
 use Rattle.ivy_world.specs.WorldSites.{programs_of, world_of, run_of, AreSites}
 use Rattle.proof_headline.specs.RunState.{Run}
 use Rattle.ivy_moves.specs.Early.{early_as}
 use Rattle.ivy_moves.specs.Keeping.{keeps_history, read_of}
 use Rattle.ivy_moves.proofs.Places.{set-cases}
-use Rattle.ivy_moves.proofs.Kept.{none-after}
+use Rattle.ivy_moves.proofs.Kept.{none_after}
 use Rattle.ivy_site.proofs.Made.{turn_made, turn_early, pulse_made-on, pulse_early, delivery_made, delivery_early, all_taken}
 use Rattle.ivy_site.proofs.of_ivy_host.Programs.{turned-program, posting-core, received-program, delivered-is}
 
 -- one site changed
 
-pub record IsGone (old new : Shown) (e : Effect (Host Managed)) : Type 0 where
+pub record IsGone (old new : SiteView) (e : Effect (Host Managed)) : Type 0 where
   pub node : new.node ≡ e.after
   pub waiting : new.waiting ≡ old.waiting ++ e.sent
   pub config : new.config ≡ old.config
@@ -47,7 +47,7 @@ pub record IsGone (old new : Shown) (e : Effect (Host Managed)) : Type 0 where
   pub program : e.after.core.process.program ≡ old.node.core.process.program
 
 -- what an event did: the move, with one site changed
-pub record Went (c : Config) (sites sites' : List Shown) (sent sent' : List (List ℕ))
+pub record Went (c : Config) (sites sites' : List SiteView) (sent sent' : List (List ℕ))
     (step : Move) : Type 0 where
   pub made : worlds.moved (host_rules managed_ops) c (world_of sites sent) step
       ≡ Some (world_of sites' sent')
@@ -62,33 +62,33 @@ same_map f (x ∷ xs) zero old new there same =
 same_map f (x ∷ xs) (suc i) old new there same =
     ap (λ l. f x ∷ l) (same_map f xs i old new there same)
 
-pub changed_are : (c : Config) (sites : List Shown) (i : ℕ) (old new : Shown) → AreSites c sites
+pub changed_are : (c : Config) (sites : List SiteView) (i : ℕ) (old new : SiteView) → AreSites c sites
     → slice_get sites i ≡ Some old → new.config ≡ old.config → new.me ≡ old.me
     → new.keep ≡ old.keep → new.waiting ≡ []
     → IsMadeByEvents new → AreSites c (set sites i new)
 changed_are c sites i old new h there config me keep none made = record {
   config =
-      λ j s e. ⊎_elim (λ p. ap (λ (x : Shown). x.config) p.1 ∙ config ∙ h.config i old there)
+      λ j s e. ⊎_elim (λ p. ap (λ (x : SiteView). x.config) p.1 ∙ config ∙ h.config i old there)
       (λ q. h.config j s q) (set-cases sites i j new s e);
-  me = λ j s e. ⊎_elim (λ p. ap (λ (x : Shown). x.me) p.1 ∙ me ∙ h.me i old there ∙ sym p.0)
+  me = λ j s e. ⊎_elim (λ p. ap (λ (x : SiteView). x.me) p.1 ∙ me ∙ h.me i old there ∙ sym p.0)
       (λ q. h.me j s q) (set-cases sites i j new s e);
   keep =
-      λ j s e. ⊎_elim (λ p. ap (λ (x : Shown). x.keep) p.1 ∙ keep ∙ h.keep i old there)
+      λ j s e. ⊎_elim (λ p. ap (λ (x : SiteView). x.keep) p.1 ∙ keep ∙ h.keep i old there)
       (λ q. h.keep j s q) (set-cases sites i j new s e);
   none_waits =
-      λ j s e. ⊎_elim (λ p. ap (λ (x : Shown). x.waiting) p.1 ∙ none) (λ q. h.none_waits j s q)
+      λ j s e. ⊎_elim (λ p. ap (λ (x : SiteView). x.waiting) p.1 ∙ none) (λ q. h.none_waits j s q)
       (set-cases sites i j new s e);
   made = λ j s e. ⊎_elim (λ p. subst IsMadeByEvents (sym p.1) made) (λ q. h.made j s q)
       (set-cases sites i j new s e);
 }
 
 -- what came too early, where one site changed
-pub quiet : (sites : List Shown) (i : ℕ) (old new : Shown) → slice_get sites i ≡ Some old
+pub quiet : (sites : List SiteView) (i : ℕ) (old new : SiteView) → slice_get sites i ≡ Some old
     → early_at new ≡ early_at old ++ [] → map early_at sites ≡ map early_at (set sites i new)
 quiet sites i old new there grown =
     sym (same_map early_at sites i old new there (grown ∙ append-nil (early_at old)))
 
-early-set : (sites : List Shown) (i : ℕ) (old new : Shown) (v : Verdict) (bytes : List ℕ)
+early-set : (sites : List SiteView) (i : ℕ) (old new : SiteView) (v : Verdict) (bytes : List ℕ)
     → slice_get sites i ≡ Some old → early_at new ≡ early_at old ++ early_as v bytes
     → worlds.remembered v (map early_at sites) i bytes ≡ map early_at (set sites i new)
 early-set sites i old new verdict.NotMine bytes there grown = quiet sites i old new there grown
@@ -102,7 +102,7 @@ early-set sites i old new verdict.Ahead bytes there grown =
     ∙ ap (set (map early_at sites) i) (sym grown) ∙ sym (map-set early_at sites i new)
 
 -- the world after one site changed, where so much more came too early
-pub changed_world : (sites : List Shown) (sent : List (List ℕ)) (i : ℕ) (new : Shown)
+pub changed_world : (sites : List SiteView) (sent : List (List ℕ)) (i : ℕ) (new : SiteView)
     (e : Effect (Host Managed)) (early : List (List (List ℕ))) (strings : List (List ℕ))
     → new.node ≡ e.after → strings ≡ e.sent
     → early ≡ map early_at (set sites i new)
@@ -110,13 +110,13 @@ pub changed_world : (sites : List Shown) (sent : List (List ℕ)) (i : ℕ) (new
     ≡ world_of (set sites i new) (sent ++ strings)
 changed_world sites sent i new e early strings node is grown =
     let back = sym is in λ k. record {
-      nodes = (ap (λ n. set (map (λ (s : Shown). s.node) sites) i n) (sym node)
-          ∙ sym (map-set (λ (s : Shown). s.node) sites i new)) k;
+      nodes = (ap (λ n. set (map (λ (s : SiteView). s.node) sites) i n) (sym node)
+          ∙ sym (map-set (λ (s : SiteView). s.node) sites i new)) k;
       sent = sent ++ back k;
       early = grown k;
     }
 
-went : (c : Config) (sites : List Shown) (sent : List (List ℕ)) (i : ℕ) (old done : Shown)
+went : (c : Config) (sites : List SiteView) (sent : List (List ℕ)) (i : ℕ) (old done : SiteView)
     (e : Effect (Host Managed)) (step : Move) (early : List (List (List ℕ)))
     → AreSites c sites → slice_get sites i ≡ Some old → IsGone old done e → IsMadeByEvents done
     → early ≡ map early_at (set sites i (record done { waiting = [] }))
@@ -133,22 +133,22 @@ went c sites sent i old done e step early h there gone made grown moved =
       are = changed_are c sites i old (record done { waiting = [] }) h there gone.config gone.me
           gone.keep refl (all_taken done made);
       programs =
-          same_map (λ (s : Shown). s.node.core.process.program) sites i old
+          same_map (λ (s : SiteView). s.node.core.process.program) sites i old
           (record done { waiting = [] }) there
           (ap (λ (n : Node (Host Managed)). n.core.process.program) gone.node ∙ gone.program);
     }
 
-still_gone : (old new : Shown) → new ≡ old → IsGone old new (stays old.node)
+still_gone : (old new : SiteView) → new ≡ old → IsGone old new (stays old.node)
 still_gone old new same = record {
-  node = ap (λ (s : Shown). s.node) same;
-  waiting = ap (λ (s : Shown). s.waiting) same ∙ sym (append-nil old.waiting);
-  config = ap (λ (s : Shown). s.config) same;
-  me = ap (λ (s : Shown). s.me) same;
-  keep = ap (λ (s : Shown). s.keep) same;
+  node = ap (λ (s : SiteView). s.node) same;
+  waiting = ap (λ (s : SiteView). s.waiting) same ∙ sym (append-nil old.waiting);
+  config = ap (λ (s : SiteView). s.config) same;
+  me = ap (λ (s : SiteView). s.me) same;
+  keep = ap (λ (s : SiteView). s.keep) same;
   program = refl;
 }
 
-turn_gone : (t : turn.Turn) (old new : Shown) → AfterTurn t old new
+turn_gone : (t : turn.Turn) (old new : SiteView) → AfterTurn t old new
     → (e : Effect (Host Managed)) × (turned (host_rules managed_ops) old.node ≡ Some e)
     × IsGone old new e
 unfolding turned
@@ -158,11 +158,11 @@ turn_gone Moved old new h = (
   h.effect,
   ap (turned_to (host_rules managed_ops) old.node) h.turn ∙ h.sent,
   record {
-    node = ap (λ (s : Shown). s.node) h.after;
-    waiting = ap (λ (s : Shown). s.waiting) h.after;
-    config = ap (λ (s : Shown). s.config) h.after;
-    me = ap (λ (s : Shown). s.me) h.after;
-    keep = ap (λ (s : Shown). s.keep) h.after;
+    node = ap (λ (s : SiteView). s.node) h.after;
+    waiting = ap (λ (s : SiteView). s.waiting) h.after;
+    config = ap (λ (s : SiteView). s.config) h.after;
+    me = ap (λ (s : SiteView). s.me) h.after;
+    keep = ap (λ (s : SiteView). s.keep) h.after;
     program =
         ap (λ (k : Host Managed). k.process.program)
         (posting-core old.node h.outcome.after h.outcome.posted h.effect h.sent)
@@ -172,15 +172,15 @@ turn_gone Moved old new h = (
 turn_gone Ended old new h =
     (stays old.node, ap (turned_to (host_rules managed_ops) old.node) h.1, still_gone old new h.2)
 
-module _ (c : Config) (sites : List Shown) (sent : List (List ℕ)) (i : ℕ) (old : Shown)
+module _ (c : Config) (sites : List SiteView) (sent : List (List ℕ)) (i : ℕ) (old : SiteView)
     (there : slice_get sites i ≡ Some old) where
-  pub node_there : slice_get (map (λ (s : Shown). s.node) sites) i ≡ Some old.node
+  pub node_there : slice_get (map (λ (s : SiteView). s.node) sites) i ≡ Some old.node
   node_there =
-      slice_get-map (λ (s : Shown). s.node) sites i ∙ ap (option_map (λ (s : Shown). s.node)) there
+      slice_get-map (λ (s : SiteView). s.node) sites i ∙ ap (option_map (λ (s : SiteView). s.node)) there
 
-  pub named : nat_lt i (length (map (λ (s : Shown). s.node) sites)) ≡ true
-  named = lt-ltb i (length (map (λ (s : Shown). s.node) sites))
-      (slice_get_within (map (λ (s : Shown). s.node) sites) i old.node node_there)
+  pub named : nat_lt i (length (map (λ (s : SiteView). s.node) sites)) ≡ true
+  named = lt-ltb i (length (map (λ (s : SiteView). s.node) sites))
+      (slice_get_within (map (λ (s : SiteView). s.node) sites) i old.node node_there)
 
   turn_is : worlds.moved (host_rules managed_ops) c (world_of sites sent) (move.Turn i)
       ≡ worlds.world_goes_on (world_of sites sent) i (turned (host_rules managed_ops) old.node)
@@ -192,8 +192,8 @@ module _ (c : Config) (sites : List Shown) (sent : List (List ℕ)) (i : ℕ) (o
       ∙ ap (worlds.turn_of (host_rules managed_ops) c (world_of sites sent) i) node_there
 
 -- a turn of the site, and its strings put on the wire
-pub turn_went : (c : Config) (sites : List Shown) (sent : List (List ℕ)) (i : ℕ)
-    (old done site : Shown) (t : turn.Turn) (step : Move) (more : List (List ℕ))
+pub turn_went : (c : Config) (sites : List SiteView) (sent : List (List ℕ)) (i : ℕ)
+    (old done site : SiteView) (t : turn.Turn) (step : Move) (more : List (List ℕ))
     → AreSites c sites → slice_get sites i ≡ Some old → AfterTurn t old done → step ≡ move.Turn i
     → site ≡ record done { waiting = [] } → more ≡ sent ++ done.waiting
     → Went c sites (set sites i site) sent more step
@@ -207,38 +207,38 @@ turn_went c sites sent i old done site t step more h there after is same added =
     (turn_early t old done (h.made i old there) after))
     (turn_is c sites sent i old there ∙ ap (worlds.world_goes_on (world_of sites sent) i) gone.1))))
 
-pub turn_refused : (c : Config) (sites : List Shown) (sent : List (List ℕ)) (i : ℕ) (old : Shown)
+pub turn_refused : (c : Config) (sites : List SiteView) (sent : List (List ℕ)) (i : ℕ) (old : SiteView)
     (step : Move) (fault : Fault)
-    → slice_get sites i ≡ Some old → step ≡ move.Turn i → IsSpentTurn old fault → IsWant fault
+    → slice_get sites i ≡ Some old → step ≡ move.Turn i → IsSpentTurn old fault → RanOut fault
     → IsRefusedBy c (world_of sites sent) fault (Some step)
 turn_refused c sites sent i old step fault there is spent want =
     rw is (⊎_elim (λ m. rw m tt)
     (λ s. rw s
-    (none-after (host_rules managed_ops) c (world_of sites sent) (move.Turn i)
+    (none_after (host_rules managed_ops) c (world_of sites sent) (move.Turn i)
     (turn_is c sites sent i old there ∙ ap (worlds.world_goes_on (world_of sites sent) i) (spent s))))
     want)
 
-pulse_gone : (old new : Shown) (to : ℕ) → new ≡ after_pulse_to old to (pulsing old.node to)
+pulse_gone : (old new : SiteView) (to : ℕ) → new ≡ after_pulse_to old to (pulsing old.node to)
     → IsGone old new (pulsing old.node to)
 unfolding pulsing
 pulse_gone old new to after = record {
-  node = ap (λ (s : Shown). s.node) after;
-  waiting = ap (λ (s : Shown). s.waiting) after;
-  config = ap (λ (s : Shown). s.config) after;
-  me = ap (λ (s : Shown). s.me) after;
-  keep = ap (λ (s : Shown). s.keep) after;
+  node = ap (λ (s : SiteView). s.node) after;
+  waiting = ap (λ (s : SiteView). s.waiting) after;
+  config = ap (λ (s : SiteView). s.config) after;
+  me = ap (λ (s : SiteView). s.me) after;
+  keep = ap (λ (s : SiteView). s.keep) after;
   program = refl;
 }
 
-pulse_is : (c : Config) (sites : List Shown) (sent : List (List ℕ)) (i to : ℕ) (old : Shown)
+pulse_is : (c : Config) (sites : List SiteView) (sent : List (List ℕ)) (i to : ℕ) (old : SiteView)
     → slice_get sites i ≡ Some old → to < length sites → i ≢ to
     → worlds.moved (host_rules managed_ops) c (world_of sites sent) (move.Pulse i to)
     ≡ Some (worlds.gone_on (world_of sites sent) i (pulsing old.node to))
 unfolding worlds.moved
 pulse_is c sites sent i to old there within apart =
-    let nodes = map (λ (s : Shown). s.node) sites in
+    let nodes = map (λ (s : SiteView). s.node) sites in
     let long : to < length nodes =
-    subst (λ k. to < k) (sym (length-map sites (λ (s : Shown). s.node))) within in
+    subst (λ k. to < k) (sym (length-map sites (λ (s : SiteView). s.node))) within in
     let known : (nat_lt i (length nodes) && (nat_lt to (length nodes) && not (i == to))) ≡ true =
     ap (λ b. b && (nat_lt to (length nodes) && not (i == to))) (named c sites sent i old there)
     ∙ (ap (λ b. b && not (i == to)) (lt-ltb to (length nodes) long)
@@ -250,8 +250,8 @@ pulse_is c sites sent i to old there within apart =
     (node_there c sites sent i old there)
 
 -- a pulse of the site, and its strings put on the wire
-pub pulse_went : (c : Config) (sites : List Shown) (sent : List (List ℕ)) (i to : ℕ)
-    (old done site : Shown) (step : Move) (more : List (List ℕ))
+pub pulse_went : (c : Config) (sites : List SiteView) (sent : List (List ℕ)) (i to : ℕ)
+    (old done site : SiteView) (step : Move) (more : List (List ℕ))
     → AreSites c sites → slice_get sites i ≡ Some old → to < length sites → i ≢ to
     → done ≡ after_pulse_to old to (pulsing old.node to) → step ≡ move.Pulse i to
     → site ≡ record done { waiting = [] } → more ≡ sent ++ done.waiting
@@ -265,7 +265,7 @@ pulse_went c sites sent i to old done site step more h there within apart after 
     (pulse_early to old done (h.made i old there) after))
     (pulse_is c sites sent i to old there within apart))))
 
-event_gone : (old new : Shown) (e : Effect (Host Managed)) → new.node ≡ e.after
+event_gone : (old new : SiteView) (e : Effect (Host Managed)) → new.node ≡ e.after
     → new.waiting ≡ old.waiting ++ e.sent → new.config ≡ old.config → new.me ≡ old.me
     → new.keep ≡ old.keep
     → e.after.core.process.program ≡ old.node.core.process.program → IsGone old new e
@@ -279,42 +279,42 @@ event_gone old new e node waiting config me keep program =
       program = program;
     }
 
-after_gone : (v : Verdict) (old new : Shown) (f : Frame) (bytes : List ℕ)
+after_gone : (v : Verdict) (old new : SiteView) (f : Frame) (bytes : List ℕ)
     (e : Effect (Host Managed)) → new ≡ after_delivery old bytes v f.source e
     → received_as (host_rules managed_ops) v old.node f ≡ Some e → IsGone old new e
 after_gone verdict.NotMine old new f bytes e after is =
     subst (IsGone old new) (same_Some (stays old.node) e is) (still_gone old new after)
 after_gone verdict.Next old new f bytes e after is =
-    event_gone old new e (ap (λ (s : Shown). s.node) after) (ap (λ (s : Shown). s.waiting) after)
-    (ap (λ (s : Shown). s.config) after) (ap (λ (s : Shown). s.me) after)
-    (ap (λ (s : Shown). s.keep) after)
+    event_gone old new e (ap (λ (s : SiteView). s.node) after) (ap (λ (s : SiteView). s.waiting) after)
+    (ap (λ (s : SiteView). s.config) after) (ap (λ (s : SiteView). s.me) after)
+    (ap (λ (s : SiteView). s.keep) after)
     (received-program verdict.Next old.node f e is)
 after_gone verdict.Repeat old new f bytes e after is =
-    event_gone old new e (ap (λ (s : Shown). s.node) after) (ap (λ (s : Shown). s.waiting) after)
-    (ap (λ (s : Shown). s.config) after) (ap (λ (s : Shown). s.me) after)
-    (ap (λ (s : Shown). s.keep) after)
+    event_gone old new e (ap (λ (s : SiteView). s.node) after) (ap (λ (s : SiteView). s.waiting) after)
+    (ap (λ (s : SiteView). s.config) after) (ap (λ (s : SiteView). s.me) after)
+    (ap (λ (s : SiteView). s.keep) after)
     (received-program verdict.Repeat old.node f e is)
 after_gone verdict.Ahead old new f bytes e after is =
-    event_gone old new e (ap (λ (s : Shown). s.node) after) (ap (λ (s : Shown). s.waiting) after)
-    (ap (λ (s : Shown). s.config) after) (ap (λ (s : Shown). s.me) after)
-    (ap (λ (s : Shown). s.keep) after)
+    event_gone old new e (ap (λ (s : SiteView). s.node) after) (ap (λ (s : SiteView). s.waiting) after)
+    (ap (λ (s : SiteView). s.config) after) (ap (λ (s : SiteView). s.me) after)
+    (ap (λ (s : SiteView). s.keep) after)
     (received-program verdict.Ahead old.node f e is)
 
-pub delivery_gone : (old new : Shown) (bytes : List ℕ) (v : Verdict) → IsConfig old.config
+pub delivery_gone : (old new : SiteView) (bytes : List ℕ) (v : Verdict) → IsConfig old.config
     → (h : SiteDelivers bytes v old new) → IsGone old new h.effect
 delivery_gone old new bytes v config h =
     after_gone v old new h.frame bytes h.effect h.after
     (ap (λ x. received_as (host_rules managed_ops) x old.node h.frame) h.is
     ∙ (sym (delivered-is old.config config old.node h.frame bytes h.spelled) ∙ h.delivered))
 
-delivery_is : (c : Config) (sites : List Shown) (sent : List (List ℕ)) (index i : ℕ) (old : Shown)
+delivery_is : (c : Config) (sites : List SiteView) (sent : List (List ℕ)) (index i : ℕ) (old : SiteView)
     (bytes : List ℕ) → slice_get sites i ≡ Some old → slice_get sent index ≡ Some bytes
     → worlds.moved (host_rules managed_ops) c (world_of sites sent) (move.Deliver index i)
     ≡ worlds.remembering (verdict_of c old.node bytes) i bytes
     (worlds.world_goes_on (world_of sites sent) i (delivered (host_rules managed_ops) c old.node bytes))
 unfolding worlds.moved
 delivery_is c sites sent index i old bytes there found =
-    let nodes = map (λ (s : Shown). s.node) sites in
+    let nodes = map (λ (s : SiteView). s.node) sites in
     let known : (nat_lt i (length nodes) && nat_lt index (length sent)) ≡ true =
     ap (λ b. b && nat_lt index (length sent)) (named c sites sent i old there)
     ∙ lt-ltb index (length sent) (slice_get_within sent index bytes found) in
@@ -327,8 +327,8 @@ delivery_is c sites sent index i old bytes there found =
     found)
 
 -- a delivery to the site that goes on with nothing, and its strings put on the wire
-pub delivered_went : (c : Config) (sites : List Shown) (sent : List (List ℕ)) (index i : ℕ)
-    (old done : Shown) (bytes : List ℕ) (v : Verdict)
+pub delivered_went : (c : Config) (sites : List SiteView) (sent : List (List ℕ)) (index i : ℕ)
+    (old done : SiteView) (bytes : List ℕ) (v : Verdict)
     → IsConfig c → AreSites c sites → slice_get sites i ≡ Some old
     → slice_get sent index ≡ Some bytes → SiteDelivers bytes v old done
     → Went c sites (set sites i (record done { waiting = [] })) sent (sent ++ done.waiting)
@@ -356,26 +356,26 @@ delivered_went c sites sent index i old done bytes v limits h there found d =
 contains_at : (xs : List (List ℕ)) (i : ℕ) (x : List ℕ) → slice_get xs i ≡ Some x → Contains xs x
 contains_at xs i x found = (i, slice_get_within xs i x found, get_or_from_slice_get xs i x x found)
 
-pub delivery_spelled : (c : Config) (sites : List Shown) (sent : List (List ℕ)) (index i : ℕ)
-    (old : Shown) (bytes : List ℕ) → AreSites c sites → AllSpell c (world_of sites sent)
+pub delivery_spelled : (c : Config) (sites : List SiteView) (sent : List (List ℕ)) (index i : ℕ)
+    (old : SiteView) (bytes : List ℕ) → AreSites c sites → AllSpell c (world_of sites sent)
     → slice_get sites i ≡ Some old → slice_get sent index ≡ Some bytes
     → SpellsFrame old.config bytes
 delivery_spelled c sites sent index i old bytes h spell there found =
     subst (λ k. SpellsFrame k bytes) (sym (h.config i old there))
     (spell bytes (contains_at sent index bytes found))
 
-pub delivery_refused : (c : Config) (sites : List Shown) (sent : List (List ℕ)) (index i : ℕ)
-    (old : Shown) (bytes : List ℕ) (step : Move) (fault : Fault)
+pub delivery_refused : (c : Config) (sites : List SiteView) (sent : List (List ℕ)) (index i : ℕ)
+    (old : SiteView) (bytes : List ℕ) (step : Move) (fault : Fault)
     → IsConfig c → AreSites c sites → AllSpell c (world_of sites sent)
     → slice_get sites i ≡ Some old → slice_get sent index ≡ Some bytes → step ≡ move.Deliver index i
-    → IsWant fault → IsSpentDelivery old bytes fault
+    → RanOut fault → IsSpentDelivery old bytes fault
     → IsRefusedBy c (world_of sites sent) fault (Some step)
 delivery_refused c sites sent index i old bytes step fault limits h spell there found is want
     spent =
     let config : old.config ≡ c = h.config i old there in
     rw is (⊎_elim (λ m. rw m tt)
     (λ s. rw s
-    (none-after (host_rules managed_ops) c (world_of sites sent) (move.Deliver index i)
+    (none_after (host_rules managed_ops) c (world_of sites sent) (move.Deliver index i)
     (delivery_is c sites sent index i old bytes there found
     ∙ ap (λ o. worlds.remembering (verdict_of c old.node bytes) i bytes
     (worlds.world_goes_on (world_of sites sent) i o))
@@ -383,8 +383,8 @@ delivery_refused c sites sent index i old bytes step fault limits h spell there 
     (spent s))))) want)
 
 -- what a site of the world was answered can be read
-pub history_shown : (c : Config) (sites : List Shown) (sent : List (List ℕ)) (run : Run)
-    → run_of c sites sent ≡ run → AreSites c sites → (i : ℕ) (s : Shown) → slice_get sites i ≡ Some s
+pub history_shown : (c : Config) (sites : List SiteView) (sent : List (List ℕ)) (run : Run)
+    → run_of c sites sent ≡ run → AreSites c sites → (i : ℕ) (s : SiteView) → slice_get sites i ≡ Some s
     → (h : List Record) → h ≡ read_of (keeps_history s.keep) s.node.core.history
     → IfSome (slice_get run.world.nodes i) (λ (n : Node (Host Managed)). h ≡ n.core.history)
 history_shown c sites sent run same are i s there h read =

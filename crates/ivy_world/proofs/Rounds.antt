@@ -9,7 +9,7 @@ use Rattle.ivy_moves.specs.ivy_link.Linked.{peer_at}
 use Rattle.ivy_moves.specs.declared.Move.{Move}
 use Rattle.ivy_moves.specs.declared.Move.TheVariants.{Turn, Deliver, Pulse}
 use Rattle.ivy_moves.specs.Worlds.{is_named}
-use Rattle.ivy_site.specs.Shown.{Shown}
+use Rattle.ivy_site.specs.SiteView.{SiteView}
 use Rattle.ivy_site.specs.Sites.{Awaits}
 use Rattle.ivy_world.specs.WorldSites.{world_of, AreSites}
 use Rattle.ivy_world.specs.Rounds.{IsUnderWayTo, HasNoneUnderWay, IsNextMove, IsDeliveredFrom}
@@ -21,7 +21,7 @@ nowhere xs i beyond =
       | inr h ↦ h.1
     ]
 
-module _ (sites : List Shown) (string : List ℕ) where
+module _ (sites : List SiteView) (string : List ℕ) where
   pub for_nobody : dest_of string ≡ None → (to : ℕ) → IsUnderWayTo sites string to → ⊥
   for_nobody none to u = none-some to (sym none ∙ u.dest)
 
@@ -31,7 +31,7 @@ module _ (sites : List Shown) (string : List ℕ) where
       let same : d ≡ to = same_Some d to (sym is ∙ u.dest) in
       none-some u.site (sym none ∙ ap (slice_get sites) same ∙ u.there)
 
-  pub not_awaited : (d : ℕ) (s : Shown) → dest_of string ≡ Some d → slice_get sites d ≡ Some s
+  pub not_awaited : (d : ℕ) (s : SiteView) → dest_of string ≡ Some d → slice_get sites d ≡ Some s
       → (Awaits s string → ⊥) → (to : ℕ) → IsUnderWayTo sites string to → ⊥
   not_awaited d s is there not to u =
       let same : d ≡ to = same_Some d to (sym is ∙ u.dest) in
@@ -40,7 +40,7 @@ module _ (sites : List Shown) (string : List ℕ) where
       not (rw site u.awaited)
 
 -- one string more that is not under way
-pub none_here : (sites : List Shown) (sent : List (List ℕ)) (from index : ℕ) (string : List ℕ)
+pub none_here : (sites : List SiteView) (sent : List (List ℕ)) (from index : ℕ) (string : List ℕ)
     → slice_get sent index ≡ Some string → ((to : ℕ) → IsUnderWayTo sites string to → ⊥)
     → HasNoneUnderWay sites sent from index → HasNoneUnderWay sites sent from (index + 1)
 none_here sites sent from index string there not before i to above below u =
@@ -52,14 +52,14 @@ none_here sites sent from index string there not before i to above below u =
       | inr ne ↦ before i to above (omega (arith, below, ne)) u
     ]
 
-module _ (c : Config) (sites : List Shown) (are : AreSites c sites) where
+module _ (c : Config) (sites : List SiteView) (are : AreSites c sites) where
   -- each site knows the nodes
-  pub knows : (i : ℕ) (s : Shown) → slice_get sites i ≡ Some s → (n : ℕ) → n < c.nodes
+  pub knows : (i : ℕ) (s : SiteView) → slice_get sites i ≡ Some s → (n : ℕ) → n < c.nodes
       → n < s.config.nodes
   knows i s there n lt = rw (are.config i s there) lt
 
-module _ (sites : List Shown) (i : ℕ) (s : Shown) (here : slice_get sites i ≡ Some s) (j : ℕ)
-    (t : Shown) (there : slice_get sites j ≡ Some t) where
+module _ (sites : List SiteView) (i : ℕ) (s : SiteView) (here : slice_get sites i ≡ Some s) (j : ℕ)
+    (t : SiteView) (there : slice_get sites j ≡ Some t) where
   -- something is missing
   pub not_delivered : i ≢ j
       → ((peer_at t.node.link i).delivered ≡ (peer_at s.node.link j).sent → ⊥)
@@ -68,7 +68,7 @@ module _ (sites : List Shown) (i : ℕ) (s : Shown) (here : slice_get sites i �
 
   -- nothing is missing there
   pub delivered_there : (peer_at t.node.link i).delivered ≡ (peer_at s.node.link j).sent
-      → (s' t' : Shown) → slice_get sites i ≡ Some s' → slice_get sites j ≡ Some t'
+      → (s' t' : SiteView) → slice_get sites i ≡ Some s' → slice_get sites j ≡ Some t'
       → (peer_at t'.node.link i).delivered ≡ (peer_at s'.node.link j).sent
   delivered_there is s' t' here' there' =
       let a : s ≡ s' = same_Some s s' (sym here ∙ here') in
@@ -76,13 +76,13 @@ module _ (sites : List Shown) (i : ℕ) (s : Shown) (here : slice_get sites i �
       rw (← a) (rw (← b) is)
 
 -- all that went to the nodes below one, and what went to that one
-pub one_more : (sites : List Shown) (i to : ℕ)
-    → ((j : ℕ) (s t : Shown) → j < to → i ≢ j → slice_get sites i ≡ Some s
+pub one_more : (sites : List SiteView) (i to : ℕ)
+    → ((j : ℕ) (s t : SiteView) → j < to → i ≢ j → slice_get sites i ≡ Some s
     → slice_get sites j ≡ Some t
     → (peer_at t.node.link i).delivered ≡ (peer_at s.node.link j).sent)
-    → (i ≢ to → (s t : Shown) → slice_get sites i ≡ Some s → slice_get sites to ≡ Some t
+    → (i ≢ to → (s t : SiteView) → slice_get sites i ≡ Some s → slice_get sites to ≡ Some t
     → (peer_at t.node.link i).delivered ≡ (peer_at s.node.link to).sent)
-    → (j : ℕ) (s t : Shown) → j < to + 1 → i ≢ j → slice_get sites i ≡ Some s
+    → (j : ℕ) (s t : SiteView) → j < to + 1 → i ≢ j → slice_get sites i ≡ Some s
     → slice_get sites j ≡ Some t
     → (peer_at t.node.link i).delivered ≡ (peer_at s.node.link j).sent
 one_more sites i to below here j s t within apart a b =
@@ -92,18 +92,18 @@ one_more sites i to below here j s t within apart a b =
     ]
 
 -- the next move is of what is there
-pub named_next : (sites : List Shown) (sent : List (List ℕ)) (from turn nodes : ℕ) (step : Move)
+pub named_next : (sites : List SiteView) (sent : List (List ℕ)) (from turn nodes : ℕ) (step : Move)
     → length sites ≡ nodes → turn < nodes → IsNextMove sites sent from turn step
     → is_named (world_of sites sent) step ≡ true
 named_next sites sent from turn nodes (Turn i) each within next =
     let is : i ≡ turn = next.0 in
-    let count = length-map sites (λ (s : Shown). s.node) in
-    lt-ltb i (length (map (λ (s : Shown). s.node) sites)) (omega (arith, is, count, each, within))
+    let count = length-map sites (λ (s : SiteView). s.node) in
+    lt-ltb i (length (map (λ (s : SiteView). s.node) sites)) (omega (arith, is, count, each, within))
 named_next sites sent from turn nodes (Deliver index to) each within next =
     let way = next.1 in
-    let count = length-map sites (λ (s : Shown). s.node) in
+    let count = length-map sites (λ (s : SiteView). s.node) in
     let here = slice_get_within sites to way.way.site way.way.there in
     ap (λ b. b && nat_lt index (length sent))
-    (lt-ltb to (length (map (λ (s : Shown). s.node) sites)) (omega (arith, here, count)))
+    (lt-ltb to (length (map (λ (s : SiteView). s.node) sites)) (omega (arith, here, count)))
     ∙ lt-ltb index (length sent) (slice_get_within sent index way.string way.there)
 named_next sites sent from turn nodes (Pulse i j) each within next = absurd next

@@ -19,7 +19,7 @@ use Rattle.ivy_world.specs.declared.rest.Rest.TheVariants.{Going}
 use Rattle.proof_headline.specs.RunState.{Run}
 use Rattle.proof_headline.specs.Reached.{IsLedTo}
 use Rattle.ivy_world.specs.Runs.{IsRefusedBy, IsSameRun}
-use Rattle.ivy_site.specs.Shown.{Shown}
+use Rattle.ivy_site.specs.SiteView.{SiteView}
 use Rattle.ivy_world.specs.WorldSites.{world_of}
 use Rattle.ivy_world.specs.Settling.{HasSettledBy, HasStopped, StandsStill}
 use Rattle.proof_headline.specs.proof_progress.Still.{HasNothingUnderWay}
@@ -114,20 +114,20 @@ pub first_round : (r : Run) → 0 < r.config.nodes
 first_round r some = record { within = some; idle = λ _ i below. absurd (omega (arith, below)) }
 
 -- what is said of sites, said of the world's nodes
-pub world_delivered : (sites : List Shown) (sent : List (List ℕ))
+pub world_delivered : (sites : List SiteView) (sent : List (List ℕ))
     → ((i : ℕ) → IsDeliveredFrom sites i) → HasNothingUnderWay (world_of sites sent)
 world_delivered sites sent all i j n m apart a b =
-    let s = get_map (λ (s : Shown). s.node) sites n i a in
-    let t = get_map (λ (s : Shown). s.node) sites m j b in
+    let s = get_map (λ (s : SiteView). s.node) sites n i a in
+    let t = get_map (λ (s : SiteView). s.node) sites m j b in
     rw s.2 (rw t.2 (all i j s.0 t.0 apart s.1 t.1))
 
 -- and said of the world's nodes, said of sites
-pub sites_delivered : (sites : List Shown) (sent : List (List ℕ))
+pub sites_delivered : (sites : List SiteView) (sent : List (List ℕ))
     → HasNothingUnderWay (world_of sites sent) → (i : ℕ) → IsDeliveredFrom sites i
 sites_delivered sites sent all i j s t apart a b =
     all i j s.node t.node apart
-    (slice_get-map (λ (x : Shown). x.node) sites i ∙ ap (option_map (λ (x : Shown). x.node)) a)
-    (slice_get-map (λ (x : Shown). x.node) sites j ∙ ap (option_map (λ (x : Shown). x.node)) b)
+    (slice_get-map (λ (x : SiteView). x.node) sites i ∙ ap (option_map (λ (x : SiteView). x.node)) a)
+    (slice_get-map (λ (x : SiteView). x.node) sites j ∙ ap (option_map (λ (x : SiteView). x.node)) b)
 
 pub stands_still : (r : Run) (round : Round) → length r.world.nodes ≡ r.config.nodes
     → r.config.nodes ≤ round.turn → HadTurns r round → round.stirred ≡ false

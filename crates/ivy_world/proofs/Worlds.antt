@@ -16,7 +16,7 @@ use Rattle.ivy_site.specs.ivy_host.Openings.{first_nodes, opening}
 use Rattle.proof_headline.specs.Reached.{IsLedTo}
 use Rattle.ivy_world.specs.Runs.{IsRefusedBy, CannotBeNamed, IsNamedUnless}
 use Rattle.ivy_site.specs.ivy_host.Holding.{AllSpell}
-use Rattle.ivy_site.specs.Shown.{Shown}
+use Rattle.ivy_site.specs.SiteView.{SiteView}
 use Rattle.proof_headline.proofs.Headline.{spelled-led}
 use Rattle.ivy_moves.proofs.Leading.{leads_one}
 use Rattle.ivy_site.specs.Sites.{first_keeping, early_at, IsMadeByEvents}
@@ -25,9 +25,9 @@ use Rattle.ivy_moves.specs.declared.keep.Keep.TheVariants.{History}
 use Rattle.ivy_world.specs.WorldSites.{programs_of, world_of, run_of, AreSites, IsRunning, first_sites_from}
 
 -- the site of the first program left goes behind those that are there
-pub one_more_site : (c : Config) (me : ℕ) (sites : List Shown) (p : Program)
+pub one_more_site : (c : Config) (me : ℕ) (sites : List SiteView) (p : Program)
     (left rest : List Program) → left ≡ p ∷ rest
-    → (site : Shown) → site ≡ first_keeping History c me p → (more : List Shown) → more ≡ sites ++ site ∷ []
+    → (site : SiteView) → site ≡ first_keeping History c me p → (more : List SiteView) → more ≡ sites ++ site ∷ []
     → more ++ first_sites_from c (me + 1) rest ≡ sites ++ first_sites_from c me left
 one_more_site c me sites p left rest steps site is more added =
     ap (λ l. l ++ first_sites_from c (me + 1) rest) added
@@ -49,29 +49,29 @@ module _ (c : Config) where
   first_programs me (p ∷ ps) = ap (λ l. p ∷ l) (first_programs (me + 1) ps)
 
   first_nodes_are : (me : ℕ) (ps : List Program)
-      → map (λ (s : Shown). s.node) (first_sites_from c me ps) ≡ first_nodes managed_ops c me ps
+      → map (λ (s : SiteView). s.node) (first_sites_from c me ps) ≡ first_nodes managed_ops c me ps
   first_nodes_are me [] = refl
   first_nodes_are me (p ∷ ps) =
       ap (λ l. (first_keeping History c me p).node ∷ l) (first_nodes_are (me + 1) ps)
 
-  first_at : (me : ℕ) (ps : List Program) (i : ℕ) (s : Shown)
+  first_at : (me : ℕ) (ps : List Program) (i : ℕ) (s : SiteView)
       → slice_get (first_sites_from c me ps) i ≡ Some s
       → (s.config ≡ c) × (s.me ≡ me + i) × (s.waiting ≡ []) × (s.keep ≡ History)
   first_at me [] i s e = absurd (none-some s e)
   first_at me (p ∷ ps) zero s e =
       let is = sym (same_Some (first_keeping History c me p) s e) in
-      let me-is : s.me ≡ me = ap (λ (x : Shown). x.me) is in (
-        ap (λ (x : Shown). x.config) is,
+      let me-is : s.me ≡ me = ap (λ (x : SiteView). x.me) is in (
+        ap (λ (x : SiteView). x.config) is,
         omega (arith, me-is),
-        ap (λ (x : Shown). x.waiting) is,
-        ap (λ (x : Shown). x.keep) is,
+        ap (λ (x : SiteView). x.waiting) is,
+        ap (λ (x : SiteView). x.keep) is,
       )
   first_at me (p ∷ ps) (suc i) s e =
       let rest = first_at (me + 1) ps i s e in
       let me-is : s.me ≡ me + 1 + i = rest.1 in
       (rest.0, omega (arith, me-is), rest.2, rest.3)
 
-  first_made_at : (me : ℕ) (ps : List Program) (i : ℕ) (s : Shown)
+  first_made_at : (me : ℕ) (ps : List Program) (i : ℕ) (s : SiteView)
       → slice_get (first_sites_from c me ps) i ≡ Some s → IsMadeByEvents s
   first_made_at me [] i s e = absurd (none-some s e)
   first_made_at me (p ∷ ps) zero s e =
@@ -124,32 +124,32 @@ module _ (c : Config) where
   }
 
 -- the world of the first sites is the opening one, and it runs
-pub first_running-of : (c : Config) (ps : List Program) (sites : List Shown)
+pub first_running-of : (c : Config) (ps : List Program) (sites : List SiteView)
     (sent : List (List ℕ)) → IsConfig c → length ps ≡ c.nodes → sites ≡ first_sites_from c 0 ps
     → sent ≡ [] → IsRunning c sites sent
 first_running-of c ps sites sent config each is none =
     rw is (rw none (first_running c config ps each))
 
-pub first_run-of : (c : Config) (ps : List Program) (sites : List Shown)
+pub first_run-of : (c : Config) (ps : List Program) (sites : List SiteView)
     (sent : List (List ℕ)) → sites ≡ first_sites_from c 0 ps → sent ≡ []
     → run_of c sites sent ≡ record { config = c; programs = ps; world = opening managed_ops c ps }
 first_run-of c ps sites sent is none =
     ap (λ l. run_of c l sent) is ∙ ap (run_of c (first_sites_from c 0 ps)) none ∙ first_run c ps
 
 -- a running world has programs for its nodes, and its strings spell frames
-pub running_each : (c : Config) (sites : List Shown) (sent : List (List ℕ)) → IsRunning c sites sent
+pub running_each : (c : Config) (sites : List SiteView) (sent : List (List ℕ)) → IsRunning c sites sent
     → length (programs_of sites) ≡ c.nodes
 running_each c sites sent h =
-    length-map sites (λ (s : Shown). s.node.core.process.program) ∙ h.count
+    length-map sites (λ (s : SiteView). s.node.core.process.program) ∙ h.count
 
-pub running_spelled : (c : Config) (sites : List Shown) (sent : List (List ℕ))
+pub running_spelled : (c : Config) (sites : List SiteView) (sent : List (List ℕ))
     → IsRunning c sites sent → AllSpell c (world_of sites sent)
 running_spelled c sites sent h =
     spelled-led c (programs_of sites) h.limits (running_each c sites sent h) h.reached.0
     (world_of sites sent) h.reached.1
 
 -- a world that made one more move runs on
-pub runs_on : (c : Config) (sites sites' : List Shown) (sent sent' : List (List ℕ)) (step : Move)
+pub runs_on : (c : Config) (sites sites' : List SiteView) (sent sent' : List (List ℕ)) (step : Move)
     → IsRunning c sites sent → AreSites c sites' → length sites' ≡ c.nodes
     → programs_of sites' ≡ programs_of sites
     → worlds.Moves (host_rules managed_ops) c (world_of sites sent) step (world_of sites' sent')

@@ -18,7 +18,7 @@ use Rattle.proof_headline.specs.RunState.{Run}
 use Rattle.proof_headline.specs.proof_progress.Still.{IsStill}
 use Rattle.ivy_world.specs.Runs.{IsRefusedBy, CannotBeNamed}
 use Rattle.ivy_world.specs.Settling.{HasStopped}
-use Rattle.ivy_site.specs.Shown.{Shown}
+use Rattle.ivy_site.specs.SiteView.{SiteView}
 use Rattle.ivy_site.specs.Sites.{Awaits}
 
 -- a turn of the node does nothing, and it has stopped
@@ -76,26 +76,26 @@ IsRoundMove c w turn (Deliver index to) =
 IsRoundMove c w turn (Pulse i j) = ⊥
 
 -- the string is under way to the site in this place: it is for that one, which awaits it
-pub record IsUnderWayTo (sites : List Shown) (string : List ℕ) (to : ℕ) : Type 0 where
+pub record IsUnderWayTo (sites : List SiteView) (string : List ℕ) (to : ℕ) : Type 0 where
   pub dest : dest_of string ≡ Some to
-  pub site : Shown
+  pub site : SiteView
   pub there : slice_get sites to ≡ Some site
   pub awaited : Awaits site string
 
 -- the string in this place is
-pub record IsUnderWay (sites : List Shown) (sent : List (List ℕ)) (index to : ℕ) : Type 0 where
+pub record IsUnderWay (sites : List SiteView) (sent : List (List ℕ)) (index to : ℕ) : Type 0 where
   pub string : List ℕ
   pub there : slice_get sent index ≡ Some string
   pub way : IsUnderWayTo sites string to
 
 -- none is from the one place on, up to the other one
-abbrev pub HasNoneUnderWay : List Shown → List (List ℕ) → ℕ → ℕ → Type 0
+abbrev pub HasNoneUnderWay : List SiteView → List (List ℕ) → ℕ → ℕ → Type 0
 HasNoneUnderWay sites sent from end =
     (index to : ℕ) → from ≤ index → index < end → IsUnderWay sites sent index to → ⊥
 
 -- the next move of a round in which so many nodes had a turn: the first string under way is
 -- delivered, or where none is, or one had a turn, the next one has its turn
-abbrev pub IsNextMove : List Shown → List (List ℕ) → ℕ → ℕ → Move → Type 0
+abbrev pub IsNextMove : List SiteView → List (List ℕ) → ℕ → ℕ → Move → Type 0
 IsNextMove sites sent from turn (Turn i) =
     (i ≡ turn) × (turn ≡ 0 → HasNoneUnderWay sites sent from (length sent))
 IsNextMove sites sent from turn (Deliver index to) =
@@ -103,8 +103,8 @@ IsNextMove sites sent from turn (Deliver index to) =
 IsNextMove sites sent from turn (Pulse i j) = ⊥
 
 -- all that the site sent to the others was delivered there
-abbrev pub IsDeliveredFrom : List Shown → ℕ → Type 0
-IsDeliveredFrom sites i = (j : ℕ) (s t : Shown) → i ≢ j → slice_get sites i ≡ Some s
+abbrev pub IsDeliveredFrom : List SiteView → ℕ → Type 0
+IsDeliveredFrom sites i = (j : ℕ) (s t : SiteView) → i ≢ j → slice_get sites i ≡ Some s
     → slice_get sites j ≡ Some t → (peer_at t.node.link i).delivered ≡ (peer_at s.node.link j).sent
 
 -- a turn is counted, and that it did anything is remembered

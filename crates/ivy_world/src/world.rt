@@ -1,5 +1,5 @@
 //! All nodes, and every string ever sent between them.
-ghost use Rattle.std.specs.Prelude.{◌≡◌, ◌+◌, ◌<◌, ◌≤◌, ◌↔◌, ◌++◌, ◌∷◌, [], true, false, Some, Ok, length, slice_get, slice_set, vec_len, vec_capacity, IsTrue, IfOk, IfErr, IfNone, IfSome, OnOk, OnErr, IsErrOf, IsOkUnless};
+ghost use Rattle.std.specs.Prelude.{◌≡◌, ◌+◌, ◌*◌, ◌<◌, ◌≤◌, ◌↔◌, ◌++◌, ◌∷◌, [], true, false, Some, Ok, length, slice_get, slice_set, vec_len, vec_capacity, IsTrue, IfOk, IfErr, IfNone, IfSome, OnOk, OnErr, IsErrOf, IsOkUnless, MatchResult};
 ghost use Rattle.ivy_model.specs.Config.{IsConfig, IsNarrow};
 ghost use Rattle.ivy_model.specs.Legal.{HasWidth};
 ghost use Rattle.ivy_program.specs.Owned.{IsFree};
@@ -11,7 +11,9 @@ ghost use Rattle.ivy_site.specs.ivy_host.Hosts.{host_rules};
 ghost use Rattle.ivy_site.specs.ivy_host.Holding.{AllSpell};
 ghost use Rattle.proof_headline.specs.Keeping.{Keeps};
 ghost use Rattle.ivy_site.specs.ivy_host.Openings.{opening};
-ghost use Rattle.ivy_world.specs.Handed.{own_code, run_handed};
+ghost use Rattle.ivy_model.specs.Rows.{calls_of, numbers_in, row};
+ghost use Rattle.ivy_site.specs.Calls.{MayCallTogether, row_together, words_together};
+ghost use Rattle.ivy_world.specs.Handed.{BeginsBlock, IsRefusedBlock, own_code, run_handed};
 ghost use Rattle.ivy_world.specs.Runs.{made_of, IsRefusedBy, IsNamedUnless, IsSameRun, IsRefusedAt, IsNamedAt, IsExplainedOn};
 ghost use Rattle.proof_headline.specs.Reached.{IsLedTo, IsReached};
 ghost use Rattle.ivy_site.specs.Handed.{site_handed};
@@ -19,12 +21,12 @@ ghost use Rattle.ivy_site.specs.Sites.{await_in};
 ghost use Rattle.proof_headline.specs.proof_progress.Still.{HasNothingUnderWay};
 ghost use Rattle.ivy_world.specs.Settling.{StandsStill, HasSettledBy, Settles, HasSettled, IsFoundStill};
 ghost use Rattle.ivy_world.specs.Rounds.{DoesNothing, DoesSomething, IsComing, NoneComes, IsRoundMove, IsInRound, StaysStill, HasMadeOne, HasRefusedOne};
-ghost use Rattle.ivy_model.specs.Wants.{IsWant};
-ghost use Rattle.ivy_world.specs.WorldSites.{programs_of, world_of, AreSites, IsMemory, IsWorldWant, AreFirst};
+ghost use Rattle.ivy_model.specs.Wants.{RanOut};
+ghost use Rattle.ivy_world.specs.WorldSites.{programs_of, world_of, AreSites, HaveBegun, IsMemory, IsRefusedRow, IsWorldWant, AreFirst};
 
 use crate::rest::Rest;
 use crate::round::{Round, is_delivered, next_move};
-use ivy_model::{Call, Config, Fault, MOST_NODES, Record};
+use ivy_model::{Call, Config, Fault, MOST_NODES, Record, Row};
 use ivy_moves::ivy_link::MOST_AHEAD;
 use ivy_moves::{Keep, Move};
 use ivy_program::Program;
@@ -176,6 +178,33 @@ fn hand<A: Allocator + Copy>(
     sites[node as usize].hand(call)
 }
 
+/// Own code at a site makes calls in a row together and has a turn, in which the first begins and waits [1, 17]. It says how
+/// many. What the turn sends is put on the wire.
+fn begin_block<A: Allocator + Copy>(
+    sites: &mut Vec<Site<A>, A>,
+    sent: &mut Vec<Bytes<A>, A>,
+    node: u64,
+    kind: Row,
+    addr: u64,
+    words: usize,
+    bytes: &[u8],
+) -> Result<usize, Fault>
+    requires node { node < length sites.old.items }
+    requires waits { IfSome (slice_get sites.old.items node) (λ s. s.waiting ≡ []) }
+    ensures done { MatchResult result (λ n. HaveBegun node (calls_of (row kind 0 addr (numbers_in n bytes.now))) sites.old.items sent.old.items sites.new.items sent.new.items) (λ _. (sites.new.items ≡ sites.old.items) × (sent.new.items ≡ sent.old.items)) }
+    ensures many { IfOk result (λ k. IfSome (slice_get sites.old.items node) (λ s. MayCallTogether s.node.core.process s.node.core.history addr (length bytes.now) → k ≡ row_together s kind addr words (length bytes.now))) }
+    ensures busy { IfSome (slice_get sites.old.items node) (λ s. (MayCallTogether s.node.core.process s.node.core.history addr (length bytes.now) → ⊥) → MatchResult result (λ k. k ≡ 0) IsMemory) }
+    ensures cause { IfErr result (λ fault. IfSome (slice_get sites.old.items node) (λ s. IsRefusedRow (calls_of (row kind 0 addr (numbers_in (row_together s kind addr words (length bytes.now)) bytes.now))) s fault)) }
+    ensures fits { IfOk result (λ n. (n ≤ words) × (8 * n ≤ length bytes.now)) }
+    ensures want { IfErr result RanOut }
+{
+    sent.reserve(MOST_SENT)?;
+    let site = &mut sites[node as usize];
+    let begun = site.call_row(kind, addr, words, bytes)?;
+    collect(site, sent);
+    Ok(begun)
+}
+
 /// The sites of own code, as many as there are nodes.
 fn open_sites<A: Allocator + Copy>(alloc: A, config: &Config) -> Result<Vec<Site<A>, A>, Fault>
     requires limits { IsConfig config.now }
@@ -316,6 +345,70 @@ impl<A: Allocator + Copy> World<A> {
         ensures memory { IsOkUnless result Fault.Memory }
     {
         hand(&mut self.sites, node, call)
+    }
+
+    /// Own code at a node makes calls in a row together, on words of 8 bytes from `addr` on, and the node has a turn, in which
+    /// the first of them begins and waits [1, 17]: as many as `words`, as `bytes` has whole words, and as lie in the page of the
+    /// address. It says how many. Each is a load, or a store of its word of `bytes`, the highest byte first; of loads `bytes`
+    /// says no more than how many there may be. Later turns of the node ask for their replies, one each. The node is one of
+    /// the world's.
+    ///
+    /// Where that is none, nothing was done. So it is where the first word need not wait, as its page is there or it is no word
+    /// of the heap: then [`World::hand`] of a call serves it. So it is, too, where the node may make no call, which
+    /// [`World::is_free`] says, and where the calls or their addresses can't be counted in 64 bits.
+    ///
+    /// A refused row was not made, and changes nothing. It is 17 only where there are calls to make and their turn would need
+    /// a message number above the greatest one, and else 1, which can come before it is known that there is none.
+    ///
+    /// It is those calls handed in, in one row, and one [`World::run`] of a turn, of which all is promised that is of any move.
+    pub fn hand_block(
+        &mut self,
+        node: u64,
+        kind: Row,
+        addr: u64,
+        words: usize,
+        bytes: &[u8],
+    ) -> Result<usize, Fault>
+        requires node { node < self.old.config.nodes }
+        ensures done { MatchResult result (λ n. BeginsBlock node (calls_of (row kind 0 addr (numbers_in n bytes.now))) self.old self.new) (λ _. self.new ≡ self.old) }
+        ensures many { IfOk result (λ k. IfSome (slice_get self.old.world.nodes node) (λ n. MayCallTogether n.core.process n.core.history addr (length bytes.now) → k ≡ words_together self.old.config n.core.memory kind addr words (length bytes.now))) }
+        ensures busy { IfSome (slice_get self.old.world.nodes node) (λ n. (MayCallTogether n.core.process n.core.history addr (length bytes.now) → ⊥) → MatchResult result (λ k. k ≡ 0) IsMemory) }
+        ensures cause { IfErr result (λ fault. IfSome (slice_get self.old.world.nodes node) (λ n. IsRefusedBlock node (calls_of (row kind 0 addr (numbers_in (words_together self.old.config n.core.memory kind addr words (length bytes.now)) bytes.now))) self.old fault)) }
+        ensures fits { IfOk result (λ n. (n ≤ words) × (8 * n ≤ length bytes.now)) }
+        ensures keeps { Keeps self.new }
+        ensures want { IfErr result RanOut }
+    {
+        let result = self.hand_over_block(node, kind, addr, words, bytes);
+        self.keeps();
+        result
+    }
+
+    /// Has the node's site make those calls.
+    fn hand_over_block(
+        &mut self,
+        node: u64,
+        kind: Row,
+        addr: u64,
+        words: usize,
+        bytes: &[u8],
+    ) -> Result<usize, Fault>
+        requires node { node < self.old.config.nodes }
+        ensures done { MatchResult result (λ n. BeginsBlock node (calls_of (row kind 0 addr (numbers_in n bytes.now))) self.old self.new) (λ _. self.new ≡ self.old) }
+        ensures many { IfOk result (λ k. IfSome (slice_get self.old.world.nodes node) (λ n. MayCallTogether n.core.process n.core.history addr (length bytes.now) → k ≡ words_together self.old.config n.core.memory kind addr words (length bytes.now))) }
+        ensures busy { IfSome (slice_get self.old.world.nodes node) (λ n. (MayCallTogether n.core.process n.core.history addr (length bytes.now) → ⊥) → MatchResult result (λ k. k ≡ 0) IsMemory) }
+        ensures cause { IfErr result (λ fault. IfSome (slice_get self.old.world.nodes node) (λ n. IsRefusedBlock node (calls_of (row kind 0 addr (numbers_in (words_together self.old.config n.core.memory kind addr words (length bytes.now)) bytes.now))) self.old fault)) }
+        ensures fits { IfOk result (λ n. (n ≤ words) × (8 * n ≤ length bytes.now)) }
+        ensures want { IfErr result RanOut }
+    {
+        begin_block(
+            &mut self.sites,
+            &mut self.sent,
+            node,
+            kind,
+            addr,
+            words,
+            bytes,
+        )
     }
 
     /// The call that a node has in progress; the node is one of the world's. It takes no memory.
@@ -466,7 +559,7 @@ impl<A: Allocator + Copy> World<A> {
         ensures round { OnOk result (IsInRound self.new round.new) }
         ensures still { result ≡ Ok true → StandsStill self.new }
         ensures rests { result ≡ Ok false → StaysStill self.old round.old self.new round.new }
-        ensures refused { IfErr result (λ fault. IsWant fault × (self.new ≡ self.old) × HasRefusedOne self.new fault) }
+        ensures refused { IfErr result (λ fault. RanOut fault × (self.new ≡ self.old) × HasRefusedOne self.new fault) }
     {
         self.keeps();
         let step = self.next_move(*round);
@@ -488,7 +581,7 @@ impl<A: Allocator + Copy> World<A> {
         ensures made { HasSettledBy moves result self.old self.new }
         ensures still { result ≡ Ok Rest.Still → StandsStill self.new }
         ensures found { IsFoundStill moves result self.old }
-        ensures want { IfErr result (λ e. IsWant e.1) }
+        ensures want { IfErr result (λ e. RanOut e.1) }
     {
         let mut round = Round::first();
         for made in 0..moves {
@@ -514,7 +607,7 @@ impl<A: Allocator + Copy> World<A> {
         ensures stays { IsSameRun self.old self.new }
         ensures began { IsReached self.old }
         ensures made { Settles moves result self.old self.new }
-        ensures want { IfErr result (λ e. IsWant e.1) }
+        ensures want { IfErr result (λ e. RanOut e.1) }
         ensures keeps { Keeps self.new }
 
         // At `Rest::Still` nothing is under way, and no node's turn does anything: its program has ended, or its call in

@@ -11,7 +11,7 @@ use Rattle.ivy_simulation.specs.Nodes.{outputs_text, numbered_texts, has_ended}
 use Rattle.ivy_texts.specs.Lines.{end_line}
 use Rattle.ivy_process.specs.ivy_join.ivy_lines.declared.log.Head.{Head}
 use Rattle.ivy_process.specs.ivy_join.ivy_lines.Spelled.{SpellsLog}
-use Rattle.ivy_process.specs.ivy_join.ivy_site.Shown.{Shown}
+use Rattle.ivy_process.specs.ivy_join.ivy_site.SiteView.{SiteView}
 use Rattle.ivy_process.specs.ivy_join.Joined.{AreHeads, AreJoined, AreNoParts, SaysNoParts}
 use Rattle.ivynode.specs.declared.failure.Failure.{Failure}
 use Rattle.ivynode.specs.declared.failure.Failure.TheVariants.{Unjoined}
@@ -25,15 +25,15 @@ abbrev pub IsSpelled : Head → List Event → Type 0
 IsSpelled head events = (text : List ℕ) × SpellsLog text head events
 
 -- what the program of each node printed
-abbrev pub outputs_in : List Shown → List (List ℕ)
+abbrev pub outputs_in : List SiteView → List (List ℕ)
 outputs_in sites = map (λ s. s.node.core.process.state.output) sites
 
 -- the line that says whether the program of the node has ended
-abbrev pub end_in : ℕ → Shown → List ℕ
+abbrev pub end_in : ℕ → SiteView → List ℕ
 end_in number s = end_line number (has_ended s.node.core.process)
 
 -- these lines of all nodes
-abbrev pub ends_in : List Shown → List ℕ
+abbrev pub ends_in : List SiteView → List ℕ
 ends_in sites = numbered_texts end_in 0 sites
 
 -- logs of these nodes with these events were joined: they are the parts of one run of the programs. What the
@@ -42,7 +42,7 @@ pub record PrintsRun (programs : List Program) (heads : List Head) (events : Lis
     (old new : Option (List ℕ)) : Type 0 where
   pub config : Config
   pub own : AreHeads config 0 heads
-  pub sites : List Shown
+  pub sites : List SiteView
   pub joined : AreJoined config programs (map marks events) sites
   pub printed : Appends old new (outputs_text (outputs_in sites) ++ ends_in sites)
 
@@ -68,6 +68,6 @@ pub record PrintsJoined (old new : Option (List ℕ)) : Type 0 where
   pub events : List (List Event)
   pub logs : AllZip IsSpelled heads events
   pub own : AreHeads config 0 heads
-  pub sites : List Shown
+  pub sites : List SiteView
   pub joined : AreJoined config programs (map marks events) sites
   pub printed : Appends old new (outputs_text (outputs_in sites) ++ ends_in sites)

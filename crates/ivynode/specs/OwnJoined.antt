@@ -7,7 +7,7 @@ use Rattle.ivy_simulation.specs.Nodes.{numbered_texts}
 use Rattle.ivy_texts.specs.Printed.{then_number}
 use Rattle.ivy_process.specs.ivy_join.ivy_lines.declared.log.Head.{Head}
 use Rattle.ivy_process.specs.ivy_join.ivy_lines.Own.{Entry, SpellsOwnLog}
-use Rattle.ivy_process.specs.ivy_join.ivy_site.Shown.{Shown}
+use Rattle.ivy_process.specs.ivy_join.ivy_site.SiteView.{SiteView}
 use Rattle.ivy_process.specs.ivy_join.Joined.{AreHeads}
 use Rattle.ivy_process.specs.ivy_join.Owned.{AreAllTold, AreAnswered, AreOwnJoined}
 
@@ -20,11 +20,11 @@ abbrev pub answered_line : ℕ → ℕ → List ℕ
 answered_line node count =
     codes "node" ++ then_number node ++ codes ": " ++ decimal count ++ codes " answered" ++ 10 ∷ []
 
-abbrev pub answered_in : ℕ → Shown → List ℕ
+abbrev pub answered_in : ℕ → SiteView → List ℕ
 answered_in number s = answered_line number (length s.node.core.history)
 
 -- these lines of all nodes
-abbrev pub all_answered_in : List Shown → List ℕ
+abbrev pub all_answered_in : List SiteView → List ℕ
 all_answered_in sites = numbered_texts answered_in 0 sites
 
 -- logs of own code, each as some text spells it, were joined: they are the parts of one run of the programs that the
@@ -36,7 +36,7 @@ pub record PrintsOwnJoined (old new : Option (List ℕ)) : Type 0 where
   pub logs : List (List Entry)
   pub spelled : AllZip IsOwnSpelled heads logs
   pub own : AreHeads config 0 heads
-  pub sites : List Shown
+  pub sites : List SiteView
   pub joined : AreOwnJoined config logs sites
   pub answered : AreAllTold logs sites → AreAnswered config logs
   pub printed : Appends old new (all_answered_in sites)

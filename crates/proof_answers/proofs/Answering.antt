@@ -14,13 +14,13 @@ use Rattle.ivy_moves.specs.ivy_link.Paired.{link_at}
 use Rattle.ivy_moves.specs.declared.Move.{Move}
 use Rattle.ivy_moves.specs.declared.Move.TheVariants.{Turn}
 use Rattle.ivy_moves.specs.Cores.{Core, Outcome}
-use Rattle.ivy_moves.specs.Following.{links_of, ordered_of, Follows, IsTame, FollowsStep}
+use Rattle.ivy_moves.specs.Following.{links_of, fifo_of, Follows, IsWellBehaved, FollowsStep}
 use Rattle.ivy_moves.specs.Nodes.{Node, Effect, posting, turned, turned_to}
-use Rattle.ivy_moves.specs.Ordered.{Ordered}
+use Rattle.ivy_moves.specs.FifoWorld.{FifoWorld}
 use Rattle.ivy_moves.specs.Worlds.{World, is_named, turn_of as turn_made_of, made_by, moved, Moves, Leads}
 use Rattle.ivy_moves.proofs.Following.{went}
 use Rattle.ivy_moves.proofs.Kept.{moves-keep}
-use Rattle.ivy_moves.proofs.Places.{guarded, core-of, link-of, set-there}
+use Rattle.ivy_moves.proofs.Places.{guarded, core_of, link_of, set-there}
 use Rattle.proof_progress.specs.Answering.{AreAllDelivered}
 use Rattle.proof_progress.specs.Still.{HasNothingUnderWay}
 use Rattle.proof_progress.specs.Unblocked.{Stands, waits, replied, reached, AreUnblocked}
@@ -29,9 +29,9 @@ use Rattle.proof_progress.specs.ivy_host.Managers.{Managed, managed_ops}
 use Rattle.proof_progress.specs.ivy_host.ManagedLaws.{managed_laws}
 use Rattle.proof_progress.specs.ivy_host.Sound.{IsSoundHost}
 use Rattle.proof_progress.specs.proof_refinement.Runs.{IsReachedInOrder, FollowsInOrder}
-use Rattle.proof_progress.proofs.of_ivy_host.Tame.{tame}
+use Rattle.proof_progress.proofs.of_ivy_host.WellBehaved.{well_behaved}
 use Rattle.proof_progress.proofs.of_proof_consistency.Faithful.{map-places}
-use Rattle.proof_progress.proofs.of_proof_refinement.HostTurns.{turn-cases}
+use Rattle.proof_progress.proofs.of_proof_refinement.HostTurns.{turn_cases}
 use Rattle.proof_progress.proofs.of_proof_refinement.Runs.{led_in_order}
 use Rattle.proof_progress.proofs.Ending.{way_most}
 use Rattle.proof_progress.proofs.Lowering.{work, way}
@@ -78,28 +78,28 @@ module _ (c : Config) (limits : IsConfig c) (programs : List Program)
   abbrev Follower : World (Host Managed) → Type 0
   Follower w = FollowsInOrder managed_ops c programs w
 
-  abbrev order_of : (w : World (Host Managed)) → Follower w → Ordered (Host Managed)
-  order_of w f = ordered_of w f.posted
+  abbrev order_of : (w : World (Host Managed)) → Follower w → FifoWorld (Host Managed)
+  order_of w f = fifo_of w f.posted
 
-  tamed : IsTame (host_rules managed_ops) c (IsSoundHost managed_ops c)
-  tamed = tame managed_laws c
+  keeps_well_behaved : IsWellBehaved (host_rules managed_ops) c (IsSoundHost managed_ops c)
+  keeps_well_behaved = well_behaved managed_laws c
 
   -- a world that moves lead to from one that followed this
-  record IsFrom (o : Ordered (Host Managed)) (w : World (Host Managed))
+  record IsFrom (o : FifoWorld (Host Managed)) (w : World (Host Managed))
       (posted : ℕ → ℕ → List Message) : Type 0 where
-    reached : IsReachedInOrder managed_ops c programs (ordered_of w posted)
-    after : After c o (ordered_of w posted)
+    reached : IsReachedInOrder managed_ops c programs (fifo_of w posted)
+    after : After c o (fifo_of w posted)
 
-  step_from : (o : Ordered (Host Managed)) (w v : World (Host Managed))
+  step_from : (o : FifoWorld (Host Managed)) (w v : World (Host Managed))
       (posted : ℕ → ℕ → List Message) → Follows c (IsSoundHost managed_ops c) w posted
       → IsFrom o w posted
       → (next : FollowsStep (host_rules managed_ops) c (IsSoundHost managed_ops c) w posted v)
       → IsFrom o v next.0
   step_from o w v posted follows from next = record {
-    reached = (ordered_of w posted ∷ from.reached.0, (from.reached.1, next.2));
+    reached = (fifo_of w posted ∷ from.reached.0, (from.reached.1, next.2));
     after =
-        after_then c o (ordered_of w posted) (ordered_of v next.0) from.after
-        (by_step c limits programs many (ordered_of w posted) from.reached (ordered_of v next.0)
+        after_then c o (fifo_of w posted) (fifo_of v next.0) from.after
+        (by_step c limits programs many (fifo_of w posted) from.reached (fifo_of v next.0)
         next.2);
   }
 
@@ -112,7 +112,7 @@ module _ (c : Config) (limits : IsConfig c) (programs : List Program)
       → Leads (host_rules managed_ops) c w moves v → Led w f v
   led_after w v f moves led =
       let k =
-      moves-keep (host_rules managed_ops) c (IsSoundHost managed_ops c) limits tamed
+      moves-keep (host_rules managed_ops) c (IsSoundHost managed_ops c) limits keeps_well_behaved
       (IsFrom (order_of w f)) (step_from (order_of w f)) w v moves (
         f.posted,
         f.follows,
@@ -180,7 +180,7 @@ module _ (c : Config) (limits : IsConfig c) (programs : List Program)
       (there : slice_get w.nodes i ≡ Some n) (called : Call)
       (asked : n.core.memory.asked ≡ Some called) (due : IsDue w n.core.memory.asked)
       (round : IsRound c i w end) where
-    o : Ordered (Host Managed)
+    o : FifoWorld (Host Managed)
     o = order_of w f
 
     told : IsToldBy managed_ops c (order_of w f)
@@ -188,7 +188,7 @@ module _ (c : Config) (limits : IsConfig c) (programs : List Program)
         reached_told managed_ops managed_laws c limits programs many (order_of w f) f.reached
 
     here : slice_get (order_of w f).cores i ≡ Some n.core
-    here = core-of w.nodes i n there
+    here = core_of w.nodes i n there
 
     -- where nothing was delivered, nothing had been under way
     nothing : (g : Follower end) → (order_of end g).delivered ≡ (order_of w f).delivered
@@ -209,9 +209,9 @@ module _ (c : Config) (limits : IsConfig c) (programs : List Program)
         let all : (peer_at a.link y).sent ≤ (peer_at found.0.link x).delivered =
         round.delivered x y a found.0 apart at_x found.1 in
         let ends : (order_of end g).delivered x y ≡ (peer_at found.0.link x).delivered =
-        ap (λ (l : Linked). (peer_at l x).delivered) (link-of end.nodes y found.0 found.1) in
+        ap (λ (l : Linked). (peer_at l x).delivered) (link_of end.nodes y found.0 found.1) in
         let was : (order_of w f).delivered x y ≡ (peer_at b.link x).delivered =
-        ap (λ (l : Linked). (peer_at l x).delivered) (link-of w.nodes y b at_y) in
+        ap (λ (l : Linked). (peer_at l x).delivered) (link_of w.nodes y b at_y) in
         let equal : (order_of end g).delivered x y ≡ (order_of w f).delivered x y =
         ap (λ (d : ℕ → ℕ → ℕ). d x y) same in
         let most = f.follows.paired.delivered x y (omega (arith, in_x, long))
@@ -219,7 +219,7 @@ module _ (c : Config) (limits : IsConfig c) (programs : List Program)
         let count = f.follows.paired.counted x y (omega (arith, in_x, long))
         (omega (arith, in_y, long)) in
         let link : (peer_at (link_at (links_of w) x) y).sent ≡ (peer_at a.link y).sent =
-        ap (λ (l : Linked). (peer_at l y).sent) (link-of w.nodes x a at_x) in
+        ap (λ (l : Linked). (peer_at l y).sent) (link_of w.nodes x a at_x) in
         omega (arith, all, ends, was, equal, most, count, link)
 
     -- then its next turn does something
@@ -261,11 +261,11 @@ module _ (c : Config) (limits : IsConfig c) (programs : List Program)
           let now : slice_get (order_of v second.follows).cores i ≡ Some n.core =
           b.calls i n.core called before asked in
           let same : n.core ≡ at_v.0.core =
-          same_Some n.core at_v.0.core (sym now ∙ core-of v.nodes i at_v.0 at_v.1) in
+          same_Some n.core at_v.0.core (sym now ∙ core_of v.nodes i at_v.0 at_v.1) in
           let sound = told.faithful.sound.sound i n.core here in
           no_change c n.core out.0 called
           (turn_does managed_ops c limits i n.core sound out.0
-          (turn-cases managed_ops c i n.core sound out.0 out.1) out.1
+          (turn_cases managed_ops c i n.core sound out.0 out.1) out.1
           (told.pursued i n.core here)) asked (sym (same ∙ at_v.2))
 
       progresses : Progress c (order_of w f) (order_of end rest.follows)
@@ -360,20 +360,20 @@ module _ (c : Config) (limits : IsConfig c) (programs : List Program)
       }
 
   -- the number of rounds: more of them than there are ways to lower what is left
-  abbrev scale : Ordered (Host Managed) → ℕ
+  abbrev scale : FifoWorld (Host Managed) → ℕ
   scale u = (c.nodes + 1) * whole c u + 1
 
-  abbrev rank : ℕ → Ordered (Host Managed) → ℕ
+  abbrev rank : ℕ → FifoWorld (Host Managed) → ℕ
   rank k u = k * whole c u + way c u
 
-  way_few : (u : Ordered (Host Managed)) → way c u ≤ (c.nodes + 1) * whole c u
+  way_few : (u : FifoWorld (Host Managed)) → way c u ≤ (c.nodes + 1) * whole c u
   way_few u =
       let a : way c u ≤ (c.nodes + 1) * work c u cost = way_most c u cost in
       let b : (c.nodes + 1) * work c u cost ≤ (c.nodes + 1) * whole c u =
       mul-le-mul_left (c.nodes + 1) (let x : work c u cost ≤ whole c u = omega arith in x) in
       omega (arith, a, b)
 
-  rank_falls : (k : ℕ) (u v : Ordered (Host Managed)) → scale u ≤ k → Falls c u v
+  rank_falls : (k : ℕ) (u v : FifoWorld (Host Managed)) → scale u ≤ k → Falls c u v
       → (rank k v < rank k u) × (scale v ≤ k)
   rank_falls k u v few (inl less) =
       let a : k * (whole c v + 1) ≤ k * whole c u =
@@ -442,7 +442,7 @@ module _ (c : Config) (limits : IsConfig c) (programs : List Program)
 
         at_mid : (m : Host Managed)
             × (slice_get (order_of mid round.follows).cores i ≡ Some m) × IsLaterAt n.core m
-        at_mid = round.later.at i n.core (core-of w.nodes i n there)
+        at_mid = round.later.at i n.core (core_of w.nodes i n there)
 
         goes_on : Falls c (order_of w f) (order_of mid round.follows)
             → (more : List Record) → at_mid.2.more ≡ more → Answers w f end
@@ -450,7 +450,7 @@ module _ (c : Config) (limits : IsConfig c) (programs : List Program)
           node = i;
           before = n.core;
           after = at_mid.0;
-          there = core-of w.nodes i n there;
+          there = core_of w.nodes i n there;
           now = at_mid.1;
           longer = (let a : length at_mid.0.history
               ≡ length n.core.history + length (x ∷ more) =
@@ -504,10 +504,10 @@ pub some_answered : SomeAnswered
 some_answered c programs w of i n there due =
     let f : FollowsInOrder managed_ops c programs w =
     led_in_order managed_laws c of.limits programs of.many of.moves w of.led in
-    let k : ℕ = scale c of.limits programs of.many (ordered_of w f.posted) in (
-      suc (rank c of.limits programs of.many k (ordered_of w f.posted)),
+    let k : ℕ = scale c of.limits programs of.many (fifo_of w f.posted) in (
+      suc (rank c of.limits programs of.many k (fifo_of w f.posted)),
       λ end are. answers_some c of.limits programs of.many w end f
           (some_round c of.limits programs of.many i k
-          (suc (rank c of.limits programs of.many k (ordered_of w f.posted))) w end f n there due
+          (suc (rank c of.limits programs of.many k (fifo_of w f.posted))) w end f n there due
           (omega arith) (omega arith) are),
     )

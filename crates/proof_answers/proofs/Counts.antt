@@ -23,10 +23,10 @@ use Rattle.ivy_model.specs.Memory.{Memory, IsSized, first}
 use Rattle.ivy_model.specs.Serves.{ServesKind, access_refusal, with_written}
 use Rattle.ivy_model.proofs.Sizes.{first_sized, leads_sized}
 use Rattle.ivy_program.specs.Programs.{Program}
-use Rattle.ivy_moves.specs.Following.{ordered_of}
+use Rattle.ivy_moves.specs.Following.{fifo_of}
 use Rattle.ivy_moves.specs.Nodes.{Node}
 use Rattle.ivy_moves.specs.Worlds.{World}
-use Rattle.ivy_moves.proofs.Places.{core-of, set-there, set-elsewhere}
+use Rattle.ivy_moves.proofs.Places.{core_of, set-there, set-elsewhere}
 use Rattle.proof_progress.specs.Ending.{sum_below}
 use Rattle.proof_progress.specs.Settled.{HasNoAnswer}
 use Rattle.proof_progress.specs.Unblocked.{Stands, waits, replied, reached, AreUnblocked}
@@ -246,7 +246,7 @@ module _ (c : Config) (limits : IsConfig c) (w : World (Host Managed)) (order : 
 module _ (c : Config) (limits : IsConfig c) (programs : List Program)
     (w : World (Host Managed)) (f : FollowsInOrder managed_ops c programs w) where
   -- what each node was told is in the order
-  module _ (u : AreUnblocked managed_ops c (ordered_of w f.posted).cores) (k : ℕ) where
+  module _ (u : AreUnblocked managed_ops c (fifo_of w f.posted).cores) (k : ℕ) where
     told_part : (i : ℕ) (n : Host Managed) → Stands managed_ops i n u.order u.last
         → (more : List Record) × (part i u.order ≡ n.history ++ more)
     told_part i n (waits none is) = ([], is ∙ sym (append-nil n.history))
@@ -256,10 +256,10 @@ module _ (c : Config) (limits : IsConfig c) (programs : List Program)
     advances_few : (count : ℕ) → slice_get u.last.counts k ≡ Some count → advances k w ≤ count
     advances_few =
         advances_in c limits w u.order u.last u.legal
-        (λ i n there. told_part i n.core (u.each i n.core (core-of w.nodes i n there))) k
+        (λ i n there. told_part i n.core (u.each i n.core (core_of w.nodes i n there))) k
 
   -- so a call that is due has an answer
-  pub no_answer_due : (u : AreUnblocked managed_ops c (ordered_of w f.posted).cores)
+  pub no_answer_due : (u : AreUnblocked managed_ops c (fifo_of w f.posted).cores)
       (a : Option Call) (along : List Call) → IsDue w a → HasNoAnswer u.last (in_progress a along)
       → ⊥
   no_answer_due u None along due none = due
@@ -272,12 +272,12 @@ module _ (c : Config) (limits : IsConfig c) (programs : List Program)
 
   -- and what is due stays due
   module _ (end : World (Host Managed)) (g : FollowsInOrder managed_ops c programs end)
-      (later : AreLater (ordered_of w f.posted) (ordered_of end g.posted)) where
+      (later : AreLater (fifo_of w f.posted) (fifo_of end g.posted)) where
     node_later : (k i : ℕ)
         → advanced_by k (slice_get w.nodes i) ≤ advanced_by k (slice_get end.nodes i)
     node_later k i = elim (slice_get_cases w.nodes i).1 [
       | inl there ↦
-          (let m = later.at i there.0.core (core-of w.nodes i there.0 there.2) in
+          (let m = later.at i there.0.core (core_of w.nodes i there.0 there.2) in
           let node =
           map-places (λ (z : Node (Host Managed)). z.core) end.nodes i m.0 m.1 in
           let b : advanced_by k (slice_get w.nodes i) ≡ ticks k there.0.core.history =

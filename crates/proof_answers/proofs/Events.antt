@@ -8,7 +8,7 @@ use Rattle.ivy_model.specs.declared.Config.{Config}
 use Rattle.ivy_model.specs.Config.{IsConfig}
 use Rattle.ivy_wire.specs.Data.{Message, Frame, Parcel}
 use Rattle.ivy_wire.specs.Spelling.{FitsMessage, FitsParcel, Spells, spelling, frame_kind}
-use Rattle.ivy_wire.specs.Faults.{checked}
+use Rattle.ivy_wire.specs.DecodeErrors.{checked}
 use Rattle.ivy_wire.specs.Reading.{frame_at}
 use Rattle.ivy_wire.proofs.Frames.{spelled_once}
 use Rattle.ivy_moves.specs.ivy_link.declared.Verdict.{Verdict}
@@ -18,7 +18,7 @@ use Rattle.ivy_moves.specs.ivy_link.Accepted.{offered, accepted, delivered_then}
 use Rattle.ivy_moves.specs.ivy_link.Pulsed.{after_pulse, frames_again}
 use Rattle.ivy_moves.specs.ivy_link.Paired.{IsParcelOf}
 use Rattle.ivy_moves.specs.Cores.{Core, Outcome}
-use Rattle.ivy_moves.specs.Following.{IsTame}
+use Rattle.ivy_moves.specs.Following.{IsWellBehaved}
 use Rattle.ivy_moves.specs.Nodes.{Node, Effect, stays, posting, accepting, turned, turned_to, served_next, received, received_as, delivered, delivered_as, pulsing}
 use Rattle.ivy_moves.proofs.of_ivy_link.Holds.{sends-delivered, offered-here, accepted-delivered}
 use Rattle.ivy_moves.proofs.of_ivy_link.Pairs.{offered-next}
@@ -58,7 +58,7 @@ never_other false true is = cc
 never_other false false is = cc
 
 module _ {C : Type 0} (rules : Core C) (c : Config) (Sound : ℕ → C → Type 0) (config : IsConfig c)
-    (tame : IsTame rules c Sound) (there : ℕ → ℕ) (i : ℕ) (n : Node C) (at : IsAt c Sound i n) where
+    (well_behaved : IsWellBehaved rules c Sound) (there : ℕ → ℕ) (i : ℕ) (n : Node C) (at : IsAt c Sound i n) where
   stays_event : IsEvent c there i n (stays n)
   stays_event = record {
     later = later_same there n.link;
@@ -127,7 +127,7 @@ module _ {C : Type 0} (rules : Core C) (c : Config) (Sound : ℕ → C → Type 
   turned_cases None is e eq = subst (IsEvent c there i n) (same_Some (stays n) e eq) stays_event
   turned_cases (Some o) is e eq =
       posting_cases o.after o.posted (has_numbers n.link o.posted) refl
-      (tame.turn i n.core o at.sound is).1 e eq
+      (well_behaved.turn i n.core o at.sound is).1 e eq
 
   pub turn_event : (e : Effect C) → turned rules n ≡ Some e → IsEvent c there i n e
   unfolding turned
@@ -169,7 +169,7 @@ module _ {C : Type 0} (rules : Core C) (c : Config) (Sound : ℕ → C → Type 
     pub parcels_fit : offered n.link f ≡ verdict.Next → (m : Message) → f.body ≡ Some m
         → All (FitsParcel c i) (rules.serve n.core f.source m).posted
     parcels_fit next m is =
-        (tame.serve i f.source n.core m at.sound spells.fits.source
+        (well_behaved.serve i f.source n.core m at.sound spells.fits.source
         (λ e. spells.fits.apart (e ∙ sym (dest_here next))) (carried m is)).1
 
     accepting_cases : (o : Option (Effect C))

@@ -17,7 +17,7 @@ use Rattle.ivy_pagetable.specs.Entries.{put_offs}
 use Rattle.ivy_pagetable.specs.Tables.{entry_at}
 use Rattle.ivy_program.specs.Programs.{Program}
 use Rattle.ivy_moves.specs.ivy_link.Paired.{posted, extended}
-use Rattle.ivy_moves.specs.Ordered.{Ordered, Turns, Delivers, Steps, rests, turns, delivers}
+use Rattle.ivy_moves.specs.FifoWorld.{FifoWorld, Turns, Delivers, Steps, rests, turns, delivers}
 use Rattle.proof_progress.specs.Ending.{sum_below}
 use Rattle.proof_progress.specs.ivy_host.Hosts.{Host, host_rules, serving}
 use Rattle.proof_progress.specs.ivy_host.Managers.{Managed, managed_ops}
@@ -26,7 +26,7 @@ use Rattle.proof_progress.specs.ivy_host.ivy_heap.HeapCalls.{HeapTold, heap_told
 use Rattle.proof_progress.specs.ivy_host.ivy_memory.Memories.{NodeMemory, by_side, by_coherence, memory_handled_as}
 use Rattle.proof_progress.specs.proof_refinement.Nets.{entry_of, manager_of}
 use Rattle.proof_progress.specs.proof_refinement.Runs.{IsReachedInOrder}
-use Rattle.proof_progress.proofs.of_proof_refinement.HostTurns.{HostTurn, turn-cases}
+use Rattle.proof_progress.proofs.of_proof_refinement.HostTurns.{HostTurn, turn_cases}
 use Rattle.proof_progress.proofs.of_proof_refinement.Led.{get_set}
 use Rattle.proof_progress.proofs.Delivered.{under_way}
 use Rattle.proof_progress.proofs.Handling.{Handles, lessens, puts_off, sends_on, Does}
@@ -45,7 +45,7 @@ pub record IsLaterAt (n m : Host Managed) : Type 0 where
       → m.memory.asked ≡ Some called
 
 -- so are all nodes
-pub record AreLater (o u : Ordered (Host Managed)) : Type 0 where
+pub record AreLater (o u : FifoWorld (Host Managed)) : Type 0 where
   pub at : (i : ℕ) (n : Host Managed) → slice_get o.cores i ≡ Some n
       → (m : Host Managed) × (slice_get u.cores i ≡ Some m) × IsLaterAt n m
   pub back : (i : ℕ) (m : Host Managed) → slice_get u.cores i ≡ Some m
@@ -74,10 +74,10 @@ later_then n m l a b = record {
       (none_after a.more b.more none);
 }
 
-pub all_later : (o : Ordered (Host Managed)) → AreLater o o
+pub all_later : (o : FifoWorld (Host Managed)) → AreLater o o
 all_later o = record { at = λ i n is. (n, is, later_none n); back = λ i m is. (m, is) }
 
-pub all_then : (o u v : Ordered (Host Managed)) → AreLater o u → AreLater u v → AreLater o v
+pub all_then : (o u v : FifoWorld (Host Managed)) → AreLater o u → AreLater u v → AreLater o v
 all_then o u v a b = record {
   at = λ i n is. (
       let x = a.at i n is in
@@ -86,7 +86,7 @@ all_then o u v a b = record {
   back = λ i m is. (let y = b.back i m is in a.back i y.0 y.1);
 }
 
-module _ (c : Config) (o : Ordered (Host Managed)) where
+module _ (c : Config) (o : FifoWorld (Host Managed)) where
   abbrev weight_of : Option (Host Managed) → ℕ
   weight_of None = 0
   weight_of (Some n) = host_weight n
@@ -102,7 +102,7 @@ module _ (c : Config) (o : Ordered (Host Managed)) where
   whole = work c o cost + hosts
 
 -- some history is longer
-pub record Grew (o u : Ordered (Host Managed)) : Type 0 where
+pub record Grew (o u : FifoWorld (Host Managed)) : Type 0 where
   pub node : ℕ
   pub before : Host Managed
   pub after : Host Managed
@@ -117,7 +117,7 @@ no_shorter n m l =
     omega (arith, a)
 
 -- so it is seen from before, and later on
-pub grew_later : (o u v : Ordered (Host Managed)) → AreLater o u → Grew u v → Grew o v
+pub grew_later : (o u v : FifoWorld (Host Managed)) → AreLater o u → Grew u v → Grew o v
 grew_later o u v later g =
     let was = later.back g.node g.before g.there in
     let next = later.at g.node was.0 was.1 in
@@ -135,7 +135,7 @@ grew_later o u v later g =
       longer = omega (arith, a, b, d);
     }
 
-pub grew_on : (o u v : Ordered (Host Managed)) → AreLater u v → Grew o u → Grew o v
+pub grew_on : (o u v : FifoWorld (Host Managed)) → AreLater u v → Grew o u → Grew o v
 grew_on o u v later g =
     let last = later.at g.node g.after g.now in
     let a = no_shorter g.after last.0 last.2 in
@@ -149,7 +149,7 @@ grew_on o u v later g =
       longer = omega (arith, a, d);
     }
 
-module _ (c : Config) (o u : Ordered (Host Managed)) where
+module _ (c : Config) (o u : FifoWorld (Host Managed)) where
   abbrev pub Falls : Type 0
   Falls = (whole c u < whole c o) ⊎ ((whole c u ≤ whole c o) × (way c u < way c o))
 
@@ -172,7 +172,7 @@ module _ (c : Config) (o u : Ordered (Host Managed)) where
     pub comes : Progress ⊎ Stood
 
 module _ (c : Config) where
-  pub after_none : (o : Ordered (Host Managed)) → After c o o
+  pub after_none : (o : FifoWorld (Host Managed)) → After c o o
   after_none o = record {
     later = all_later o;
     comes = inr (record {
@@ -184,7 +184,7 @@ module _ (c : Config) where
     });
   }
 
-  falls_then : (o u v : Ordered (Host Managed)) → Falls c o u → Falls c u v → Falls c o v
+  falls_then : (o u v : FifoWorld (Host Managed)) → Falls c o u → Falls c u v → Falls c o v
   falls_then o u v (inl a) (inl b) = inl (omega (arith, a, b))
   falls_then o u v (inl a) (inr b) = (let x = b.0 in inl (omega (arith, a, x)))
   falls_then o u v (inr a) (inl b) = (let x = a.0 in inl (omega (arith, b, x)))
@@ -192,19 +192,19 @@ module _ (c : Config) where
       (let x = a.0 in let y = b.0 in let z = a.1 in let t = b.1 in
       inr (omega (arith, x, y), omega (arith, z, t)))
 
-  falls_on : (o u v : Ordered (Host Managed)) → Falls c o u → Stood c u v → Falls c o v
+  falls_on : (o u v : FifoWorld (Host Managed)) → Falls c o u → Stood c u v → Falls c o v
   falls_on o u v (inl a) s = (let x = s.weight in inl (omega (arith, a, x)))
   falls_on o u v (inr a) s =
       (let x = a.0 in let y = a.1 in let z = s.weight in let t = s.hops in
       inr (omega (arith, x, z), omega (arith, y, t)))
 
-  stood_falls : (o u v : Ordered (Host Managed)) → Stood c o u → Falls c u v → Falls c o v
+  stood_falls : (o u v : FifoWorld (Host Managed)) → Stood c o u → Falls c u v → Falls c o v
   stood_falls o u v s (inl a) = (let x = s.weight in inl (omega (arith, a, x)))
   stood_falls o u v s (inr a) =
       (let x = a.0 in let y = a.1 in let z = s.weight in let t = s.hops in
       inr (omega (arith, x, z), omega (arith, y, t)))
 
-  pub progress_then : (o u v : Ordered (Host Managed)) → AreLater o u → Progress c o u
+  pub progress_then : (o u v : FifoWorld (Host Managed)) → AreLater o u → Progress c o u
       → After c u v → Progress c o v
   progress_then o u v l (grew g) a = grew (grew_on o u v a.later g)
   progress_then o u v l (fell f) a = either a.comes
@@ -214,7 +214,7 @@ module _ (c : Config) where
       either (inl (fell g)) = fell (falls_then o u v f g)
       either (inl (grew g)) = grew (grew_later o u v l g)
 
-  pub then_progress : (o u v : Ordered (Host Managed)) → After c o u → Progress c u v
+  pub then_progress : (o u v : FifoWorld (Host Managed)) → After c o u → Progress c u v
       → AreLater u v → Progress c o v
   then_progress o u v a (grew g) l = grew (grew_later o u v a.later g)
   then_progress o u v a (fell f) l = either a.comes
@@ -224,7 +224,7 @@ module _ (c : Config) where
       either (inl (fell g)) = fell (falls_then o u v g f)
       either (inl (grew g)) = grew (grew_on o u v l g)
 
-  pub stood_then : (o u v : Ordered (Host Managed)) → Stood c o u → Stood c u v → Stood c o v
+  pub stood_then : (o u v : FifoWorld (Host Managed)) → Stood c o u → Stood c u v → Stood c o v
   stood_then o u v s t = record {
     posted = t.posted ∙ s.posted;
     delivered = t.delivered ∙ s.delivered;
@@ -233,7 +233,7 @@ module _ (c : Config) where
     calls = λ i n called is asked. t.calls i n called (s.calls i n called is asked) asked;
   }
 
-  pub after_then : (o u v : Ordered (Host Managed)) → After c o u → After c u v → After c o v
+  pub after_then : (o u v : FifoWorld (Host Managed)) → After c o u → After c u v → After c o v
   after_then o u v a b =
       record { later = all_then o u v a.later b.later; comes = either a.comes b.comes }
     where
@@ -279,7 +279,7 @@ heavier (Some (call.Await k least)) e z = omega arith
 heavier (Some called) e z = omega arith
 
 -- a step that changes one node
-module _ (c : Config) (o u : Ordered (Host Managed)) (x : ℕ) (n m : Host Managed)
+module _ (c : Config) (o u : FifoWorld (Host Managed)) (x : ℕ) (n m : Host Managed)
     (there : slice_get o.cores x ≡ Some n) (cores : u.cores ≡ slice_set o.cores x m)
     (count : length o.cores ≡ c.nodes) where
   core_now : slice_get u.cores x ≡ Some m
@@ -393,16 +393,16 @@ module _ (c : Config) (o u : Ordered (Host Managed)) (x : ℕ) (n m : Host Manag
     }
 
 module _ (c : Config) (limits : IsConfig c) (programs : List Program)
-    (many : length programs ≡ c.nodes) (o : Ordered (Host Managed))
+    (many : length programs ≡ c.nodes) (o : FifoWorld (Host Managed))
     (reached : IsReachedInOrder managed_ops c programs o) where
   told : IsToldBy managed_ops c o
   told = reached_told managed_ops managed_laws c limits programs many o reached
 
   -- what a turn does to the node
-  module _ (u : Ordered (Host Managed)) (x : ℕ) (t : Turns (host_rules managed_ops) o x u) where
+  module _ (u : FifoWorld (Host Managed)) (x : ℕ) (t : Turns (host_rules managed_ops) o x u) where
     turn_is : HostTurn managed_ops c t.core t.outcome
     turn_is =
-        turn-cases managed_ops c x t.core (told.faithful.sound.sound x t.core t.there) t.outcome
+        turn_cases managed_ops c x t.core (told.faithful.sound.sound x t.core t.there) t.outcome
         t.turned
 
     turn_of_host : TurnDoes t.core t.outcome c
@@ -501,7 +501,7 @@ module _ (c : Config) (limits : IsConfig c) (programs : List Program)
     }
 
   -- what a delivery does
-  module _ (u : Ordered (Host Managed)) (source x : ℕ)
+  module _ (u : FifoWorld (Host Managed)) (source x : ℕ)
       (t : Delivers (host_rules managed_ops) o source x u) where
     abbrev served : Host Managed
     served = (serving managed_ops t.core source t.message).after
@@ -569,7 +569,7 @@ module _ (c : Config) (limits : IsConfig c) (programs : List Program)
       comes = inl (fell (falls_by what.2.handles));
     }
 
-  pub by_step : (u : Ordered (Host Managed)) → Steps (host_rules managed_ops) o u → After c o u
+  pub by_step : (u : FifoWorld (Host Managed)) → Steps (host_rules managed_ops) o u → After c o u
   by_step u (rests same) = subst (After c o) (sym same) (after_none c o)
   by_step u (turns x t) = by_turn u x t (turn_of_host u x t)
   by_step u (delivers source x t) = by_delivery u source x t

@@ -17,7 +17,7 @@ use Rattle.ivy_moves.specs.ivy_link.Paired.{posted, IsParcelOf}
 use Rattle.ivy_moves.specs.ivy_link.Pulsed.{numbered, ack_alone, frames_of_pulse, frames_again, owing_nothing, after_pulse}
 use Rattle.ivy_moves.proofs.of_ivy_link.Counting.{has-number}
 use Rattle.ivy_moves.proofs.of_ivy_link.Holds.{sends-delivered, pulsed-delivered}
-use Rattle.ivy_moves.proofs.of_ivy_link.Pairs.{IsSentTo, sent-to}
+use Rattle.ivy_moves.proofs.of_ivy_link.Pairs.{IsSentTo, sent_to}
 use Rattle.ivy_moves.proofs.of_ivy_link.Peers.{accepted-mine, accepted-other}
 use Rattle.ivy_moves.proofs.of_ivy_link.Sending.{sends-me, sends-peers}
 use Rattle.ivy_moves.proofs.Places.{peer-either, peer-there}
@@ -64,7 +64,7 @@ later_sends there nodes i l ps long own = record {
   peers = sends-peers l ps;
   heard = λ j. (
       let s : IsSentTo (peer_at l j) (peer_at (after_sends l ps) j) (posted i j ps) =
-      sent-to i j nodes l ps long own in
+      sent_to i j nodes l ps long own in
       let count = s.count in
       let kept : length (peer_at (after_sends l ps) j).kept
       ≡ length (peer_at l j).kept + length (posted i j ps) =
@@ -73,14 +73,14 @@ later_sends there nodes i l ps long own = record {
       );
   sent = λ j. (
       let s : IsSentTo (peer_at l j) (peer_at (after_sends l ps) j) (posted i j ps) =
-      sent-to i j nodes l ps long own in
+      sent_to i j nodes l ps long own in
       let count = s.count in
       omega (arith, count)
       );
   more = λ j. (let a = sends-delivered l ps j in omega (arith, a));
   keeps = λ j h. (
       let s : IsSentTo (peer_at l j) (peer_at (after_sends l ps) j) (posted i j ps) =
-      sent-to i j nodes l ps long own in
+      sent_to i j nodes l ps long own in
       let count = s.count in
       let kept : length (peer_at (after_sends l ps) j).kept
       ≡ length (peer_at l j).kept + length (posted i j ps) =

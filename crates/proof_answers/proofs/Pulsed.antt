@@ -14,7 +14,7 @@ use Rattle.ivy_moves.specs.ivy_link.Linked.{Peer, peer_at}
 use Rattle.ivy_moves.specs.ivy_link.Pulsed.{numbered, ack_alone, frames_of_pulse}
 use Rattle.ivy_moves.specs.declared.Move.{Move}
 use Rattle.ivy_moves.specs.Cores.{Core}
-use Rattle.ivy_moves.specs.Following.{IsTame}
+use Rattle.ivy_moves.specs.Following.{IsWellBehaved}
 use Rattle.ivy_moves.specs.Nodes.{Node, pulsing}
 use Rattle.ivy_moves.specs.Worlds.{World, gone_on, Moves, Leads}
 use Rattle.proof_progress.specs.ivy_host.Hosts.{Host, host_rules}
@@ -22,7 +22,7 @@ use Rattle.proof_progress.specs.ivy_host.Managers.{Managed, managed_ops}
 use Rattle.proof_progress.specs.ivy_host.ManagedLaws.{managed_laws}
 use Rattle.proof_progress.specs.ivy_host.Openings.{opening}
 use Rattle.proof_progress.specs.ivy_host.Sound.{IsSoundHost}
-use Rattle.proof_progress.proofs.of_ivy_host.Tame.{tame, opening_is}
+use Rattle.proof_progress.proofs.of_ivy_host.WellBehaved.{well_behaved, opening_is}
 use Rattle.proof_answers.specs.Undropped.{NothingIsDropped, IsOfMoves}
 use Rattle.proof_answers.specs.Pulses.{StandAmong, deliveries, last_again, PulsesDeliver, PulsesMoveOn}
 use Rattle.proof_answers.proofs.Told.{come, Stands, IsAfter, kept_few, kept_fits, link_inside, link_here, many_links}
@@ -141,16 +141,16 @@ module _ (c : Config) (i to : ℕ) where
       }
 
 module _ {C : Type 0} (rules : Core C) (c : Config) (Sound : ℕ → C → Type 0) (config : IsConfig c)
-    (tame : IsTame rules c Sound) (i j : ℕ) where
+    (well_behaved : IsWellBehaved rules c Sound) (i j : ℕ) where
   abbrev Good : World C → Type 0
-  Good w = Stands rules c Sound config tame w
+  Good w = Stands rules c Sound config well_behaved w
 
   all_reached : (moves : List Move) (w v : World C) (s : Good w) (place base count : ℕ)
       → AreNumbered c i j w.sent place base count → base ≤ come w i j
       → StandAmong (deliveries j place count) moves → Leads rules c w moves v
       → base + count ≤ come v i j
   all_reached moves w v s place base zero are le among led =
-      let a = (all_after rules c Sound config tame moves w v s led).more i j in
+      let a = (all_after rules c Sound config well_behaved moves w v s led).more i j in
       omega (arith, a, le)
   all_reached [] w v s place base (suc n) are le among led = absurd among
   all_reached (move ∷ moves) w v s place base (suc n) are le among led =
@@ -160,7 +160,7 @@ module _ {C : Type 0} (rules : Core C) (c : Config) (Sound : ℕ → C → Type 
             (let a = after.more i j in omega (arith, a, le)) rest led.2
         | inl both ↦
             (let d =
-            delivery_is rules c Sound config tame w led.0 s place j
+            delivery_is rules c Sound config well_behaved w led.0 s place j
             (subst (λ m. Moves rules c w m led.0) both.0 led.1) in
             let first : IsNumberAt c i j (base + 0 + 1) w.sent (place + 0) = are 0 (omega arith) in
             let there : slice_get w.sent place ≡ Some first.string =
@@ -182,8 +182,8 @@ module _ {C : Type 0} (rules : Core C) (c : Config) (Sound : ℕ → C → Type 
             omega (arith, rest))
       ]
     where
-      after : IsAfter rules c Sound config tame w led.0
-      after = move_after rules c Sound config tame w led.0 s move led.1
+      after : IsAfter rules c Sound config well_behaved w led.0
+      after = move_after rules c Sound config well_behaved w led.0 s move led.1
 
       kept : (k : ℕ) → IsNumberAt c i j (base + k + 1) w.sent (place + k)
           → IsNumberAt c i j (base + k + 1) led.0.sent (place + k)
@@ -209,8 +209,8 @@ module _ {C : Type 0} (rules : Core C) (c : Config) (Sound : ℕ → C → Type 
       → Leads rules c w moves v → told + length (known v j i).kept ≤ (known v j i).sent
   first_heard told [] w v s place n ack among led = absurd among
   first_heard told (move ∷ moves) w v s place n ack among led =
-      let after : IsAfter rules c Sound config tame w led.0 =
-      move_after rules c Sound config tame w led.0 s move led.1 in
+      let after : IsAfter rules c Sound config well_behaved w led.0 =
+      move_after rules c Sound config well_behaved w led.0 s move led.1 in
       elim among [
         | inr rest ↦
             first_heard told moves led.0 v after.stands place n
@@ -225,7 +225,7 @@ module _ {C : Type 0} (rules : Core C) (c : Config) (Sound : ℕ → C → Type 
             }) rest led.2
         | inl both ↦
             (let d =
-            delivery_is rules c Sound config tame w led.0 s place j
+            delivery_is rules c Sound config well_behaved w led.0 s place j
             (subst (λ m. Moves rules c w m led.0) both.0 led.1) in
             let dropped = d.dropped ack.frame ack.string ack.there ack.spells ack.dest in
             let same : known led.0 j ack.frame.source ≡ known led.0 j i =
@@ -233,8 +233,8 @@ module _ {C : Type 0} (rules : Core C) (c : Config) (Sound : ℕ → C → Type 
             let sent = ap (λ (q : Peer). q.sent) same in
             let kept = ap (λ (q : Peer). length q.kept) same in
             let is = ack.ack in
-            let rest : IsAfter rules c Sound config tame led.0 v =
-            all_after rules c Sound config tame moves led.0 v after.stands led.2 in
+            let rest : IsAfter rules c Sound config well_behaved led.0 v =
+            all_after rules c Sound config well_behaved moves led.0 v after.stands led.2 in
             let heard = rest.heard j i in
             omega (arith, dropped, sent, kept, is, heard))
       ]
@@ -242,7 +242,7 @@ module _ {C : Type 0} (rules : Core C) (c : Config) (Sound : ℕ → C → Type 
   module _ (w v end : World C) (s : Good w) (n m : Node C) (apart : i ≢ j)
       (here : slice_get w.nodes i ≡ Some n) (inside_j : j < c.nodes)
       (pulse : gone_on w i (pulsing n j) ≡ v)
-      (after : IsAfter rules c Sound config tame w v) (moves : List Move)
+      (after : IsAfter rules c Sound config well_behaved w v) (moves : List Move)
       (led : Leads rules c v moves end) (there : slice_get end.nodes j ≡ Some m)
       (among : StandAmong (deliveries j (length w.sent) (length (pulsing n j).sent)) moves) where
     abbrev p : Peer
@@ -250,19 +250,19 @@ module _ {C : Type 0} (rules : Core C) (c : Config) (Sound : ℕ → C → Type 
 
     least : p.sent ≤ come w i j + length p.kept
     least =
-        let a = s.told.kept i j apart (link_inside rules c Sound config tame w s i n here)
-        (let l = many_links rules c Sound config tame w s i n here in omega (arith, inside_j, l)) in
+        let a = s.told.kept i j apart (link_inside rules c Sound config well_behaved w s i n here)
+        (let l = many_links rules c Sound config well_behaved w s i n here in omega (arith, inside_j, l)) in
         subst (λ l. (peer_at l j).sent ≤ come w i j + length (peer_at l j).kept)
-        (link_here rules c Sound config tame w s i n here) a
+        (link_here rules c Sound config well_behaved w s i n here) a
 
-    last : IsAfter rules c Sound config tame v end
-    last = all_after rules c Sound config tame moves v end after.stands led
+    last : IsAfter rules c Sound config well_behaved v end
+    last = all_after rules c Sound config well_behaved moves v end after.stands led
 
     pub strings : (pulsing n j).sent ≡ map spelling (frames_of_pulse p.kept i j p)
     unfolding pulsing
     strings =
         ap (λ k. map spelling (frames_of_pulse p.kept k j p))
-        (node_at rules c Sound config tame w s i n here).me
+        (node_at rules c Sound config well_behaved w s i n here).me
 
     reached : (ks : List Message) → p.kept ≡ ks → last_again p ≤ come end i j
     reached [] none =
@@ -275,13 +275,13 @@ module _ {C : Type 0} (rules : Core C) (c : Config) (Sound : ℕ → C → Type 
     reached (x ∷ ks) some =
         let base : ℕ = p.sent - length p.kept in
         let again : List Message = take most_again p.kept in
-        let at = node_at rules c Sound config tame w s i n here in
+        let at = node_at rules c Sound config well_behaved w s i n here in
         let within : length p.kept ≤ p.sent =
-        kept_few rules c Sound config tame w s i n here j inside_j in
+        kept_few rules c Sound config well_behaved w s i n here j inside_j in
         let short : length again ≤ length p.kept =
         (let a = length-take most_again p.kept in omega (arith, a)) in
         let few : p.sent < 2 ^ 64 =
-        subst (λ l. (peer_at l j).sent < 2 ^ 64) (link_here rules c Sound config tame w s i n here)
+        subst (λ l. (peer_at l j).sent < 2 ^ 64) (link_here rules c Sound config well_behaved w s i n here)
         (s.follows.numbers i j) in
         let same : (pulsing n j).sent
         ≡ map spelling (numbered i j p.delivered (p.sent - length p.kept + 1) again) =
@@ -294,7 +294,7 @@ module _ {C : Type 0} (rules : Core C) (c : Config) (Sound : ℕ → C → Type 
         numbered_are c i j p.delivered at.inside inside_j apart (at.small j inside_j) base again
         (omega (arith, within, short, few))
         (all_taken c i most_again p.kept
-        (kept_fits rules c Sound config tame w s i n here j inside_j)) in
+        (kept_fits rules c Sound config well_behaved w s i n here j inside_j)) in
         let sent : v.sent ≡ w.sent ++ map spelling (numbered i j p.delivered (base + 1) again) =
         ap (λ (x : World C). x.sent) (sym pulse) ∙ ap (λ ss. w.sent ++ ss) same in
         let low = least in
@@ -308,13 +308,13 @@ module _ {C : Type 0} (rules : Core C) (c : Config) (Sound : ℕ → C → Type 
     pub pulse_reaches : last_again p ≤ (peer_at m.link i).delivered
     pulse_reaches =
         subst (λ l. last_again p ≤ (peer_at l i).delivered)
-        (link_here rules c Sound config tame end last.stands j m there) (reached p.kept refl)
+        (link_here rules c Sound config well_behaved end last.stands j m there) (reached p.kept refl)
 
     -- the first string of the pulse acknowledges all that was delivered
     first_acks : (ks : List Message) → p.kept ≡ ks → (b : Bool) → p.owed ≡ b
         → (pulsing n j).sent ≢ [] → IsAckAt c i j p.delivered (pulsing n j).sent 0
     first_acks [] none true owes some =
-        let at = node_at rules c Sound config tame w s i n here in
+        let at = node_at rules c Sound config well_behaved w s i n here in
         let told =
         alone_spells c i n.link j p.delivered at.inside inside_j apart (omega arith)
         (at.small j inside_j) in
@@ -335,17 +335,17 @@ module _ {C : Type 0} (rules : Core C) (c : Config) (Sound : ℕ → C → Type 
         (strings ∙ ap (λ l. map spelling (frames_of_pulse l i j p)) none
         ∙ ap (λ b. map spelling (if b then ack_alone i j p.delivered ∷ [] else [])) free))
     first_acks (x ∷ ks) kept b owes some =
-        let at = node_at rules c Sound config tame w s i n here in
+        let at = node_at rules c Sound config well_behaved w s i n here in
         let base : ℕ = p.sent - length p.kept in
         let within : length p.kept ≤ p.sent =
-        kept_few rules c Sound config tame w s i n here j inside_j in
+        kept_few rules c Sound config well_behaved w s i n here j inside_j in
         let one : length p.kept ≡ suc (length ks) = ap length kept in
         let few : p.sent < 2 ^ 64 =
-        subst (λ l. (peer_at l j).sent < 2 ^ 64) (link_here rules c Sound config tame w s i n here)
+        subst (λ l. (peer_at l j).sent < 2 ^ 64) (link_here rules c Sound config well_behaved w s i n here)
         (s.follows.numbers i j) in
         let fits : All (FitsMessage c) (x ∷ ks) =
         subst (All (FitsMessage c)) kept
-        (kept_fits rules c Sound config tame w s i n here j inside_j) in
+        (kept_fits rules c Sound config well_behaved w s i n here j inside_j) in
         let told =
         again_spells c i n.link j p.delivered at.inside inside_j apart (omega arith)
         (at.small j inside_j) (base + 1) x (omega arith) (omega (arith, within, one, few))
@@ -398,29 +398,29 @@ module _ {C : Type 0} (rules : Core C) (c : Config) (Sound : ℕ → C → Type 
 -- under the manager of the configuration
 module _ (c : Config) (programs : List Program) (w : World (Host Managed))
     (of : IsOfMoves c programs w) where
-  pub tamed : IsTame (host_rules managed_ops) c (IsSoundHost managed_ops c)
-  tamed = tame managed_laws c
+  pub keeps_well_behaved : IsWellBehaved (host_rules managed_ops) c (IsSoundHost managed_ops c)
+  keeps_well_behaved = well_behaved managed_laws c
 
   abbrev pub IsGood : World (Host Managed) → Type 0
-  IsGood v = Stands (host_rules managed_ops) c (IsSoundHost managed_ops c) of.limits tamed v
+  IsGood v = Stands (host_rules managed_ops) c (IsSoundHost managed_ops c) of.limits keeps_well_behaved v
 
   pub led_stands : IsGood w
   led_stands =
-      (all_after (host_rules managed_ops) c (IsSoundHost managed_ops c) of.limits tamed of.moves
+      (all_after (host_rules managed_ops) c (IsSoundHost managed_ops c) of.limits keeps_well_behaved of.moves
       (opening managed_ops c programs) w
-      (opening_stands (host_rules managed_ops) c (IsSoundHost managed_ops c) of.limits tamed
+      (opening_stands (host_rules managed_ops) c (IsSoundHost managed_ops c) of.limits keeps_well_behaved
       (opening managed_ops c programs) (opening_is managed_laws c programs of.limits of.many))
       of.led).stands
 
 pub nothing_is_dropped : NothingIsDropped
 nothing_is_dropped c programs w of =
     none_dropped (host_rules managed_ops) c (IsSoundHost managed_ops c) of.limits
-    (tamed c programs w of) w (led_stands c programs w of)
+    (keeps_well_behaved c programs w of) w (led_stands c programs w of)
 
 pub pulses_deliver : PulsesDeliver
 pulses_deliver c programs w end of i j m moves heard there =
     let good = led_stands c programs w of in
-    let t = tamed c programs w of in
+    let t = keeps_well_behaved c programs w of in
     let is =
     pulse_is (host_rules managed_ops) c (IsSoundHost managed_ops c) of.limits t w heard.led.0 good i j
     heard.led.1 in
@@ -438,7 +438,7 @@ pulses_deliver c programs w end of i j m moves heard there =
 pub pulses_move_on : PulsesMoveOn
 pulses_move_on c programs w mid end of i j m back there first some second at =
     let good = led_stands c programs w of in
-    let t = tamed c programs w of in
+    let t = keeps_well_behaved c programs w of in
     let one =
     pulse_is (host_rules managed_ops) c (IsSoundHost managed_ops c) of.limits t w first.led.0 good j i
     first.led.1 in

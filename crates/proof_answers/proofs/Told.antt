@@ -20,12 +20,12 @@ use Rattle.ivy_moves.specs.ivy_link.Paired.{link_at}
 use Rattle.ivy_moves.specs.declared.Move.{Move}
 use Rattle.ivy_moves.specs.declared.Move.TheVariants.{Turn, Deliver, Pulse}
 use Rattle.ivy_moves.specs.Cores.{Core}
-use Rattle.ivy_moves.specs.Following.{links_of, IsOpening, Follows, IsTame, FollowsStep}
+use Rattle.ivy_moves.specs.Following.{links_of, IsOpening, Follows, IsWellBehaved, FollowsStep}
 use Rattle.ivy_moves.specs.Nodes.{Node, Effect, turned, verdict_of, delivered, pulsing}
 use Rattle.ivy_moves.specs.Worlds.{World, early_of, gone_on, remembered, is_named, turn_of, delivery_of, pulse_of, made_by, moved, Moves, GoesOnWith, Leads}
 use Rattle.ivy_moves.proofs.Following.{went, remembered-went, follows, early-follows}
 use Rattle.ivy_moves.proofs.Opening.{opening_follows}
-use Rattle.ivy_moves.proofs.Places.{guarded, link-of, read-either}
+use Rattle.ivy_moves.proofs.Places.{guarded, link_of, read-either}
 use Rattle.ivy_moves.proofs.of_ivy_link.Pairs.{link_at-with}
 use Rattle.proof_answers.specs.Undropped.{IsNothingDropped}
 use Rattle.proof_answers.proofs.LinkEvents.{IsTelling}
@@ -93,7 +93,7 @@ module _ {C : Type 0} (c : Config) where
     links_set = map-set (λ (m : Node C). m.link) w.nodes i e.after
 
     link_is : link_at (links_of w) i ≡ n.link
-    link_is = link-of w.nodes i n at
+    link_is = link_of w.nodes i n at
 
     count : length (links_of next) ≡ length (links_of w)
     count = ap length links_set ∙ length-set (links_of w) i e.after.link
@@ -184,7 +184,7 @@ module _ {C : Type 0} (c : Config) where
           (λ s t. record { frame = t.frame; spells = t.spells; ack = t.ack }) ss all
 
 module _ {C : Type 0} (rules : Core C) (c : Config) (Sound : ℕ → C → Type 0) (config : IsConfig c)
-    (tame : IsTame rules c Sound) where
+    (well_behaved : IsWellBehaved rules c Sound) where
   -- a world that follows an ordered one, and whose strings tell no more than was delivered
   pub record Stands (w : World C) : Type 0 where
     pub posted : ℕ → ℕ → List Message
@@ -230,7 +230,7 @@ module _ {C : Type 0} (rules : Core C) (c : Config) (Sound : ℕ → C → Type 
           omega (arith, a, b, many_links)
 
       pub link_here : link_at (links_of w) i ≡ n.link
-      link_here = link-of w.nodes i n there
+      link_here = link_of w.nodes i n there
 
       -- so few messages were sent and delivered that their numbers can be written
       few : (j k : ℕ) → j < c.nodes → k < c.nodes → come w j k < 2 ^ 64
@@ -292,7 +292,7 @@ module _ {C : Type 0} (rules : Core C) (c : Config) (Sound : ℕ → C → Type 
           → FollowsStep rules c Sound w s.posted (gone_on w i e) → IsAfter w (gone_on w i e)
       turn_after e made step =
           effect_after e
-          (turn_event rules c Sound config tame (λ j. come w i j) i n node_at e made) step
+          (turn_event rules c Sound config well_behaved (λ j. come w i j) i n node_at e made) step
 
       -- what the node keeps for another one fits, and is not more than it sent
       pub kept_few : (j : ℕ) → j < c.nodes → length (peer_at n.link j).kept ≤ (peer_at n.link j).sent
@@ -316,7 +316,7 @@ module _ {C : Type 0} (rules : Core C) (c : Config) (Sound : ℕ → C → Type 
           → IsAfter w (gone_on w i (pulsing n to))
       pulse_after to lt apart step =
           effect_after (pulsing n to)
-          (pulse_event rules c Sound config tame (λ j. come w i j) i n node_at to lt apart
+          (pulse_event rules c Sound config well_behaved (λ j. come w i j) i n node_at to lt apart
           (subst (λ l. (peer_at l to).sent < 2 ^ 64) link_here (s.follows.numbers i to))
           (kept_few to lt)
           (kept_fits to lt)) step
@@ -330,7 +330,7 @@ module _ {C : Type 0} (rules : Core C) (c : Config) (Sound : ℕ → C → Type 
 
         event : IsEvent c (λ j. come w i j) i n e
         event =
-            delivery_event rules c Sound config tame (λ j. come w i j) i n node_at tells.frame bytes
+            delivery_event rules c Sound config well_behaved (λ j. come w i j) i n node_at tells.frame bytes
             tells.spells told_here e made
 
         delivery_after : (v : Verdict)
@@ -352,7 +352,7 @@ module _ {C : Type 0} (rules : Core C) (c : Config) (Sound : ℕ → C → Type 
         reaches : tells.frame.dest ≡ i → tells.frame.number ≤ come w tells.frame.source i + 1
             → tells.frame.number ≤ (peer_at e.after.link tells.frame.source).delivered
         reaches mine near =
-            delivery_reaches rules c Sound config tame (λ j. come w i j) i n node_at tells.frame bytes
+            delivery_reaches rules c Sound config well_behaved (λ j. come w i j) i n node_at tells.frame bytes
             tells.spells told_here e made (mine ∙ sym node_at.me)
             (subst (λ l. tells.frame.number ≤ (peer_at l tells.frame.source).delivered + 1)
             link_here near)
@@ -369,7 +369,7 @@ module _ {C : Type 0} (rules : Core C) (c : Config) (Sound : ℕ → C → Type 
             (omega (arith, below, many_links)) in
             let count = s.follows.paired.counted i from link_inside
             (omega (arith, below, many_links)) in
-            delivery_acks rules c Sound config tame (λ j. come w i j) i n node_at tells.frame bytes
+            delivery_acks rules c Sound config well_behaved (λ j. come w i j) i n node_at tells.frame bytes
             tells.spells told_here e made (mine ∙ sym node_at.me)
             (subst (λ l. tells.frame.ack ≤ (peer_at l from).sent) link_here
             (omega (arith, told, few, count))) (kept_few from below)
@@ -452,7 +452,7 @@ module _ {C : Type 0} (rules : Core C) (c : Config) (Sound : ℕ → C → Type 
       string_came w on.1.0 s i bytes
       (All-contains (Tells c w) (early_of w i) bytes (s.told.early i) on.0) (slice_get w.nodes i)
       refl on.1.1
-      (early-follows rules c Sound tame config w on.1.0 s.posted i bytes s.follows on.0 on.1.1) in
+      (early-follows rules c Sound well_behaved config w on.1.0 s.posted i bytes s.follows on.0 on.1.1) in
       after_then w on.1.0 v first.after (goes_on more on.1.0 v i first.after.stands on.1.2)
 
   turn_cases : (w v : World C) (s : Stands w) (i : ℕ) (o : Option (Node C))
@@ -508,7 +508,7 @@ module _ {C : Type 0} (rules : Core C) (c : Config) (Sound : ℕ → C → Type 
 
   pub step_of : (w v : World C) (s : Stands w) (move : Move) → moved rules c w move ≡ Some v
       → FollowsStep rules c Sound w s.posted v
-  step_of w v s move made = follows rules c Sound config tame w v s.posted move s.follows made
+  step_of w v s move made = follows rules c Sound config well_behaved w v s.posted move s.follows made
 
   -- a pulse
   pub pulse_is : (w v : World C) (s : Stands w) (i to : ℕ) → Moves rules c w (Pulse i to) v

@@ -26,7 +26,7 @@ use Rattle.ivy_moves.specs.Cores.{Outcome}
 use Rattle.proof_progress.specs.ivy_host.Hosts.{Host, turn_of, begins_as}
 use Rattle.proof_progress.specs.ivy_host.Sound.{IsSoundHost}
 use Rattle.proof_progress.specs.ivy_host.ivy_coherence.Coherent.{Coherent}
-use Rattle.proof_progress.specs.ivy_host.ivy_coherence.Faults.{Begun, waiting_from, fault_entry, along, busy, hit, faulted, fault_posted, accessed, begun_at, begun}
+use Rattle.proof_progress.specs.ivy_host.ivy_coherence.PageFaults.{Begun, waiting_from, fault_entry, along, busy, hit, faulted, fault_posted, accessed, begun_at, begun}
 use Rattle.proof_progress.specs.ivy_host.ivy_coherence.Serving.{invalidations}
 use Rattle.proof_progress.specs.ivy_host.ivy_heap.declared.HeapCall.{HeapCall}
 use Rattle.proof_progress.specs.ivy_host.ivy_heap.declared.HeapCall.TheVariants as heap_call

@@ -10,7 +10,7 @@ use Rattle.ivy_pagetable.specs.TableState.{Table}
 use Rattle.ivy_pagetable.specs.Words.{needs_write}
 use Rattle.ivy_program.specs.Steps.{Process, Asks, step_of, answered_with, along_of, AsksRow}
 use Rattle.proof_refinement.specs.ivy_coherence.Coherent.{Coherent}
-use Rattle.proof_refinement.specs.ivy_coherence.Faults.{along}
+use Rattle.proof_refinement.specs.ivy_coherence.PageFaults.{along}
 use Rattle.proof_refinement.specs.ivy_memory.declared.Asked.{Asked}
 use Rattle.proof_refinement.specs.ivy_memory.declared.Asked.TheVariants as asked
 use Rattle.proof_refinement.specs.ivy_memory.Asking.{asked_of}
@@ -18,12 +18,12 @@ use Rattle.proof_refinement.specs.ivy_memory.Beside.{Beside, nothing_beside, giv
 use Rattle.proof_consistency.proofs.Owing.{AreWordsOf}
 
 -- what waits along changes nothing else
-pub record IsKept {S : Type 0} (k j : Coherent S) : Type 0 where
+pub record IsPreserved {S : Type 0} (k j : Coherent S) : Type 0 where
   pub done : j.done ≡ k.done
   pub locked : j.locked ≡ k.locked
   pub table : j.table ≡ k.table
 
-pub along-kept : {S : Type 0} (words : List Word) (k : Coherent S) → IsKept k (along words k)
+pub along-kept : {S : Type 0} (words : List Word) (k : Coherent S) → IsPreserved k (along words k)
 along-kept [] k = record { done = refl; locked = refl; table = refl }
 along-kept (w ∷ ws) k = record { done = refl; locked = refl; table = refl }
 

@@ -17,11 +17,11 @@ use Rattle.ivy_pagetable.specs.Accesses.{reads as can_read}
 use Rattle.ivy_pagetable.specs.Entries.{put_offs, readable, is_owner, with_put_off, without, copying, owning}
 use Rattle.ivy_pagetable.specs.Manager.{Ops}
 use Rattle.proof_refinement.specs.ivy_coherence.Serving.{invalidations}
-use Rattle.proof_refinement.specs.ivy_coherence.Faults.{waiting_from}
+use Rattle.proof_refinement.specs.ivy_coherence.PageFaults.{waiting_from}
 use Rattle.proof_refinement.specs.proof_transitions.Letters.{Letter, Net, Place, Underway, Loose, letter_of, IsAt, goes_on, installs}
 use Rattle.proof_refinement.specs.proof_transitions.Orderly.{IsOrderly}
-use Rattle.proof_refinement.specs.proof_transitions.Rows.{letter, bare, Served, Comes, Begins, Notice, Row, IsKept}
-use Rattle.proof_refinement.proofs.of_proof_transitions.Places.{written-here, served, freed}
+use Rattle.proof_refinement.specs.proof_transitions.Rows.{letter, bare, Served, Comes, Begins, Notice, Row, IsPreserved}
+use Rattle.proof_refinement.proofs.of_proof_transitions.Places.{written_here, served, freed}
 use Rattle.proof_refinement.proofs.of_proof_transitions.Parcels.{IsThe, IsNone, IsOrder, answer_step, ask_step, orders_step, free_step, stay_step}
 use Rattle.proof_refinement.proofs.of_proof_transitions.OrderlyKept.{orderly-kept}
 use Rattle.proof_refinement.proofs.of_proof_transitions.Both.{both-kept}
@@ -133,7 +133,7 @@ module _ (c : Config) (n : Net) (f : ℕ → List ℕ) (h : IsCopied c n f) wher
     brought = bytes_copied c n f h x p bytes inside same_bytes
 
     has_them : (installs n x p bytes).page x p ≡ f p
-    has_them = written-here n.page x p bytes x p refl refl ∙ same_bytes
+    has_them = written_here n.page x p bytes x p refl refl ∙ same_bytes
 
 -- what was put off is loose, or orders go out, at a node that has the bytes that came
 module _ (c : Config) (n : Net) (f : ℕ → List ℕ) (h : IsCopied c n f) {T : Type 0} {at : T → Entry}
@@ -204,7 +204,7 @@ module _ (c : Config) where
       (λ has. owner_had c _ _ h r.node r.page (entry.Idle r.state) r.is owner)
 
 pub copied-kept : {S : Type 0} (ops : Ops S) (c : Config) → IsConfig c
-    → IsKept ops c (λ m n f. IsOrderly c n × IsCopied c n f)
+    → IsPreserved ops c (λ m n f. IsOrderly c n × IsCopied c n f)
 copied-kept ops c config =
     both-kept (orderly-kept ops c config)
     (record { by = λ row of order after copied. copied_by c row order copied })

@@ -9,7 +9,7 @@ use Rattle.ivy_pagetable.specs.declared.Request.{Request}
 use Rattle.ivy_pagetable.specs.declared.Request.TheVariants as request
 use Rattle.proof_refinement.specs.proof_transitions.Letters.{Letter, Net, Place, Underway, Aside, Loose, content_of, IsAt, goes_on, installs}
 use Rattle.proof_refinement.specs.proof_transitions.Rows.{taken, dropped}
-use Rattle.proof_refinement.proofs.of_proof_transitions.Places.{written-here, written-other, same_or_other, served}
+use Rattle.proof_refinement.proofs.of_proof_transitions.Places.{written_here, written-other, same_or_other, served}
 use Rattle.proof_refinement.proofs.of_proof_transitions.Steps.{IsStep, either_entry}
 use Rattle.proof_refinement.proofs.of_proof_transitions.Parcels.{rest_told, is_step}
 use Rattle.proof_consistency.specs.Copied.{HasBytes, CarriesCurrent, IsCopied}
@@ -59,14 +59,14 @@ module _ (c : Config) (n : Net) (f : ℕ → List ℕ) (h : IsCopied c n f) wher
       → IsCopied c (installs n x p bytes) f
   bytes_copied x p bytes inside same = record {
     had = λ i q has. elim (same_or_other i q x p) [
-      | inl here ↦ written-here n.page x p bytes i q here.0 here.1 ∙ same ∙ ap f (sym here.1)
+      | inl here ↦ written_here n.page x p bytes i q here.0 here.1 ∙ same ∙ ap f (sym here.1)
       | inr other ↦ written-other n.page x p bytes i q other ∙ h.had i q has
     ];
     carried = letters;
     flat_sized = h.flat_sized;
     sized = λ i q low within. elim (same_or_other i q x p) [
       | inl here ↦
-          ap length (written-here n.page x p bytes i q here.0 here.1 ∙ same) ∙ h.flat_sized p inside
+          ap length (written_here n.page x p bytes i q here.0 here.1 ∙ same) ∙ h.flat_sized p inside
       | inr other ↦ ap length (written-other n.page x p bytes i q other) ∙ h.sized i q low within
     ];
   }

@@ -20,7 +20,7 @@ use Rattle.ivy_pagetable.proofs.Words.{length-carried_out, unwritten_bytes}
 use Rattle.proof_refinement.specs.proof_transitions.Letters.{Letter, Net, Place, Underway, Aside, Loose, IsAt, installs}
 use Rattle.proof_refinement.specs.proof_transitions.Orderly.{AwaitsCopy, HasCopy, reads, comes, At, IsExpectedAs, IsOrderly}
 use Rattle.proof_refinement.specs.proof_transitions.Rows.{with_flat_page}
-use Rattle.proof_refinement.proofs.of_proof_transitions.Places.{written-here, written-other, same_or_other}
+use Rattle.proof_refinement.proofs.of_proof_transitions.Places.{written_here, written-other, same_or_other}
 use Rattle.proof_refinement.proofs.of_proof_transitions.Sole.{fits_as, no_other_owner, no_page_comes}
 use Rattle.proof_consistency.specs.Copied.{HasBytes, CarriesCurrent, IsCopied}
 use Rattle.proof_consistency.proofs.CopiedSteps.{carries_on}
@@ -125,7 +125,7 @@ module _ (c : Config) (n : Net) (f : ℕ → List ℕ) (x p : ℕ) (s : IdleStat
         → (installs n x p now).page i q ≡ with_flat_page f p flat_now q
     had i q has = elim (same_or_other i q x p) [
       | inl same ↦
-          written-here n.page x p now i q same.0 same.1 ∙ same_now
+          written_here n.page x p now i q same.0 same.1 ∙ same_now
           ∙ sym (with_page-here f p flat_now q same.1)
       | inr other ↦
           written-other n.page x p now i q other ∙ h.had i q has
@@ -164,7 +164,7 @@ module _ (c : Config) (n : Net) (f : ℕ → List ℕ) (x p : ℕ) (s : IdleStat
       ];
       sized = λ i q low within. elim (same_or_other i q x p) [
         | inl same ↦
-            ap length (written-here n.page x p now i q same.0 same.1 ∙ same_now) ∙ flat_long
+            ap length (written_here n.page x p now i q same.0 same.1 ∙ same_now) ∙ flat_long
         | inr other ↦ ap length (written-other n.page x p now i q other) ∙ h.sized i q low within
       ];
     }

@@ -15,21 +15,23 @@ use Rattle.ivy_pagetable.specs.Manager.{Ops}
 use Rattle.proof_refinement.specs.ivy_alloc.Heap.{HeapState}
 use Rattle.ivy_program.specs.Programs.{Program}
 use Rattle.ivy_program.specs.Runs.{IsRunTo}
-use Rattle.ivy_moves.specs.Ordered.{Ordered}
+use Rattle.ivy_moves.specs.Explained.{StandTogether, AreTogether}
+use Rattle.ivy_moves.specs.FifoWorld.{FifoWorld}
 use Rattle.proof_refinement.specs.ivy_heap.HeapCalls.{after_told}
 use Rattle.proof_refinement.specs.ivy_host.Hosts.{Host, answered_by}
 use Rattle.proof_refinement.specs.ivy_host.Sound.{IsSoundHost}
 use Rattle.proof_refinement.specs.proof_transitions.Orderly.{IsOrderly}
-use Rattle.proof_refinement.specs.Errands.{heap_way}
+use Rattle.proof_refinement.specs.HeapRequests.{heap_way}
 use Rattle.proof_refinement.proofs.LiftedWorlds.{net_of, IsSoundWorld}
 use Rattle.proof_consistency.specs.Copied.{IsCopied}
 use Rattle.proof_consistency.proofs.OwedCalls.{pending-calls}
 use Rattle.proof_consistency.proofs.Owing.{pending, IsRunning, GoOn, blocks_stay, blocks_change, Adds}
+use Rattle.proof_consistency.proofs.Together.{grown_together}
 
 -- The order is one that the flat memory leads through, all copies and the live blocks of the heap
 -- are those of the memory then, and each node's part of the order is its history and what is owed
--- to it.
-pub record IsFaithful {S : Type 0} (ops : Ops S) (c : Config) (o : Ordered (Host S))
+-- to it, which stands together there.
+pub record IsFaithful {S : Type 0} (ops : Ops S) (c : Config) (o : FifoWorld (Host S))
     (order : List Record) : Type 0 where
   pub memory : model.Memory
   pub legal : ServesAll c (first c) order memory
@@ -41,11 +43,13 @@ pub record IsFaithful {S : Type 0} (ops : Ops S) (c : Config) (o : Ordered (Host
   pub running : (i : ℕ) (n : Host S) → slice_get o.cores i ≡ Some n → IsRunning c n
   pub parts : (i : ℕ) (n : Host S) → slice_get o.cores i ≡ Some n
       → part i order ≡ n.history ++ pending n (heap_way o 0 i)
+  pub together : (i : ℕ) (n : Host S) → slice_get o.cores i ≡ Some n
+      → StandTogether (pending n (heap_way o 0 i)) order
   pub blocks : (i : ℕ) (n : Host S) (h : HeapState) → slice_get o.cores i ≡ Some n
       → n.memory.side.heap ≡ Some h → h.blocks ≡ memory.blocks
 
 -- each node runs the program of its number
-abbrev pub HasPrograms : {S : Type 0} → List Program → Ordered (Host S) → Type 0
+abbrev pub HasPrograms : {S : Type 0} → List Program → FifoWorld (Host S) → Type 0
 HasPrograms {S} programs o =
     (i : ℕ) (n : Host S) → slice_get o.cores i ≡ Some n
     → slice_get programs i ≡ Some n.process.program
@@ -73,7 +77,7 @@ map-places f (x ∷ xs) (suc i) y e = map-places f xs i y e
 
 module _ {S : Type 0} (ops : Ops S) (c : Config) where
   -- the order explains what the nodes were answered
-  pub faithful_explained : (o : Ordered (Host S)) (order : List Record) → IsFaithful ops c o order
+  pub faithful_explained : (o : FifoWorld (Host S)) (order : List Record) → IsFaithful ops c o order
       → IsExplained c order (map (λ (n : Host S). answered_by n) o.cores)
   faithful_explained o order f = record {
     legal = (f.memory, f.legal);
@@ -89,14 +93,27 @@ module _ {S : Type 0} (ops : Ops S) (c : Config) where
         ));
   }
 
+  -- and what it has of each past its history stands together in it
+  pub faithful_together : (o : FifoWorld (Host S)) (order : List Record) → IsFaithful ops c o order
+      → AreTogether order (map (λ (n : Host S). answered_by n) o.cores)
+  faithful_together o order f i a h =
+      let found : (n : Host S) × (slice_get o.cores i ≡ Some n) × (answered_by n ≡ a) =
+      map-places (λ (n : Host S). answered_by n) o.cores i a h in
+      subst (λ (x : Answered). (rest : List Record) × (part i order ≡ x.history ++ rest)
+      × StandTogether rest order) found.2 (
+        pending found.0 (heap_way o 0 i),
+        f.parts i found.0 found.1,
+        f.together i found.0 found.1,
+      )
+
   -- each history is a run of its program
-  pub faithful_runs : (o : Ordered (Host S)) (order : List Record) → IsFaithful ops c o order
+  pub faithful_runs : (o : FifoWorld (Host S)) (order : List Record) → IsFaithful ops c o order
       → (i : ℕ) (n : Host S) → slice_get o.cores i ≡ Some n
       → IsRunTo n.process.program n.history n.process.state
   faithful_runs o order f i n h = (f.running i n h).run
 
   -- the heap is at node 0
-  pub at_home : (o : Ordered (Host S)) → IsSoundWorld ops c o → (i : ℕ) (n : Host S) (h : HeapState)
+  pub at_home : (o : FifoWorld (Host S)) → IsSoundWorld ops c o → (i : ℕ) (n : Host S) (h : HeapState)
       → slice_get o.cores i ≡ Some n → n.memory.side.heap ≡ Some h → i ≡ 0
   at_home o sound i n h there has =
       let good : IsSoundHost ops c i n = sound.sound i n there in
@@ -117,7 +134,7 @@ module _ {S : Type 0} (ops : Ops S) (c : Config) where
   blocks_there b b' heap heap' none (blocks_change g t was now same) = absurd (none g was)
 
   -- an event of one node, in the world, which changes no message of the heap that comes from node 0
-  pub faithful-on : (o o' : Ordered (Host S)) (order : List Record) (i : ℕ) (n n' : Host S)
+  pub faithful-on : (o o' : FifoWorld (Host S)) (order : List Record) (i : ℕ) (n n' : Host S)
       (pages : ℕ → List ℕ) → (f : IsFaithful ops c o order) → slice_get o.cores i ≡ Some n
       → (a : Adds c f.memory i n n' (heap_way o 0 i) pages)
       → o'.cores ≡ set o.cores i n' → ((j : ℕ) → heap_way o' 0 j ≡ heap_way o 0 j)
@@ -151,6 +168,15 @@ module _ {S : Type 0} (ops : Ops S) (c : Config) where
               ap (λ xs. part j order ++ xs) (a.other j x.0) ∙ append-nil (part j order)
               ∙ f.parts j m x.1 ∙ ap (λ ms. m.history ++ pending m ms) (sym (ways j))
         ];
+    together = λ j m h. subst (λ ms. StandTogether (pending m ms) (order ++ a.more)) (sym (ways j))
+        (elim (set-places o.cores i j n' m (ap (λ ns. slice_get ns j) (sym cores) ∙ h)) [
+          | inl x ↦
+              subst (λ k. StandTogether (pending m (heap_way o 0 k)) (order ++ a.more)) (sym x.0)
+              (subst (λ (y : Host S). StandTogether (pending y (heap_way o 0 i)) (order ++ a.more))
+              (sym x.1) (a.together order (f.together i n there)))
+          | inr x ↦
+              grown_together (pending m (heap_way o 0 j)) order a.more (f.together j m x.1)
+        ]);
     blocks =
         λ j m h at has.
         elim (set-places o.cores i j n' m (ap (λ ns. slice_get ns j) (sym cores) ∙ at)) [
@@ -165,7 +191,7 @@ module _ {S : Type 0} (ops : Ops S) (c : Config) where
         ];
   }
 
-  pub programs-on : (programs : List Program) (o o' : Ordered (Host S)) (i : ℕ)
+  pub programs-on : (programs : List Program) (o o' : FifoWorld (Host S)) (i : ℕ)
       (n n' : Host S) → slice_get o.cores i ≡ Some n → n'.process.program ≡ n.process.program
       → o'.cores ≡ set o.cores i n'
       → HasPrograms programs o → HasPrograms programs o'
@@ -178,7 +204,7 @@ module _ {S : Type 0} (ops : Ops S) (c : Config) where
       ]
 
 -- after a step: more stands in the order, and each node keeps its program
-pub record GoesOn {S : Type 0} (ops : Ops S) (c : Config) (o o' : Ordered (Host S))
+pub record GoesOn {S : Type 0} (ops : Ops S) (c : Config) (o o' : FifoWorld (Host S))
     (order : List Record) : Type 0 where
   pub more : List Record
   pub faithful : IsFaithful ops c o' (order ++ more)

@@ -13,22 +13,24 @@ use Rattle.ivy_model.proofs.Parts.{part-append, part-own, part-other, leads-appe
 use Rattle.ivy_wire.specs.Data.{Message}
 use Rattle.ivy_pagetable.specs.Manager.{Ops}
 use Rattle.proof_refinement.specs.ivy_alloc.Heap.{HeapState}
-use Rattle.ivy_moves.specs.Ordered.{Ordered}
+use Rattle.ivy_moves.specs.Explained.{StandTogether}
+use Rattle.ivy_moves.specs.FifoWorld.{FifoWorld}
 use Rattle.proof_refinement.specs.ivy_memory.declared.Asked.TheVariants as kinds
 use Rattle.proof_refinement.specs.ivy_heap.declared.HeapCall.{HeapCall}
-use Rattle.proof_refinement.specs.ivy_heap.declared.Errand.TheVariants as errand
+use Rattle.proof_refinement.specs.ivy_heap.declared.HeapRequest.TheVariants as heap_request
 use Rattle.proof_refinement.specs.ivy_memory.Asking.{asked_of}
 use Rattle.proof_refinement.specs.ivy_heap.HeapCalls.{kept, told_of, after_told, reply_in}
 use Rattle.proof_refinement.specs.ivy_memory.Memories.{first_reply, reply_there}
-use Rattle.proof_refinement.specs.ivy_memory.Sound.{IsErrandOf, IsInProgress}
+use Rattle.proof_refinement.specs.ivy_memory.Sound.{IsHeapRequestOf, IsInProgress}
 use Rattle.proof_refinement.specs.ivy_host.Hosts.{Host, number_of}
 use Rattle.proof_refinement.specs.ivy_host.Sound.{IsSoundHost}
 use Rattle.proof_refinement.specs.proof_transitions.Orderly.{IsOrderly}
-use Rattle.proof_refinement.specs.Errands.{heap_way}
+use Rattle.proof_refinement.specs.HeapRequests.{heap_way}
 use Rattle.proof_refinement.proofs.LiftedWorlds.{net_of, IsSoundWorld}
 use Rattle.proof_consistency.specs.Copied.{IsCopied}
 use Rattle.proof_consistency.proofs.HeapServed.{memory_told, heap_served}
 use Rattle.proof_consistency.proofs.Owing.{owed, reply_owed, along_owed, pending, owed-untold, then-untold, none_pending, IsRunning}
+use Rattle.proof_consistency.proofs.Together.{added_together, grown_together}
 use Rattle.proof_consistency.proofs.Faithful.{IsFaithful, at_home, set-places}
 
 -- node 0 after it served a call of the heap, and a node that learned the reply of its own
@@ -39,7 +41,7 @@ with_heap n h k =
 abbrev pub with_reply : {S : Type 0} → Host S → Reply → Host S
 with_reply n r =
     record n
-    { memory = record n.memory { side = record n.memory.side { errand = Some (errand.Told r) } } }
+    { memory = record n.memory { side = record n.memory.side { heap_request = Some (heap_request.Told r) } } }
 
 -- what holds of a node's run is untouched by its side of the heap
 with_heap-running : {S : Type 0} (c : Config) (n : Host S) (h : HeapState) (k : HeapCall)
@@ -66,7 +68,7 @@ with_reply-running c n y r = record {
   told = r.told;
 }
 
-module _ {S : Type 0} (ops : Ops S) (c : Config) (o o' : Ordered (Host S)) (order : List Record)
+module _ {S : Type 0} (ops : Ops S) (c : Config) (o o' : FifoWorld (Host S)) (order : List Record)
     (f : IsFaithful ops c o order)
     (sound : IsSoundWorld ops c o') (orderly : IsOrderly c (net_of o'))
     (copied : IsCopied c (net_of o') f.pages) where
@@ -74,7 +76,7 @@ module _ {S : Type 0} (ops : Ops S) (c : Config) (o o' : Ordered (Host S)) (orde
   module _ (home source number : ℕ) (core asker : Host S) (k : HeapCall) (heap : HeapState)
       (zero : home ≡ 0) (away : source ≢ 0) (there : slice_get o.cores home ≡ Some core)
       (asks : slice_get o.cores source ≡ Some asker)
-      (asked : asker.memory.side.errand ≡ Some (errand.Asked k number))
+      (asked : asker.memory.side.heap_request ≡ Some (heap_request.Asked k number))
       (has : core.memory.side.heap ≡ Some heap)
       (cores : o'.cores ≡ set o.cores home (with_heap core heap k))
       (before : heap_way o 0 source ≡ []) (answer : Message)
@@ -86,15 +88,15 @@ module _ {S : Type 0} (ops : Ops S) (c : Config) (o o' : Ordered (Host S)) (orde
 
     pub called : IsInProgress asker.memory.coherence.config asker.memory.asked k
     called =
-        subst (IsErrandOf asker.memory.coherence.config asker.memory.asked) asked
-        good.memory.side.errand
+        subst (IsHeapRequestOf asker.memory.coherence.config asker.memory.asked) asked
+        good.memory.side.heap_request
 
     -- its record
     abbrev pub given : Record
     given = record { node = source; call = called.call; reply = (told_of heap k).reply }
 
     nothing_done : asker.memory.coherence.done ≡ None
-    nothing_done = (good.memory.apart (errand.Asked k number) asked).1
+    nothing_done = (good.memory.apart (heap_request.Asked k number) asked).1
 
     -- nothing was made along with a call of the heap
     none_along : along_owed asker ≡ []
@@ -106,19 +108,19 @@ module _ {S : Type 0} (ops : Ops S) (c : Config) (o o' : Ordered (Host S)) (orde
     owed_before =
         none_pending _ (along_owed asker)
         (owed-untold (number_of asker) asker.memory.asked
-        (reply_owed asker.memory.side.errand (heap_way o 0 source) asker.memory.coherence.done)
+        (reply_owed asker.memory.side.heap_request (heap_way o 0 source) asker.memory.coherence.done)
         (ap (λ e. reply_owed e (heap_way o 0 source) asker.memory.coherence.done) asked
-        ∙ ap (λ (ms : List Message). reply_owed (Some (errand.Asked k number)) ms
+        ∙ ap (λ (ms : List Message). reply_owed (Some (heap_request.Asked k number)) ms
         asker.memory.coherence.done) before ∙ ap reply_there nothing_done)) none_along
 
     owed_after : pending asker (heap_way o' 0 source) ≡ given ∷ []
     owed_after =
         ap (λ a. owed (number_of asker) a
-        (reply_owed asker.memory.side.errand (heap_way o' 0 source)
+        (reply_owed asker.memory.side.heap_request (heap_way o' 0 source)
         asker.memory.coherence.done) ++ along_owed asker) called.asked
         ∙ ap (λ r. owed (number_of asker) (Some called.call) r ++ along_owed asker)
         (ap (λ e. reply_owed e (heap_way o' 0 source) asker.memory.coherence.done) asked
-        ∙ ap (λ (ms : List Message). reply_owed (Some (errand.Asked k number)) ms
+        ∙ ap (λ (ms : List Message). reply_owed (Some (heap_request.Asked k number)) ms
         asker.memory.coherence.done) after
         ∙ ap (λ r. first_reply r (reply_there asker.memory.coherence.done)) fits)
         ∙ ap (λ xs. record {
@@ -163,6 +165,36 @@ module _ {S : Type 0} (ops : Ops S) (c : Config) (o o' : Ordered (Host S)) (orde
         ]
         ∙ ap (λ ms. m.history ++ pending m ms) (sym (others j ne))
 
+    asker_together : (j : ℕ) (m : Host S) → j ≡ source → slice_get o'.cores j ≡ Some m
+        → StandTogether (pending m (heap_way o' 0 j)) (order ++ given ∷ [])
+    asker_together j m same at =
+        elim (set-places o.cores home j (with_heap core heap k) m
+        (ap (λ ns. slice_get ns j) (sym cores) ∙ at)) [
+          | inl x ↦ absurd (away (sym same ∙ x.0 ∙ zero))
+          | inr x ↦ (
+              let this : asker ≡ m =
+              same_Some asker m (sym asks ∙ ap (slice_get o.cores) (sym same) ∙ x.1) in
+              subst (λ xs. StandTogether xs (order ++ given ∷ []))
+              (sym owed_after ∙ ap (λ i. pending asker (heap_way o' 0 i)) (sym same)
+              ∙ ap (λ (y : Host S). pending y (heap_way o' 0 j)) this)
+              (added_together order (given ∷ []))
+              )
+        ]
+
+    other_together : (j : ℕ) (m : Host S) → j ≢ source → slice_get o'.cores j ≡ Some m
+        → StandTogether (pending m (heap_way o' 0 j)) (order ++ given ∷ [])
+    other_together j m ne at = subst (λ ms. StandTogether (pending m ms) (order ++ given ∷ []))
+        (sym (others j ne))
+        (grown_together (pending m (heap_way o 0 j)) order (given ∷ [])
+        (elim (set-places o.cores home j (with_heap core heap k) m
+        (ap (λ ns. slice_get ns j) (sym cores) ∙ at)) [
+          | inl x ↦
+              subst (λ (y : Host S). StandTogether (pending y (heap_way o 0 j)) order) (sym x.1)
+              (subst (λ i. StandTogether (pending core (heap_way o 0 i)) order) (sym x.0)
+              (f.together home core there))
+          | inr x ↦ f.together j m x.1
+        ]))
+
     pub serves_faithful : IsFaithful ops c o' (order ++ given ∷ [])
     serves_faithful = record {
       memory = memory_told f.memory heap k;
@@ -203,6 +235,12 @@ module _ {S : Type 0} (ops : Ops S) (c : Config) (o o' : Ordered (Host S)) (orde
             | inr ne ↦
                 other_part j m ne h
           ];
+      together = λ j m h.
+          elim (cases_eq j source) [
+            | inl same ↦ asker_together j m same h
+            | inr ne ↦
+                other_together j m ne h
+          ];
       blocks =
           λ j m g at shows.
           elim (set-places o.cores home j (with_heap core heap k) m
@@ -218,7 +256,7 @@ module _ {S : Type 0} (ops : Ops S) (c : Config) (o o' : Ordered (Host S)) (orde
   -- the node that asked learns the reply
   module _ (x number : ℕ) (core : Host S) (k : HeapCall) (r : Reply) (m : Message)
       (there : slice_get o.cores x ≡ Some core)
-      (asked : core.memory.side.errand ≡ Some (errand.Asked k number))
+      (asked : core.memory.side.heap_request ≡ Some (heap_request.Asked k number))
       (cores : o'.cores ≡ set o.cores x (with_reply core r)) (before : heap_way o 0 x ≡ m ∷ [])
       (is_reply : reply_in k m.content ≡ Some r)
       (others : (j : ℕ) → j ≢ x → heap_way o' 0 j ≡ heap_way o 0 j) where
@@ -226,7 +264,7 @@ module _ {S : Type 0} (ops : Ops S) (c : Config) (o o' : Ordered (Host S)) (orde
         → pending core (heap_way o 0 x) ≡ pending (with_reply core r) ms
     owed_still ms = ap (λ y. owed (number_of core) core.memory.asked y ++ along_owed core)
         (ap (λ e. reply_owed e (heap_way o 0 x) core.memory.coherence.done) asked
-        ∙ ap (λ (l : List Message). reply_owed (Some (errand.Asked k number)) l
+        ∙ ap (λ (l : List Message). reply_owed (Some (heap_request.Asked k number)) l
         core.memory.coherence.done) before
         ∙ ap (λ y. first_reply y (reply_there core.memory.coherence.done)) is_reply)
 
@@ -255,6 +293,18 @@ module _ {S : Type 0} (ops : Ops S) (c : Config) (o o' : Ordered (Host S)) (orde
                 ∙ ap (λ xs. core.history ++ xs) (owed_still (heap_way o' 0 j))
                 ∙ ap (λ (z : Host S). z.history ++ pending z (heap_way o' 0 j)) (sym y.1)
             | inr y ↦ f.parts j n y.1 ∙ ap (λ ms. n.history ++ pending n ms) (sym (others j y.0))
+          ];
+      together = λ j n h.
+          elim (set-places o.cores x j (with_reply core r) n
+          (ap (λ ns. slice_get ns j) (sym cores) ∙ h)) [
+            | inl y ↦
+                subst (λ xs. StandTogether xs order)
+                (owed_still (heap_way o' 0 j)
+                ∙ ap (λ (z : Host S). pending z (heap_way o' 0 j)) (sym y.1))
+                (f.together x core there)
+            | inr y ↦
+                subst (λ ms. StandTogether (pending n ms) order) (sym (others j y.0))
+                (f.together j n y.1)
           ];
       blocks =
           λ j n g at shows.

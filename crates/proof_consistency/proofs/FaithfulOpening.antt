@@ -17,12 +17,13 @@ use Rattle.ivy_pagetable.specs.Manager.{Ops, Laws}
 use Rattle.ivy_program.specs.Programs.{Program, Called}
 use Rattle.proof_refinement.specs.ivy_alloc.Heap.{HeapState, first_heap}
 use Rattle.proof_refinement.specs.ivy_heap.HeapCalls.{first_side}
-use Rattle.ivy_moves.specs.Ordered.{Ordered}
-use Rattle.ivy_moves.specs.Following.{ordered_of}
+use Rattle.ivy_moves.specs.Explained.{StandTogether}
+use Rattle.ivy_moves.specs.FifoWorld.{FifoWorld}
+use Rattle.ivy_moves.specs.Following.{fifo_of}
 use Rattle.proof_refinement.specs.ivy_host.Hosts.{Host, first_host}
 use Rattle.proof_refinement.specs.ivy_host.Openings.{opening}
 use Rattle.proof_refinement.specs.proof_transitions.Letters.{Letter, Place, Underway, Aside, Loose, IsAt}
-use Rattle.proof_refinement.specs.Errands.{heap_way}
+use Rattle.proof_refinement.specs.HeapRequests.{heap_way}
 use Rattle.proof_refinement.proofs.LiftedWorlds.{entry_of, page_of, net_of, IsSoundWorld}
 use Rattle.proof_refinement.proofs.LiftedRuns.{sound_opening}
 use Rattle.proof_refinement.proofs.of_proof_transitions.Opening.{IsFirst, orderly_opening}
@@ -31,6 +32,7 @@ use Rattle.proof_refinement.proofs.Worlds.{first_net}
 use Rattle.proof_consistency.specs.Copied.{HasBytes}
 use Rattle.proof_consistency.proofs.CopiedRows.{no_bytes, opening_copied}
 use Rattle.proof_consistency.proofs.Owing.{pending, IsRunning}
+use Rattle.proof_consistency.proofs.Together.{none_together}
 use Rattle.proof_consistency.proofs.Faithful.{IsFaithful}
 
 -- the entry of a page at a node as it begins
@@ -57,8 +59,8 @@ first_at i pages p = elim (cases_lt p pages) [
 
 module _ {S : Type 0} (ops : Ops S) (laws : Laws ops) (c : Config) (config : IsConfig c)
     (programs : List Program) (many : length programs ≡ c.nodes) where
-  abbrev begun : Ordered (Host S)
-  begun = ordered_of (opening ops c programs) (λ i j. [])
+  abbrev begun : FifoWorld (Host S)
+  begun = fifo_of (opening ops c programs) (λ i j. [])
 
   sound : IsSoundWorld ops c begun
   sound = sound_opening laws c config programs many
@@ -155,6 +157,10 @@ module _ {S : Type 0} (ops : Ops S) (laws : Laws ops) (c : Config) (config : IsC
     parts = λ i n there.
         (let new = opening_first ops c programs i n there in
         ap (λ (x : Host S). x.history ++ pending x (heap_way begun 0 i)) (sym new.1));
+    together = λ i n there.
+        (let new = opening_first ops c programs i n there in
+        subst (λ (x : Host S). StandTogether (pending x (heap_way begun 0 i)) []) (sym new.1)
+        (none_together []));
     blocks =
         λ i n h there has.
         (let new = opening_first ops c programs i n there in

@@ -15,17 +15,17 @@ use Rattle.ivy_moves.specs.ivy_link.Paired.{posted}
 use Rattle.ivy_pagetable.specs.Manager.{Ops, Laws}
 use Rattle.ivy_program.specs.Programs.{Program}
 use Rattle.ivy_moves.specs.Cores.{Outcome}
-use Rattle.ivy_moves.specs.Ordered.{Ordered, Steps, Delivers}
-use Rattle.proof_refinement.specs.ivy_heap.declared.Errand.TheVariants as errand
+use Rattle.ivy_moves.specs.FifoWorld.{FifoWorld, Steps, Delivers}
+use Rattle.proof_refinement.specs.ivy_heap.declared.HeapRequest.TheVariants as heap_request
 use Rattle.proof_refinement.specs.ivy_heap.HeapCalls.{is_of_pages, told_of, request, answer_to}
-use Rattle.proof_refinement.proofs.of_ivy_heap.Errands.{answer_heap, replied}
+use Rattle.proof_refinement.proofs.of_ivy_heap.HeapRequests.{answer_heap, replied}
 use Rattle.proof_refinement.proofs.of_ivy_memory.Pages.{IsOfPages, begun-pages}
 use Rattle.proof_refinement.specs.ivy_host.Hosts.{Host, host_rules, serving}
 use Rattle.proof_refinement.specs.ivy_host.Sound.{IsSoundHost}
 use Rattle.proof_refinement.proofs.of_ivy_host.Pages.{serve-pages}
-use Rattle.proof_refinement.proofs.of_ivy_host.Tame.{tame}
+use Rattle.proof_refinement.proofs.of_ivy_host.WellBehaved.{well_behaved}
 use Rattle.proof_refinement.specs.proof_transitions.Orderly.{IsOrderly}
-use Rattle.proof_refinement.specs.Errands.{about_heap, heap_way, call_message, IsErrandAt, resting, asking, answered}
+use Rattle.proof_refinement.specs.HeapRequests.{about_heap, heap_way, call_message, IsHeapRequestAt, resting, asking, answered}
 use Rattle.proof_refinement.proofs.LiftedWorlds.{net_of, IsSoundWorld, steps_sound}
 use Rattle.proof_refinement.proofs.HostTurns.{HostTurn, answers, tries_again, goes_on, refuses, asks_for, serves_heap, asks_heap, asks, made_along, without_call, asked_posted}
 use Rattle.proof_refinement.specs.ivy_memory.Beside.{nothing_beside}
@@ -35,12 +35,13 @@ use Rattle.proof_refinement.proofs.LiftedHosts.{WorldTells, rested, turned, deli
 use Rattle.proof_consistency.specs.Copied.{IsCopied}
 use Rattle.proof_consistency.proofs.CopiedRows.{copied-kept}
 use Rattle.proof_consistency.proofs.Owing.{Adds}
-use Rattle.proof_consistency.proofs.OwingEvents.{Copies, turn_adds, message_adds}
+use Rattle.proof_consistency.proofs.CarriedWords.{Copies}
+use Rattle.proof_consistency.proofs.OwingEvents.{turn_adds, message_adds}
 use Rattle.proof_consistency.proofs.Faithful.{IsFaithful, HasPrograms, faithful-on, programs-on}
 use Rattle.proof_consistency.proofs.FaithfulHeap.{with_heap, with_reply, serves_faithful, learns_faithful}
 
 -- after a step: more stands in the order, and each node keeps its program
-pub record GoesOn {S : Type 0} (ops : Ops S) (c : Config) (o o' : Ordered (Host S))
+pub record GoesOn {S : Type 0} (ops : Ops S) (c : Config) (o o' : FifoWorld (Host S))
     (order : List Record) : Type 0 where
   pub more : List Record
   pub faithful : IsFaithful ops c o' (order ++ more)
@@ -79,7 +80,7 @@ module _ {S : Type 0} (ops : Ops S) (c : Config) (x : ℕ) (h : Host S) (good : 
       (request k) (λ home. absurd (good.memory.side.away away home))
 
 module _ {S : Type 0} (ops : Ops S) (laws : Laws ops) (c : Config) (config : IsConfig c)
-    (o o' : Ordered (Host S)) (order : List Record) (f : IsFaithful ops c o order) where
+    (o o' : FifoWorld (Host S)) (order : List Record) (f : IsFaithful ops c o order) where
   sized : IsSized c f.memory
   sized = leads_sized c (first c) f.memory order config (first_sized c) f.legal
 
@@ -163,18 +164,18 @@ module _ {S : Type 0} (ops : Ops S) (laws : Laws ops) (c : Config) (config : IsC
 
     -- nothing is on its way from node 0 to a node that has no answer to wait for
     way_at_rest : (x : ℕ) (core : Host S) → slice_get o.cores x ≡ Some core
-        → core.memory.side.heap ≡ None → core.memory.side.errand ≡ None → heap_way o 0 x ≡ []
+        → core.memory.side.heap ≡ None → core.memory.side.heap_request ≡ None → heap_way o 0 x ≡ []
     way_at_rest x core there away rest =
-        at (f.sound.errands.each x core
+        at (f.sound.heap_requests.each x core
         (λ home. (f.sound.sound x core there).memory.side.away away
         ((f.sound.sound x core there).me ∙ home)) there)
       where
-        at : IsErrandAt x core.memory.side.errand (heap_way o x 0) (heap_way o 0 x)
+        at : IsHeapRequestAt x core.memory.side.heap_request (heap_way o x 0) (heap_way o 0 x)
             → heap_way o 0 x ≡ []
         at (resting quiet there back) = back
         at (asking k number asks there back) = back
         at (answered k number body r asks there back reply can) =
-            absurd (none-some (errand.Asked k number) (sym rest ∙ asks))
+            absurd (none-some (heap_request.Asked k number) (sym rest ∙ asks))
 
     tells_on : WorldTells ops (Copies {S = S} c) c f.pages o o' pages → GoesOn ops c o o' order
     tells_on (rested same flat) = record {
@@ -183,7 +184,7 @@ module _ {S : Type 0} (ops : Ops S) (laws : Laws ops) (c : Config) (config : IsC
           subst (IsFaithful ops c o') (sym (append-nil order))
           (subst (λ x. IsFaithful ops c x order) (sym same) f);
       programs =
-          λ programs has. subst (λ (x : Ordered (Host S)). HasPrograms programs x) (sym same) has;
+          λ programs has. subst (λ (x : FifoWorld (Host S)). HasPrograms programs x) (sym same) has;
     }
     tells_on (turned x t turn tells) =
         event_on x t.core t.outcome.after t.there t.cores
@@ -210,4 +211,4 @@ module _ {S : Type 0} (ops : Ops S) (laws : Laws ops) (c : Config) (config : IsC
       let all =
       kept-steps {P = Copies {S = S} c} laws c (copied-kept ops c config) (ops.first c 0) o o'
       f.pages f.sound (f.orderly, f.copied) step in
-      tells_on all.0 (steps_sound ops c (tame laws c) o o' f.sound step) all.1.0 all.1.1 all.2
+      tells_on all.0 (steps_sound ops c (well_behaved laws c) o o' f.sound step) all.1.0 all.1.1 all.2

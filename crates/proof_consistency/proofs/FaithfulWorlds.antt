@@ -13,16 +13,16 @@ use Rattle.ivy_program.specs.Programs.{Program}
 use Rattle.ivy_moves.specs.declared.moves.Move.{Move}
 use Rattle.ivy_moves.specs.Nodes.{Node}
 use Rattle.ivy_moves.specs.Worlds.{World, Leads}
-use Rattle.ivy_moves.specs.Explained.{IsExplainedBy}
+use Rattle.ivy_moves.specs.Explained.{IsExplainedBy, AreTogether}
 use Rattle.ivy_moves.specs.Explained as explained
-use Rattle.ivy_moves.specs.Following.{ordered_of, Follows}
+use Rattle.ivy_moves.specs.Following.{fifo_of, Follows}
 use Rattle.ivy_moves.proofs.Kept.{IsKeptBySteps, move-keeps, moves-keep}
 use Rattle.proof_refinement.specs.ivy_host.Hosts.{Host, answered_by, host_rules, first_host}
 use Rattle.proof_refinement.specs.ivy_host.Sound.{IsSoundHost}
 use Rattle.proof_refinement.specs.ivy_host.Openings.{first_node, first_nodes, opening}
 use Rattle.proof_refinement.specs.ivy_host.Holding.{AreRuns}
-use Rattle.proof_refinement.proofs.of_ivy_host.Tame.{tame}
-use Rattle.proof_consistency.proofs.Faithful.{IsFaithful, HasPrograms, map-places, faithful_explained, faithful_runs}
+use Rattle.proof_refinement.proofs.of_ivy_host.WellBehaved.{well_behaved}
+use Rattle.proof_consistency.proofs.Faithful.{IsFaithful, HasPrograms, map-places, faithful_explained, faithful_together, faithful_runs}
 use Rattle.proof_consistency.proofs.FaithfulSteps.{GoesOn, faithful_next}
 use Rattle.proof_consistency.proofs.FaithfulOpening.{opening_faithful}
 
@@ -35,30 +35,34 @@ mapped-place f (y ∷ xs) (suc i) x e = mapped-place f xs i x e
 
 module _ {S : Type 0} (ops : Ops S) (laws : Laws ops) (c : Config) (config : IsConfig c) where
   explains : (w : World (Host S)) (posted : ℕ → ℕ → List Message) (order : List Record)
-      → IsFaithful ops c (ordered_of w posted) order
+      → IsFaithful ops c (fifo_of w posted) order
       → IsExplainedBy (host_rules ops) c answered_by w order
   explains w posted order f =
-      subst (IsExplained c order)
-      (map-map (λ (n : Host S). answered_by n) (λ (n : Node (Host S)). n.core) w.nodes)
-      (faithful_explained ops c (ordered_of w posted) order f)
+      let all = map-map (λ (n : Host S). answered_by n) (λ (n : Node (Host S)). n.core) w.nodes in
+      record {
+        explained = subst (IsExplained c order) all
+            (faithful_explained ops c (fifo_of w posted) order f);
+        together = subst (AreTogether order) all
+            (faithful_together ops c (fifo_of w posted) order f);
+      }
 
   -- after each step an order that goes on from this one is faithful, and the nodes have these
   -- programs
   abbrev GoesOnFrom : List Program → List Record → World (Host S)
       → (ℕ → ℕ → List Message) → Type 0
   GoesOnFrom programs order w posted =
-      (more : List Record) × IsFaithful ops c (ordered_of w posted) (order ++ more)
-      × HasPrograms programs (ordered_of w posted)
+      (more : List Record) × IsFaithful ops c (fifo_of w posted) (order ++ more)
+      × HasPrograms programs (fifo_of w posted)
 
   steps_go_on : (programs : List Program) (order : List Record)
-      → IsKeptBySteps (host_rules ops) c (IsSoundHost ops c) config (tame laws c)
+      → IsKeptBySteps (host_rules ops) c (IsSoundHost ops c) config (well_behaved laws c)
       (GoesOnFrom programs order)
   steps_go_on programs order w w' posted h f next =
-      let on : GoesOn ops c (ordered_of w posted) (ordered_of w' next.0) (order ++ f.0) =
-      faithful_next ops laws c config (ordered_of w posted) (ordered_of w' next.0)
+      let on : GoesOn ops c (fifo_of w posted) (fifo_of w' next.0) (order ++ f.0) =
+      faithful_next ops laws c config (fifo_of w posted) (fifo_of w' next.0)
       (order ++ f.0) f.1 next.2 in (
         f.0 ++ on.more,
-        subst (IsFaithful ops c (ordered_of w' next.0)) (append_assoc order f.0 on.more)
+        subst (IsFaithful ops c (fifo_of w' next.0)) (append_assoc order f.0 on.more)
             on.faithful,
         on.programs programs f.2,
       )
@@ -66,41 +70,41 @@ module _ {S : Type 0} (ops : Ops S) (laws : Laws ops) (c : Config) (config : IsC
   -- the order explains the world, and goes on to explain each world after it
   pub goes_on : (programs : List Program) (w : World (Host S))
       (posted : ℕ → ℕ → List Message) (order : List Record) (moves : List Move)
-      → Follows c (IsSoundHost ops c) w posted → IsFaithful ops c (ordered_of w posted) order
-      → HasPrograms programs (ordered_of w posted)
+      → Follows c (IsSoundHost ops c) w posted → IsFaithful ops c (fifo_of w posted) order
+      → HasPrograms programs (fifo_of w posted)
       → explained.GoesOn (host_rules ops) c answered_by w order moves
   goes_on programs w posted order [] h f has = explains w posted order f
   goes_on programs w posted order (move ∷ moves) h f has = (
     explains w posted order f,
     λ mid made.
         (let now : GoesOnFrom programs order w posted =
-        ([], subst (IsFaithful ops c (ordered_of w posted)) (sym (append-nil order)) f, has) in
+        ([], subst (IsFaithful ops c (fifo_of w posted)) (sym (append-nil order)) f, has) in
         let next =
-        move-keeps (host_rules ops) c (IsSoundHost ops c) config (tame laws c)
+        move-keeps (host_rules ops) c (IsSoundHost ops c) config (well_behaved laws c)
         (GoesOnFrom programs order) (steps_go_on programs order) w mid move (posted, h, now)
         made in
         (next.2.0, goes_on programs mid next.0 (order ++ next.2.0) moves next.1 next.2.1 next.2.2)),
   )
 
   runs : (programs : List Program) (w : World (Host S)) (posted : ℕ → ℕ → List Message)
-      (order : List Record) → IsFaithful ops c (ordered_of w posted) order
-      → HasPrograms programs (ordered_of w posted) → AreRuns programs w
+      (order : List Record) → IsFaithful ops c (fifo_of w posted) order
+      → HasPrograms programs (fifo_of w posted) → AreRuns programs w
   runs programs w posted order f has i n there =
-      let core : slice_get (ordered_of w posted).cores i ≡ Some n.core =
+      let core : slice_get (fifo_of w posted).cores i ≡ Some n.core =
       mapped-place (λ (m : Node (Host S)). m.core) w.nodes i n there in
-      (has i n.core core, faithful_runs ops c (ordered_of w posted) order f i n.core core)
+      (has i n.core core, faithful_runs ops c (fifo_of w posted) order f i n.core core)
 
   -- in each world that is led to, the histories are runs of the programs
   pub runs_led : (programs : List Program) (w w' : World (Host S))
       (posted : ℕ → ℕ → List Message) (order : List Record) (moves : List Move)
       → Follows c (IsSoundHost ops c) w posted
-      → IsFaithful ops c (ordered_of w posted) order → HasPrograms programs (ordered_of w posted)
+      → IsFaithful ops c (fifo_of w posted) order → HasPrograms programs (fifo_of w posted)
       → Leads (host_rules ops) c w moves w' → AreRuns programs w'
   runs_led programs w w' posted order moves h f has lead =
       let now : GoesOnFrom programs order w posted =
-      ([], subst (IsFaithful ops c (ordered_of w posted)) (sym (append-nil order)) f, has) in
+      ([], subst (IsFaithful ops c (fifo_of w posted)) (sym (append-nil order)) f, has) in
       let end =
-      moves-keep (host_rules ops) c (IsSoundHost ops c) config (tame laws c)
+      moves-keep (host_rules ops) c (IsSoundHost ops c) config (well_behaved laws c)
       (GoesOnFrom programs order) (steps_go_on programs order) w w' moves (posted, h, now)
       lead in
       runs programs w' end.0 (order ++ end.2.0) end.2.1 end.2.2
@@ -124,7 +128,7 @@ module _ {S : Type 0} (ops : Ops S) (c : Config) where
       (rest.0, rest.1, rest.2 ∙ ap (λ k. first_host ops c k rest.0) (omega arith))
 
   pub opening_programs : (programs : List Program)
-      → HasPrograms programs (ordered_of (opening ops c programs) (λ i j. []))
+      → HasPrograms programs (fifo_of (opening ops c programs) (λ i j. []))
   opening_programs programs i n h =
       let found : (x : Node (Host S)) × (slice_get (first_nodes ops c 0 programs) i ≡ Some x)
       × (x.core ≡ n) =

@@ -2,8 +2,10 @@ pub mod CopiedSteps
 pub mod CopiedWords
 pub mod CopiedRows
 pub mod HeapServed
+pub mod Together
 pub mod Owing
 pub mod Beside
+pub mod CarriedWords
 pub mod OwingEvents
 pub mod OwedCalls
 pub mod Faithful

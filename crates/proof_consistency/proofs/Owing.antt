@@ -19,19 +19,20 @@ use Rattle.ivy_pagetable.proofs.Words.{not_yet}
 use Rattle.ivy_pagetable.specs.Tables.{entry_at}
 use Rattle.ivy_program.specs.Runs.{IsRunTo}
 use Rattle.ivy_program.specs.Steps.{after_reply, answered_with, AsksRow}
+use Rattle.ivy_moves.specs.Explained.{StandTogether}
 use Rattle.ivy_wire.specs.Data.{Message}
 use Rattle.ivy_pagetable.specs.declared.Out.{Out}
 use Rattle.proof_refinement.specs.ivy_alloc.Heap.{HeapState}
 use Rattle.proof_refinement.specs.ivy_alloc.Told.{BlocksTold}
 use Rattle.proof_refinement.specs.ivy_memory.declared.Asked.TheVariants as asked
-use Rattle.proof_refinement.specs.ivy_heap.declared.Errand.{Errand}
-use Rattle.proof_refinement.specs.ivy_heap.declared.Errand.TheVariants as errand
+use Rattle.proof_refinement.specs.ivy_heap.declared.HeapRequest.{HeapRequest}
+use Rattle.proof_refinement.specs.ivy_heap.declared.HeapRequest.TheVariants as heap_request
 use Rattle.proof_refinement.specs.ivy_memory.Asking.{asked_of}
 use Rattle.proof_refinement.specs.ivy_heap.HeapCalls.{after_told, reply_told}
 use Rattle.proof_refinement.specs.ivy_memory.Memories.{NodeMemory, first_reply, reply_of, reply_there, taken_with, taken_out}
 use Rattle.proof_refinement.specs.ivy_memory.Beside.{gives_reply}
 use Rattle.proof_refinement.specs.ivy_host.Hosts.{Host, number_of, recorded}
-use Rattle.proof_refinement.specs.Errands.{replied_by}
+use Rattle.proof_refinement.specs.HeapRequests.{replied_by}
 use Rattle.proof_refinement.proofs.LiftedEvents.{WaitsAt}
 use Rattle.proof_refinement.specs.ivy_memory.Flat.{Answers}
 
@@ -43,7 +44,7 @@ owed me (Some c) (Some r) = record { node = me; call = c; reply = r } ∷ []
 
 -- The reply that the flat memory gave: node 0 was asked for it and has answered, with these
 -- messages of the heap on their way from there, or a word that waited was carried out.
-abbrev pub reply_owed : Option Errand → List Message → Option Out → Option Reply
+abbrev pub reply_owed : Option HeapRequest → List Message → Option Out → Option Reply
 reply_owed e ms d = first_reply (replied_by e ms) (reply_there d)
 
 -- of the calls made along with it, whose words were carried out with its word
@@ -63,7 +64,7 @@ along_owed n =
 
 abbrev pub pending : {S : Type 0} → Host S → List Message → List Record
 pending n ms =
-    owed (number_of n) n.memory.asked (reply_owed n.memory.side.errand ms n.memory.coherence.done)
+    owed (number_of n) n.memory.asked (reply_owed n.memory.side.heap_request ms n.memory.coherence.done)
     ++ along_owed n
 
 pub then-alone : (me : ℕ) (calls : List Call) (d : Option Out) (outs : List Out) → calls ≡ []
@@ -98,13 +99,13 @@ AreWordsOf c page (call ∷ calls) (word ∷ words) =
 AreWordsOf c page calls words = ⊥
 
 -- a reply that is there is owed
-pub told-owed : (e : Option Errand) (ms : List Message) (d : Option Out) (r : Reply)
-    → ((y : Errand) → e ≡ Some y → d ≡ None) → first_reply (reply_told e) (reply_there d) ≡ Some r
+pub told-owed : (e : Option HeapRequest) (ms : List Message) (d : Option Out) (r : Reply)
+    → ((y : HeapRequest) → e ≡ Some y → d ≡ None) → first_reply (reply_told e) (reply_there d) ≡ Some r
     → reply_owed e ms d ≡ Some r
 told-owed None ms d r apart is = is
-told-owed (Some (errand.Told s)) ms d r apart is = is
-told-owed (Some (errand.Asked k number)) ms d r apart is =
-    absurd (none-some r (ap reply_there (sym (apart (errand.Asked k number) refl)) ∙ is))
+told-owed (Some (heap_request.Told s)) ms d r apart is = is
+told-owed (Some (heap_request.Asked k number)) ms d r apart is =
+    absurd (none-some r (ap reply_there (sym (apart (heap_request.Asked k number) refl)) ∙ is))
 
 pub owed-unasked : (me : ℕ) (o : Option Call) (r : Option Reply) → o ≡ None → owed me o r ≡ []
 owed-unasked me None r e = refl
@@ -191,7 +192,8 @@ pub data GoOn (blocks : Blocks) (heap heap' : Option HeapState) (blocks' : Block
       → blocks' ≡ t.blocks → GoOn blocks heap heap' blocks'
 
 -- What an event of node i comes to, with these messages of the heap on their way to it from node 0:
--- the flat memory makes these records, all the node's own, and has these pages then.
+-- the flat memory makes these records, all the node's own, and has these pages then; and what is owed
+-- to the node stands together in the order as it did.
 pub record Adds {S : Type 0} (c : Config) (old : model.Memory) (i : ℕ) (n n' : Host S)
     (ms : List Message) (pages : ℕ → List ℕ) : Type 0 where
   pub more : List Record
@@ -201,6 +203,8 @@ pub record Adds {S : Type 0} (c : Config) (old : model.Memory) (i : ℕ) (n n' :
   pub own : part i more ≡ more
   pub other : (j : ℕ) → j ≢ i → part j more ≡ []
   pub history : n'.history ++ pending n' ms ≡ (n.history ++ pending n ms) ++ more
+  pub together : (order : List Record) → StandTogether (pending n ms) order
+      → StandTogether (pending n' ms) (order ++ more)
   pub running : IsRunning c n'
   pub program : n'.process.program ≡ n.process.program
   pub blocks : GoOn old.blocks n.memory.side.heap n'.memory.side.heap new.blocks

@@ -1,9 +1,6 @@
 -- What each event of a node adds to the order of all records, but for a message of the heap. For
 -- every manager.
-use Rattle.std.specs.Prelude.{All}
-use Rattle.std.proofs.lemmas.List.Elements.{All-head, All-tail}
-use Rattle.std.proofs.Common.{◌≡◌, ◌⊎◌, ◌<◌, ℕ, ◌+◌, List, [], ◌∷◌, ◌++◌, length, Option, Some, None, refl, ap, sym, ◌∙◌, subst, inl, inr, if◌then◌else◌, ◌==◌, true}
-use Rattle.std.proofs.lemmas.Bool.{cases_eq}
+use Rattle.std.proofs.Common.{◌≡◌, ◌⊎◌, ◌<◌, ℕ, ◌+◌, List, [], ◌∷◌, ◌++◌, length, Option, Some, None, refl, ap, sym, ◌∙◌, subst, inl, inr, true}
 use Rattle.std.proofs.lemmas.List.{append-nil}
 use Rattle.std.proofs.lemmas.Option.{same_Some, none-some}
 use Rattle.ivy_model.specs.declared.Config.{Config}
@@ -25,53 +22,46 @@ use Rattle.ivy_pagetable.specs.declared.Entry.TheVariants as entry
 use Rattle.ivy_pagetable.specs.declared.Out.{Out}
 use Rattle.ivy_pagetable.specs.declared.Word.{Word}
 use Rattle.ivy_pagetable.specs.Tables.{entry_at}
-use Rattle.ivy_pagetable.specs.Words.{Carried, carried_out}
 use Rattle.ivy_pagetable.specs.Manager.{Ops}
 use Rattle.proof_refinement.specs.ivy_coherence.Coherent.{Coherent}
 use Rattle.proof_refinement.specs.ivy_coherence.Steps.{handled}
-use Rattle.proof_refinement.specs.ivy_coherence.Faults.{Begun, along}
+use Rattle.proof_refinement.specs.ivy_coherence.PageFaults.{Begun, along}
 use Rattle.proof_refinement.proofs.of_ivy_coherence.Same.{handled-same}
 use Rattle.ivy_program.specs.States.{State, first_state}
 use Rattle.ivy_program.specs.Steps.{Local, Asks, step_of, at_state, AsksRow, along_of}
 use Rattle.ivy_program.proofs.Running.{runs_on, runs_answered, asked_legal}
 use Rattle.ivy_moves.specs.Cores.{Outcome}
+use Rattle.ivy_moves.specs.Explained.{StandTogether}
 use Rattle.proof_refinement.specs.ivy_memory.declared.Asked.TheVariants as kinds
 use Rattle.proof_refinement.specs.ivy_memory.Asking.{asked_of}
 use Rattle.proof_refinement.specs.ivy_alloc.Heap.{HeapState}
 use Rattle.proof_refinement.specs.ivy_heap.declared.HeapCall.{HeapCall}
-use Rattle.proof_refinement.specs.ivy_heap.declared.Errand.{Errand}
-use Rattle.proof_refinement.specs.ivy_heap.declared.Errand.TheVariants as errand
+use Rattle.proof_refinement.specs.ivy_heap.declared.HeapRequest.{HeapRequest}
+use Rattle.proof_refinement.specs.ivy_heap.declared.HeapRequest.TheVariants as heap_request
 use Rattle.proof_refinement.specs.ivy_heap.HeapCalls.{HeapSide, kept, told_of, reply_told}
 use Rattle.proof_refinement.specs.ivy_memory.Memories.{NodeMemory, first_reply, reply_of, reply_there, reply_at, taken_out, answered, needed}
 use Rattle.proof_refinement.specs.ivy_memory.Beside.{Beside, nothing_beside, gives_reply}
-use Rattle.proof_refinement.proofs.of_ivy_memory.Tame.{without-sound}
+use Rattle.proof_refinement.proofs.of_ivy_memory.WellBehaved.{without-sound}
 use Rattle.proof_refinement.specs.ivy_host.Hosts.{Host, number_of, recorded, begins_as, serving}
-use Rattle.proof_refinement.proofs.of_ivy_memory.Pages.{is_of_pages, no_errand_of}
+use Rattle.proof_refinement.proofs.of_ivy_memory.Pages.{is_of_pages, no_heap_request_of}
 use Rattle.proof_refinement.proofs.of_ivy_host.Pages.{page_serving}
 use Rattle.proof_refinement.specs.ivy_host.Sound.{IsSoundHost}
-use Rattle.proof_refinement.specs.proof_transitions.Letters.{Net}
-use Rattle.proof_refinement.specs.proof_transitions.Orderly.{IsOrderly}
-use Rattle.proof_refinement.specs.proof_transitions.Rows.{with_flat_page}
-use Rattle.proof_refinement.proofs.LiftedEvents.{WaitsAt, Carries, CarriesAll, SameRest, Tells, quiet, answers as is_answered, Starts, busy, hits, waits}
-use Rattle.proof_refinement.proofs.HostTurns.{asks as access, HostTurn, answers, tries_again, goes_on, refuses, asks_for, serves_heap, asks_heap, made_along, taken-errand, without_call}
+use Rattle.proof_refinement.proofs.LiftedEvents.{WaitsAt, CarriesAll, SameRest, Tells, quiet, answers as is_answered, Starts, busy, hits, waits}
+use Rattle.proof_refinement.proofs.HostTurns.{asks as access, HostTurn, answers, tries_again, goes_on, refuses, asks_for, serves_heap, asks_heap, made_along, taken-heap_request, without_call}
 use Rattle.proof_refinement.proofs.HostTurns.{number_of as number_of_call}
 use Rattle.proof_consistency.proofs.Beside.{along-kept, along-more, beside-words, beside-prompt, beside-asks}
 use Rattle.ivy_program.proofs.Along.{asks_along}
 use Rattle.proof_refinement.proofs.LiftedHosts.{TurnTells}
-use Rattle.proof_consistency.specs.Copied.{IsCopied}
-use Rattle.proof_consistency.proofs.CopiedWords.{with_page-here, with_page-other, bytes_there}
-use Rattle.proof_refinement.specs.ivy_memory.Flat.{Answers, IsServed}
-use Rattle.proof_refinement.proofs.of_ivy_memory.CallsServed.{word_served, refusal_served}
+use Rattle.proof_refinement.specs.ivy_memory.Flat.{Answers}
+use Rattle.proof_refinement.proofs.of_ivy_memory.CallsServed.{refusal_served}
 use Rattle.proof_consistency.proofs.HeapServed.{memory_told, heap_served}
+use Rattle.proof_consistency.proofs.CarriedWords.{Copies, Came, came, CameAll, came_all, have-replies}
 use Rattle.proof_consistency.proofs.Owing.{owed, reply_owed, pending, told-owed, owed-unasked}
-use Rattle.proof_consistency.proofs.Owing.{owed-untold, owed-leads, owed-own, owed-other, told_history}
+use Rattle.proof_consistency.proofs.Owing.{owed-untold, owed-leads, owed-own, owed-other}
 use Rattle.proof_consistency.proofs.Owing.{owed_then, owed_along, along_owed, untold-along, then-alone, then-untold, none_pending, along-own, along-other, reply-given, IsReply, HaveReplies, AreWordsOf, taken_history, taken-pending, taken-running}
 use Rattle.proof_consistency.proofs.Owing.{served_history, owing_history, IsWordOf, IsRunning, GoOn}
 use Rattle.proof_consistency.proofs.Owing.{blocks_stay, blocks_change, Adds}
-
--- an orderly net whose copies are those of the flat memory
-abbrev pub Copies : {S : Type 0} → Config → (ℕ → S) → Net → (ℕ → List ℕ) → Type 0
-Copies c m n f = IsOrderly c n × IsCopied c n f
+use Rattle.proof_consistency.proofs.Together.{none_together, added_together, grown_together, later_together}
 
 -- a program's calls are legal
 asked_width : {S : Type 0} (n : Host S) (called : Call) → step_of n.process ≡ Asks called
@@ -85,117 +75,6 @@ one_word (entry.AwaitRead s) w v j k a b = sym a.0 ∙ b.0
 one_word (entry.AwaitWrite s) w v j k a b = sym a.0 ∙ b.0
 one_word (entry.AwaitAcks s) w v j k a b = sym a.0 ∙ b.0
 
-with_page-same : (f g : ℕ → List ℕ) (p q : ℕ) (b d : List ℕ) → b ≡ d → f q ≡ g q
-    → with_flat_page f p b q ≡ with_flat_page g p d q
-with_page-same f g p q b d e h =
-    ap (λ z. if q == p then z else f q) e ∙ ap (λ z. if q == p then d else z) h
-
--- the pages after a call that one page's bytes came to
-served_pages : (c : Config) (old : model.Memory) (called : Call) (page : ℕ) (came : Carried)
-    (s : IsServed c old called page came) (q : ℕ) → q < c.pages
-    → flat_page c s.new q ≡ with_flat_page (flat_page c old) page came.bytes q
-served_pages c old called page came s q inside = elim (cases_eq q page) [
-  | inl same ↦
-      ap (flat_page c s.new) same ∙ s.here
-      ∙ sym (with_page-here (flat_page c old) page came.bytes q same)
-  | inr ne ↦ s.others q inside ne ∙ sym (with_page-other (flat_page c old) page came.bytes q ne)
-]
-
--- what a word that was carried out came to
-record Came (c : Config) (mem : model.Memory) (called : Call) (out : Out)
-    (pages : ℕ → List ℕ) : Type 0 where
-  new : model.Memory
-  gives : Answers c mem called (reply_of out) new
-  shows : (p : ℕ) → p < c.pages → pages p ≡ flat_page c new p
-  blocks : new.blocks ≡ mem.blocks
-
-module _ {S : Type 0} (c : Config) (config : IsConfig c) (x : ℕ) (mem : model.Memory)
-    (sized : IsSized c mem) (f : ℕ → List ℕ)
-    (shows : (p : ℕ) → p < c.pages → f p ≡ flat_page c mem p) where
-  -- a word is carried out on the flat memory's page
-  came : (page : ℕ) (word : Word) (out : Out) (flat : ℕ → List ℕ) (called : Call) → HasWidth called
-      → IsWordOf c called page word → Carries (Copies {S = S} c) c x f page word out flat
-      → Came c mem called out flat
-  came page word out flat called legal of k =
-      let same : k.net.page x page ≡ flat_page c mem page =
-      bytes_there c k.net f x page k.state word k.idle k.enough k.holds.1
-      ∙ shows page k.inside in
-      let served : IsServed c mem called page (carried_out word (flat_page c mem page)) =
-      word_served c mem sized config called page word legal of in
-      record {
-        new = served.new;
-        gives = subst (λ o. Answers c mem called (reply_of o) served.new)
-            (sym (k.gives ∙ ap (λ b. (carried_out word b).out) same)) served.answers;
-        shows = λ p inside.
-            ap (λ g. g p) k.after
-            ∙ with_page-same f (flat_page c mem) page p (carried_out word (f page)).bytes
-            (carried_out word (flat_page c mem page)).bytes
-            (ap (λ b. (carried_out word b).bytes) (shows page k.inside)) (shows p inside)
-            ∙ sym (served_pages c mem called page (carried_out word (flat_page c mem page)) served p
-            inside);
-        blocks = served.blocks;
-      }
-
--- words are carried out one after another on the flat memory's page
-record CameAll (c : Config) (mem : model.Memory) (me : ℕ) (calls : List Call) (outs : List Out)
-    (pages : ℕ → List ℕ) : Type 0 where
-  new : model.Memory
-  legal : ServesAll c mem (owed_along me calls outs) new
-  shows : (p : ℕ) → p < c.pages → pages p ≡ flat_page c new p
-  blocks : new.blocks ≡ mem.blocks
-
-came_all : (S : Type 0) (c : Config) (config : IsConfig c) (x me : ℕ) (mem : model.Memory)
-    → IsSized c mem → (f : ℕ → List ℕ) → ((p : ℕ) → p < c.pages → f p ≡ flat_page c mem p)
-    → me < c.nodes → (page : ℕ) (calls : List Call) (words : List Word) (outs : List Out) (flat : ℕ → List ℕ)
-    → All HasWidth calls → AreWordsOf c page calls words
-    → CarriesAll (Copies {S = S} c) c x f page words outs flat
-    → CameAll c mem me calls outs flat
-came_all S c config x me mem sized f shows here page [] [] [] flat wide are carries =
-    record {
-      new = mem;
-      legal = refl;
-      shows = λ p inside. ap (λ g. g p) carries ∙ shows p inside;
-      blocks = refl;
-    }
-came_all S c config x me mem sized f shows here page [] [] (o ∷ os) flat wide are carries =
-    absurd carries
-came_all S c config x me mem sized f shows here page [] (w ∷ ws) outs flat wide are carries =
-    absurd are
-came_all S c config x me mem sized f shows here page (k ∷ ks) [] outs flat wide are carries =
-    absurd are
-came_all S c config x me mem sized f shows here page (k ∷ ks) (w ∷ ws) [] flat wide are
-    carries = absurd carries
-came_all S c config x me mem sized f shows here page (k ∷ ks) (w ∷ ws) (o ∷ os) flat wide
-    are carries =
-    let legal : HasWidth k = All-head HasWidth k ks wide in
-    let one : Came c mem k o carries.0 =
-    came {S = S} c config x mem sized f shows page w o carries.0 k legal are.0 carries.1 in
-    let first : List Record = owed me (Some k) (reply_of o) in
-    let led : ServesAll c mem first one.new =
-    owed-leads c mem one.new me k (reply_of o) here legal one.gives in
-    let rest : CameAll c one.new me ks os flat =
-    came_all S c config x me one.new (leads_sized c mem one.new first config sized led) carries.0
-    one.shows here page ks ws os flat (All-tail HasWidth k ks wide) are.2 carries.2 in
-    record {
-      new = rest.new;
-      legal = leads-append c mem one.new rest.new first (owed_along me ks os) led
-          rest.legal;
-      shows = rest.shows;
-      blocks = rest.blocks ∙ one.blocks;
-    }
-
--- and have replies
-have-replies : (S : Type 0) (c : Config) (x page : ℕ) (calls : List Call) (words : List Word)
-    (f : ℕ → List ℕ) (outs : List Out) (flat : ℕ → List ℕ) → AreWordsOf c page calls words
-    → CarriesAll (Copies {S = S} c) c x f page words outs flat → HaveReplies calls outs
-have-replies S c x page [] words f outs flat are carries = tt
-have-replies S c x page (k ∷ ks) [] f outs flat are carries = absurd are
-have-replies S c x page (k ∷ ks) (w ∷ ws) f [] flat are carries = absurd carries
-have-replies S c x page (k ∷ ks) (w ∷ ws) f (o ∷ os) flat are carries = (
-  subst IsReply (sym carries.1.gives) (reply-given w (carries.1.net.page x page) are.1),
-  have-replies S c x page ks ws carries.0 os flat are.2 carries.2,
-)
-
 module _ {S : Type 0} (ops : Ops S) (c : Config) (config : IsConfig c) (x : ℕ) (mem : model.Memory)
     (sized : IsSized c mem) (f : ℕ → List ℕ)
     (shows : (p : ℕ) → p < c.pages → f p ≡ flat_page c mem p)
@@ -208,35 +87,35 @@ module _ {S : Type 0} (ops : Ops S) (c : Config) (config : IsConfig c) (x : ℕ)
 
   -- node 0 was asked for nothing where no call is in progress, where that is one of a word, and
   -- where a word waits
-  no_errand : ((called : Call) → n.memory.asked ≡ Some called → (k : HeapCall)
-      → asked_of n.memory.coherence.config called ≡ kinds.Heap k → ⊥) → n.memory.side.errand ≡ None
-  no_errand words =
-      no_errand_of n.memory.coherence.config n.memory.asked n.memory.side.errand words
-      good.memory.side.errand
+  no_heap_request : ((called : Call) → n.memory.asked ≡ Some called → (k : HeapCall)
+      → asked_of n.memory.coherence.config called ≡ kinds.Heap k → ⊥) → n.memory.side.heap_request ≡ None
+  no_heap_request words =
+      no_heap_request_of n.memory.coherence.config n.memory.asked n.memory.side.heap_request words
+      good.memory.side.heap_request
 
-  pub idle_errand : n.memory.asked ≡ None → n.memory.side.errand ≡ None
-  idle_errand idle = no_errand (λ called is. absurd (none-some called (sym idle ∙ is)))
+  pub idle_heap_request : n.memory.asked ≡ None → n.memory.side.heap_request ≡ None
+  idle_heap_request idle = no_heap_request (λ called is. absurd (none-some called (sym idle ∙ is)))
 
-  pub word_errand : (called : Call) (page : ℕ) (word : Word) → n.memory.asked ≡ Some called
+  pub word_heap_request : (called : Call) (page : ℕ) (word : Word) → n.memory.asked ≡ Some called
       → asked_of n.memory.coherence.config called ≡ kinds.Word page word
-      → n.memory.side.errand ≡ None
-  word_errand called page word asked of =
-      no_errand
+      → n.memory.side.heap_request ≡ None
+  word_heap_request called page word asked of =
+      no_heap_request
       (λ other is k heap.
       (let e : kinds.Word page word ≡ kinds.Heap k =
       sym of ∙ ap (asked_of n.memory.coherence.config) (same_Some called other (sym asked ∙ is))
       ∙ heap in absurd cc))
 
-  locked_errand : (page : ℕ) → n.memory.coherence.locked ≡ Some page → n.memory.side.errand ≡ None
-  locked_errand page lock = at n.memory.side.errand refl
+  locked_heap_request : (page : ℕ) → n.memory.coherence.locked ≡ Some page → n.memory.side.heap_request ≡ None
+  locked_heap_request page lock = at n.memory.side.heap_request refl
     where
-      at : (e : Option Errand) → n.memory.side.errand ≡ e → n.memory.side.errand ≡ None
+      at : (e : Option HeapRequest) → n.memory.side.heap_request ≡ e → n.memory.side.heap_request ≡ None
       at None is = is
       at (Some y) is = absurd (none-some page (sym (good.memory.apart y is).0 ∙ lock))
 
   -- then a reply is that of a word
-  word_owed : (d : Option Out) → n.memory.side.errand ≡ None
-      → reply_owed n.memory.side.errand ms d ≡ reply_there d
+  word_owed : (d : Option Out) → n.memory.side.heap_request ≡ None
+      → reply_owed n.memory.side.heap_request ms d ≡ reply_there d
   word_owed d none = ap (λ e. reply_owed e ms d) none
 
   -- without a call in progress none is owed
@@ -244,16 +123,17 @@ module _ {S : Type 0} (ops : Ops S) (c : Config) (config : IsConfig c) (x : ℕ)
   idle_pending idle =
       none_pending _ (along_owed n)
       (owed-unasked (number_of n) n.memory.asked
-      (reply_owed n.memory.side.errand ms n.memory.coherence.done) idle)
+      (reply_owed n.memory.side.heap_request ms n.memory.coherence.done) idle)
       (then-alone (number_of n) n.memory.along n.memory.coherence.done n.memory.coherence.done_more
       (good.memory.alone idle))
 
-  -- nothing is added
+  -- nothing is added, and what is owed was all so before
   silent : (n' : Host S) (flat : ℕ → List ℕ) → flat ≡ f
-      → n'.history ++ pending n' ms ≡ n.history ++ pending n ms → IsRunning c n'
+      → n'.history ++ pending n' ms ≡ n.history ++ pending n ms
+      → (taken : List Record) → pending n ms ≡ taken ++ pending n' ms → IsRunning c n'
       → n'.process.program ≡ n.process.program → n'.memory.side.heap ≡ n.memory.side.heap
       → Adds c mem x n n' ms flat
-  silent n' flat same history now program heap = record {
+  silent n' flat same history taken owes now program heap = record {
     more = [];
     new = mem;
     legal = refl;
@@ -261,21 +141,23 @@ module _ {S : Type 0} (ops : Ops S) (c : Config) (config : IsConfig c) (x : ℕ)
     own = refl;
     other = λ j ne. refl;
     history = history ∙ sym (append-nil (n.history ++ pending n ms));
+    together = λ order s. grown_together (pending n' ms) order []
+        (later_together taken (pending n' ms) order (subst (λ xs. StandTogether xs order) owes s));
     running = now;
     program = program;
     blocks = blocks_stay refl heap;
   }
 
-  -- a call is answered, or waits on
+  -- a call is answered, or waits on, and nothing is owed
   owing : (n' : Host S) (flat : ℕ → List ℕ) (called : Call) (o : Option Reply) (new : model.Memory)
       → HasWidth called → Answers c mem called o new
       → ((p : ℕ) → p < c.pages → flat p ≡ flat_page c new p)
       → n'.history ++ pending n' ms
-      ≡ (n.history ++ pending n ms) ++ owed (number_of n) (Some called) o → IsRunning c n'
-      → n'.process.program ≡ n.process.program
+      ≡ (n.history ++ pending n ms) ++ owed (number_of n) (Some called) o → pending n' ms ≡ []
+      → IsRunning c n' → n'.process.program ≡ n.process.program
       → GoOn mem.blocks n.memory.side.heap n'.memory.side.heap new.blocks
       → Adds c mem x n n' ms flat
-  owing n' flat called o new legal given pages history now program blocks = record {
+  owing n' flat called o new legal given pages history none now program blocks = record {
     more = owed (number_of n) (Some called) o;
     new = new;
     legal = owed-leads c mem new (number_of n) called o here legal given;
@@ -283,13 +165,15 @@ module _ {S : Type 0} (ops : Ops S) (c : Config) (config : IsConfig c) (x : ℕ)
     own = owed-own (number_of n) x called o good.me;
     other = λ j ne. owed-other (number_of n) x j called o good.me ne;
     history = history;
+    together = λ order s. subst (λ xs. StandTogether xs (order ++ owed (number_of n) (Some called) o))
+        (sym none) (none_together (order ++ owed (number_of n) (Some called) o));
     running = now;
     program = program;
     blocks = blocks;
   }
 
   -- where the reply is there no word waits
-  replied_free : (r : Reply) (e : Option Errand) (d : Option Out) → n.memory.side.errand ≡ e
+  replied_free : (r : Reply) (e : Option HeapRequest) (d : Option Out) → n.memory.side.heap_request ≡ e
       → n.memory.coherence.done ≡ d → first_reply (reply_told e) (reply_there d) ≡ Some r
       → n.memory.coherence.locked ≡ None
   replied_free r (Some e) d is done there = (good.memory.apart e is).0
@@ -303,32 +187,35 @@ module _ {S : Type 0} (ops : Ops S) (c : Config) (config : IsConfig c) (x : ℕ)
   records_reply called r asked there flat same =
       let given : Record = record { node = number_of n; call = called; reply = r } in
       let free : n.memory.coherence.locked ≡ None =
-      replied_free r n.memory.side.errand n.memory.coherence.done refl refl there in
+      replied_free r n.memory.side.heap_request n.memory.coherence.done refl refl there in
       let now : Host S = recorded n (taken_out n.memory) called r in
-      silent now flat same
-      (taken_history n.history (pending n ms) (pending now ms) (along_owed n) given
-      (ap (λ xs. xs ++ along_owed n)
-      (ap (λ a. owed (number_of n) a (reply_owed n.memory.side.errand ms n.memory.coherence.done))
+      let owes : pending n ms ≡ (given ∷ []) ++ along_owed n =
+      ap (λ xs. xs ++ along_owed n)
+      (ap (λ a. owed (number_of n) a (reply_owed n.memory.side.heap_request ms n.memory.coherence.done))
       asked
       ∙ ap (owed (number_of n) (Some called))
-      (told-owed n.memory.side.errand ms n.memory.coherence.done r
-      (λ y is. (good.memory.apart y is).1) there)))
-      (taken-pending n ms called r n.memory.along n.memory.coherence.done
-      n.memory.coherence.done_more refl refl refl (running.idle free)))
+      (told-owed n.memory.side.heap_request ms n.memory.coherence.done r
+      (λ y is. (good.memory.apart y is).1) there)) in
+      let rest : pending now ms ≡ along_owed n =
+      taken-pending n ms called r n.memory.along n.memory.coherence.done
+      n.memory.coherence.done_more refl refl refl (running.idle free) in
+      silent now flat same
+      (taken_history n.history (pending n ms) (pending now ms) (along_owed n) given owes rest)
+      (given ∷ []) (owes ∙ ap (λ xs. (given ∷ []) ++ xs) (sym rest))
       (taken-running n c called r
       (runs_answered n.process.program n.history first_state n.process.state given
       running.run (running.makes called asked).0)
       n.memory.along n.memory.coherence.done n.memory.coherence.done_more refl refl refl free
       ((running.makes called asked).1 r) (running.idle free) running.told)
       refl
-      (ap (λ (z : HeapSide). z.heap) (taken-errand n.memory n.memory.along))
+      (ap (λ (z : HeapSide). z.heap) (taken-heap_request n.memory n.memory.along))
 
   -- the program goes on by itself
   goes_alone : (s : State) → n.memory.asked ≡ None → step_of n.process ≡ Local s
       → (flat : ℕ → List ℕ) → flat ≡ f
       → Adds c mem x n (record n { process = at_state n.process s }) ms flat
   goes_alone s idle step flat same =
-      silent (record n { process = at_state n.process s }) flat same refl
+      silent (record n { process = at_state n.process s }) flat same refl [] refl
       (record {
         run = runs_on n.process.program n.history first_state n.process.state s running.run step;
         makes = λ other is. absurd (none-some other (sym idle ∙ is));
@@ -350,13 +237,15 @@ module _ {S : Type 0} (ops : Ops S) (c : Config) (config : IsConfig c) (x : ℕ)
       → Adds c mem x n (recorded n m called r) ms flat
   records_call m called r new idle step free alone unlocked serves flat pages blocks =
       let given : Record = record { node = number_of n; call = called; reply = r } in
+      let none : pending (recorded n m called r) ms ≡ [] =
+      none_pending (owed m.coherence.me m.asked (reply_owed m.side.heap_request ms m.coherence.done)) _
+      (owed-unasked m.coherence.me m.asked (reply_owed m.side.heap_request ms m.coherence.done) free)
+      (then-alone m.coherence.me m.along m.coherence.done m.coherence.done_more alone) in
       owing (recorded n m called r) flat called (Some r) new (asked_width n called step) serves
       pages
       (served_history n.history (pending n ms) (pending (recorded n m called r) ms) given
-      (idle_pending idle)
-      (none_pending (owed m.coherence.me m.asked (reply_owed m.side.errand ms m.coherence.done)) _
-      (owed-unasked m.coherence.me m.asked (reply_owed m.side.errand ms m.coherence.done) free)
-      (then-alone m.coherence.me m.along m.coherence.done m.coherence.done_more alone)))
+      (idle_pending idle) none)
+      none
       (record {
         run = runs_answered n.process.program n.history first_state n.process.state given
             running.run step;
@@ -393,8 +282,13 @@ module _ {S : Type 0} (ops : Ops S) (c : Config) (config : IsConfig c) (x : ℕ)
       ms flat
   call_waits k called calls flat idle asks done pages waiting beside alone =
       let now : k.done ≡ None = done ∙ good.memory.done idle in
-      let untold : reply_owed n.memory.side.errand ms k.done ≡ None =
-      word_owed k.done (idle_errand idle) ∙ ap reply_there now in
+      let untold : reply_owed n.memory.side.heap_request ms k.done ≡ None =
+      word_owed k.done (idle_heap_request idle) ∙ ap reply_there now in
+      let none : owed k.me (Some called) (reply_owed n.memory.side.heap_request ms k.done)
+      ++ owed_then k.me calls k.done k.done_more ≡ [] =
+      none_pending _ _
+      (owed-untold k.me (Some called) (reply_owed n.memory.side.heap_request ms k.done) untold)
+      (then-untold k.me calls k.done k.done_more now) in
       owing (record n {
         memory =
             record n.memory {
@@ -405,11 +299,8 @@ module _ {S : Type 0} (ops : Ops S) (c : Config) (config : IsConfig c) (x : ℕ)
             };
       })
       flat called None mem (asked_width n called asks.0) refl pages
-      (ap (λ xs. n.history ++ xs)
-      (none_pending _ _
-      (owed-untold k.me (Some called) (reply_owed n.memory.side.errand ms k.done) untold)
-      (then-untold k.me calls k.done k.done_more now))
-      ∙ owing_history n.history (pending n ms) [] (idle_pending idle))
+      (ap (λ xs. n.history ++ xs) none ∙ owing_history n.history (pending n ms) [] (idle_pending idle))
+      none
       (record {
         run = running.run;
         makes = λ other is.
@@ -425,7 +316,7 @@ module _ {S : Type 0} (ops : Ops S) (c : Config) (config : IsConfig c) (x : ℕ)
       (blocks_stay refl refl)
 
   -- node 0 is asked for a call of the heap
-  errand_waits : (called : Call) (k : HeapCall) (number : ℕ) (flat : ℕ → List ℕ) → flat ≡ f
+  heap_request_waits : (called : Call) (k : HeapCall) (number : ℕ) (flat : ℕ → List ℕ) → flat ≡ f
       → n.memory.asked ≡ None → step_of n.process ≡ Asks called → ms ≡ []
       → Adds c mem x n
       (record n {
@@ -434,29 +325,33 @@ module _ {S : Type 0} (ops : Ops S) (c : Config) (config : IsConfig c) (x : ℕ)
               asked = Some called;
               along = [];
               number = number;
-              side = record n.memory.side { errand = Some (errand.Asked k number) };
+              side = record n.memory.side { heap_request = Some (heap_request.Asked k number) };
             };
       }) ms flat
-  errand_waits called k number flat same idle step none =
-      let untold : reply_owed (Some (errand.Asked k number)) ms n.memory.coherence.done ≡ None
-      = ap (λ (l : List Message). reply_owed (Some (errand.Asked k number)) l
+  heap_request_waits called k number flat same idle step none =
+      let untold : reply_owed (Some (heap_request.Asked k number)) ms n.memory.coherence.done ≡ None
+      = ap (λ (l : List Message). reply_owed (Some (heap_request.Asked k number)) l
       n.memory.coherence.done) none ∙ ap reply_there (good.memory.done idle) in
+      let unowed : owed (number_of n) (Some called)
+      (reply_owed (Some (heap_request.Asked k number)) ms n.memory.coherence.done)
+      ++ owed_then (number_of n) [] n.memory.coherence.done n.memory.coherence.done_more ≡ [] =
+      none_pending _ _
+      (owed-untold (number_of n) (Some called)
+      (reply_owed (Some (heap_request.Asked k number)) ms n.memory.coherence.done) untold)
+      (then-alone (number_of n) [] n.memory.coherence.done n.memory.coherence.done_more refl) in
       owing (record n {
         memory =
             record n.memory {
               asked = Some called;
               along = [];
               number = number;
-              side = record n.memory.side { errand = Some (errand.Asked k number) };
+              side = record n.memory.side { heap_request = Some (heap_request.Asked k number) };
             };
       }) flat called
       None mem (asked_width n called step) refl (same_pages flat same)
-      (ap (λ xs. n.history ++ xs)
-      (none_pending _ _
-      (owed-untold (number_of n) (Some called)
-      (reply_owed (Some (errand.Asked k number)) ms n.memory.coherence.done) untold)
-      (then-alone (number_of n) [] n.memory.coherence.done n.memory.coherence.done_more refl))
+      (ap (λ xs. n.history ++ xs) unowed
       ∙ owing_history n.history (pending n ms) [] (idle_pending idle))
+      unowed
       (record {
         run = running.run;
         makes = λ other is. (step ∙ ap Asks (same_Some called other is), λ r. tt);
@@ -592,16 +487,16 @@ module _ {S : Type 0} (ops : Ops S) (c : Config) (config : IsConfig c) (x : ℕ)
         → ((q : ℕ) (word : Word) (number : ℕ) → WaitsAt (entry_at told.table q) word number
         → WaitsAt (entry_at n.memory.coherence.table q) word number)
         → Adds c mem x n told_host ms flat
-    quiet_adds flat same rest locked waiting = silent told_host flat same
-        (ap (λ me. n.history ++ (owed me n.memory.asked
-        (reply_owed n.memory.side.errand ms told.done)
-        ++ owed_then me n.memory.along told.done told.done_more)) same_me
-        ∙ ap (λ d. n.history ++ (owed (number_of n) n.memory.asked
-        (reply_owed n.memory.side.errand ms d)
-        ++ owed_then (number_of n) n.memory.along d told.done_more)) rest.done
-        ∙ ap (λ os. n.history ++ (owed (number_of n) n.memory.asked
-        (reply_owed n.memory.side.errand ms n.memory.coherence.done)
-        ++ owed_then (number_of n) n.memory.along n.memory.coherence.done os)) rest.done_more)
+    quiet_adds flat same rest locked waiting =
+        let still : pending told_host ms ≡ pending n ms
+        = ap (λ me. owed me n.memory.asked (reply_owed n.memory.side.heap_request ms told.done)
+        ++ owed_then me n.memory.along told.done told.done_more) same_me
+        ∙ ap (λ d. owed (number_of n) n.memory.asked (reply_owed n.memory.side.heap_request ms d)
+        ++ owed_then (number_of n) n.memory.along d told.done_more) rest.done
+        ∙ ap (λ os. owed (number_of n) n.memory.asked
+        (reply_owed n.memory.side.heap_request ms n.memory.coherence.done)
+        ++ owed_then (number_of n) n.memory.along n.memory.coherence.done os) rest.done_more in
+        silent told_host flat same (ap (λ xs. n.history ++ xs) still) [] (sym still)
         (record {
           run = running.run;
           makes = running.makes;
@@ -645,19 +540,19 @@ module _ {S : Type 0} (ops : Ops S) (c : Config) (config : IsConfig c) (x : ℕ)
         n.memory.along n.memory.coherence.more told.done_more flat
         good.memory.widths (running.waits_along page lock) carries.2 in
         let all : List Record = first ++ owed_along (number_of n) n.memory.along told.done_more in
-        let none : n.memory.side.errand ≡ None = locked_errand page lock in
+        let none : n.memory.side.heap_request ≡ None = locked_heap_request page lock in
         let undone : n.memory.coherence.done ≡ None = untold n.memory.coherence.done refl in
         let before : pending n ms ≡ [] =
         none_pending _ (along_owed n)
         (owed-untold (number_of n) n.memory.asked
-        (reply_owed n.memory.side.errand ms n.memory.coherence.done)
+        (reply_owed n.memory.side.heap_request ms n.memory.coherence.done)
         (word_owed n.memory.coherence.done none ∙ ap reply_there undone))
         (then-untold (number_of n) n.memory.along n.memory.coherence.done
         n.memory.coherence.done_more undone) in
         let now : pending told_host ms ≡ all
-        = ap (λ me. owed me n.memory.asked (reply_owed n.memory.side.errand ms told.done)
+        = ap (λ me. owed me n.memory.asked (reply_owed n.memory.side.heap_request ms told.done)
         ++ owed_then me n.memory.along told.done told.done_more) same_me
-        ∙ ap (λ b. owed (number_of n) b (reply_owed n.memory.side.errand ms told.done)
+        ∙ ap (λ b. owed (number_of n) b (reply_owed n.memory.side.heap_request ms told.done)
         ++ owed_then (number_of n) n.memory.along told.done told.done_more) asked
         ∙ ap (λ e. owed (number_of n) (Some called) (reply_owed e ms told.done)
         ++ owed_then (number_of n) n.memory.along told.done told.done_more) none
@@ -680,6 +575,8 @@ module _ {S : Type 0} (ops : Ops S) (c : Config) (config : IsConfig c) (x : ℕ)
               (along-other (number_of n) x j n.memory.along told.done_more good.me ne);
           history = ap (λ xs. n.history ++ xs) now
               ∙ owing_history n.history (pending n ms) all before;
+          together = λ order s.
+              subst (λ xs. StandTogether xs (order ++ all)) (sym now) (added_together order all);
           running = record {
             run = running.run;
             makes = running.makes;
@@ -724,7 +621,7 @@ module _ {S : Type 0} (ops : Ops S) (c : Config) (config : IsConfig c) (x : ℕ)
 -- the call in progress begins anew, as its word was not carried out or gave no reply
 again_adds : {S : Type 0} (c : Config) (mem : model.Memory) (x : ℕ) (n n' : Host S)
     (ms : List Message) (flat : ℕ → List ℕ)
-    → reply_owed n.memory.side.errand ms n.memory.coherence.done ≡ None → along_owed n ≡ []
+    → reply_owed n.memory.side.heap_request ms n.memory.coherence.done ≡ None → along_owed n ≡ []
     → Adds c mem x (without_call n) n' ms flat → Adds c mem x n n' ms flat
 again_adds c mem x n n' ms flat untold alone a = record {
   more = a.more;
@@ -738,7 +635,8 @@ again_adds c mem x n n' ms flat untold alone a = record {
       ∙ ap (λ xs. (n.history ++ xs) ++ a.more)
       (sym (none_pending _ (along_owed n)
       (owed-untold (number_of n) n.memory.asked
-      (reply_owed n.memory.side.errand ms n.memory.coherence.done) untold) alone));
+      (reply_owed n.memory.side.heap_request ms n.memory.coherence.done) untold) alone));
+  together = λ order s. a.together order (none_together order);
   running = a.running;
   program = a.program;
   blocks = a.blocks;
@@ -749,7 +647,7 @@ module _ {S : Type 0} (ops : Ops S) (c : Config) (config : IsConfig c) (x : ℕ)
     (shows : (p : ℕ) → p < c.pages → f p ≡ flat_page c mem p)
     (n : Host S) (good : IsSoundHost ops c x n) (running : IsRunning c n) (ms : List Message)
     (blocks : (h : HeapState) → n.memory.side.heap ≡ Some h → h.blocks ≡ mem.blocks)
-    (way : n.memory.side.heap ≡ None → n.memory.side.errand ≡ None → ms ≡ []) where
+    (way : n.memory.side.heap ≡ None → n.memory.side.heap_request ≡ None → ms ≡ []) where
   -- without its call in progress, where no word waits, the node is sound, and its program runs
   good_without : n.memory.coherence.locked ≡ None → IsSoundHost ops c x (without_call n)
   good_without free = record {
@@ -761,7 +659,7 @@ module _ {S : Type 0} (ops : Ops S) (c : Config) (config : IsConfig c) (x : ℕ)
   }
 
   -- of those made along none is owed then either
-  none_along : n.memory.side.errand ≡ None → reply_at n.memory ≡ None → along_owed n ≡ []
+  none_along : n.memory.side.heap_request ≡ None → reply_at n.memory ≡ None → along_owed n ≡ []
   none_along none untold =
       untold-along c n running
       (sym (ap (λ e. first_reply (reply_told e) (reply_there n.memory.coherence.done)) none) ∙ untold)
@@ -780,10 +678,10 @@ module _ {S : Type 0} (ops : Ops S) (c : Config) (config : IsConfig c) (x : ℕ)
   -- where no reply is there, and the call in progress is one of a word, none is owed
   none_owed : (called : Call) (page : ℕ) (word : Word) → n.memory.asked ≡ Some called
       → asked_of n.memory.coherence.config called ≡ kinds.Word page word → reply_at n.memory ≡ None
-      → reply_owed n.memory.side.errand ms n.memory.coherence.done ≡ None
+      → reply_owed n.memory.side.heap_request ms n.memory.coherence.done ≡ None
   none_owed called page word asked of untold =
-      let none : n.memory.side.errand ≡ None =
-      word_errand ops c config x mem sized f shows n good running ms called page word asked
+      let none : n.memory.side.heap_request ≡ None =
+      word_heap_request ops c config x mem sized f shows n good running ms called page word asked
       of in
       ap (λ e. reply_owed e ms n.memory.coherence.done) none
       ∙ sym (ap (λ e. first_reply (reply_told e) (reply_there n.memory.coherence.done)) none)
@@ -802,7 +700,7 @@ module _ {S : Type 0} (ops : Ops S) (c : Config) (config : IsConfig c) (x : ℕ)
   turn_adds e (tries_again called page word asked untold free of inside lies is) flat tells =
       again_adds c mem x n e.after ms flat (none_owed called page word asked of untold)
       (none_along
-      (word_errand ops c config x mem sized f shows n good running ms called page word asked of)
+      (word_heap_request ops c config x mem sized f shows n good running ms called page word asked of)
       untold)
       (starts_adds ops c config x mem sized f shows (without_call n) (good_without free)
       (running_without free) ms called page word refl (running.makes called asked).0
@@ -842,6 +740,6 @@ module _ {S : Type 0} (ops : Ops S) (c : Config) (config : IsConfig c) (x : ℕ)
       (blocks_change heap (told_of heap k) there refl refl))
   turn_adds e (asks_heap called k idle step of away is) flat tells =
       subst (λ (z : Outcome (Host S)). Adds c mem x n z.after ms flat) (sym is)
-      (errand_waits ops c config x mem sized f shows n good running ms called k
+      (heap_request_waits ops c config x mem sized f shows n good running ms called k
       (length n.history + 1) flat tells idle step
-      (way away (idle_errand ops c config x mem sized f shows n good running ms idle)))
+      (way away (idle_heap_request ops c config x mem sized f shows n good running ms idle)))

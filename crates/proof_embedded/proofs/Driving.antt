@@ -18,11 +18,11 @@ use Rattle.ivy_moves.specs.declared.Move.{Move}
 use Rattle.ivy_moves.specs.declared.Move.TheVariants as move
 use Rattle.ivy_moves.specs.declared.keep.Keep.TheVariants.{History}
 use Rattle.ivy_moves.specs.ivy_link.declared.Verdict.{Verdict}
-use Rattle.ivy_moves.proofs.Places.{set-cases, set-there, set-same}
+use Rattle.ivy_moves.proofs.Places.{set-cases, set-there, set_same}
 use Rattle.ivy_embedded.specs.ivy_site.declared.turn.Turn.TheVariants.{Moved}
 use Rattle.ivy_embedded.specs.ivy_site.Calls.{AreAnswered, AreTaken, BeginsRow}
 use Rattle.ivy_embedded.specs.ivy_site.Handed.{site_handed}
-use Rattle.ivy_embedded.specs.ivy_site.Shown.{Shown, after_pulse_to}
+use Rattle.ivy_embedded.specs.ivy_site.SiteView.{SiteView, after_pulse_to}
 use Rattle.ivy_embedded.specs.ivy_site.Sites.{SiteTurns, AfterDelivery, first_keeping}
 use Rattle.ivy_embedded.specs.Nodes.{Embedded, first_embedded, strings_of, waiting_in}
 use Rattle.ivy_embedded.specs.Exports.{AfterBegin, AfterCall, ChangesWaiting, Takes}
@@ -38,7 +38,7 @@ use Rattle.proof_embedded.specs.Driven.{Request, Begin, Reply, LoadBlock, StoreB
 use Rattle.proof_embedded.proofs.Emptied.{with_strings, turn_carries, delivery_carries, pulse_carries}
 
 -- the node as a site whose strings are on the wire
-abbrev seen : Embedded → Shown
+abbrev seen : Embedded → SiteView
 seen e = with_strings [] e.site
 
 -- the nodes are those of a world that runs, and whatever was taken out of them or waits there was
@@ -52,32 +52,32 @@ record AreDriven (c : Config) (nodes : List Embedded) (strings : List (List ℕ)
 
 -- one site of a world goes on
 
-module _ (c : Config) (sites : List Shown) (sent : List (List ℕ)) (i : ℕ) (old : Shown)
+module _ (c : Config) (sites : List SiteView) (sent : List (List ℕ)) (i : ℕ) (old : SiteView)
     (there : slice_get sites i ≡ Some (with_strings [] old)) (h : IsRunning c sites sent) where
   -- the site went on: it has these strings more, and the world runs on
-  record Further (new : Shown) : Type 0 where
+  record Further (new : SiteView) : Type 0 where
     more : List (List ℕ)
     waiting : new.waiting ≡ old.waiting ++ more
     running : IsRunning c (set sites i (with_strings [] new)) (sent ++ more)
 
-  here : (new : Shown) (more : List (List ℕ)) (step : Move)
+  here : (new : SiteView) (more : List (List ℕ)) (step : Move)
       → HasMoved c sites (set sites i (with_strings [] new)) sent (sent ++ more) step
       → IsRunning c (set sites i (with_strings [] new)) (sent ++ more)
   here new more step m =
       runs_on c sites (set sites i (with_strings [] new)) sent (sent ++ more) step h m.are
       (length-set sites i (with_strings [] new) ∙ h.count) m.programs m.made
 
-  stayed : (new : Shown) → new ≡ old → Further new
+  stayed : (new : SiteView) → new ≡ old → Further new
   stayed new same = record {
     more = [];
-    waiting = ap (λ (s : Shown). s.waiting) same ∙ sym (append-nil old.waiting);
+    waiting = ap (λ (s : SiteView). s.waiting) same ∙ sym (append-nil old.waiting);
     running = subst (IsRunning c (set sites i (with_strings [] new))) (sym (append-nil sent))
         (subst (λ ss. IsRunning c ss sent)
-        (sym (set-same sites i (with_strings [] old) there)
+        (sym (set_same sites i (with_strings [] old) there)
         ∙ ap (λ s. set sites i (with_strings [] s)) (sym same)) h);
   }
 
-  turned : (new : Shown) → SiteTurns old new → Further new
+  turned : (new : SiteView) → SiteTurns old new → Further new
   turned new t =
       let k = turn_carries old new t in record {
         more = k.more;
@@ -89,10 +89,10 @@ module _ (c : Config) (sites : List Shown) (sent : List (List ℕ)) (i : ℕ) (o
             refl refl));
       }
 
-  turned_once : (new : Shown) → (new ≡ old) ⊎ SiteTurns old new → Further new
+  turned_once : (new : SiteView) → (new ≡ old) ⊎ SiteTurns old new → Further new
   turned_once new w = ⊎_elim (stayed new) (turned new) w
 
-  delivered : (new : Shown) (bytes : List ℕ) (v : Verdict) → Contains sent bytes
+  delivered : (new : SiteView) (bytes : List ℕ) (v : Verdict) → Contains sent bytes
       → AfterDelivery bytes v old new → Further new
   delivered new bytes v in_sent d =
       let k = delivery_carries bytes v old new d in record {
@@ -105,7 +105,7 @@ module _ (c : Config) (sites : List Shown) (sent : List (List ℕ)) (i : ℕ) (o
             (k.goes []) refl refl refl);
       }
 
-  pulsed : (new : Shown) (to : ℕ) → to < old.config.nodes → to ≢ old.me
+  pulsed : (new : SiteView) (to : ℕ) → to < old.config.nodes → to ≢ old.me
       → new ≡ after_pulse_to old to (pulsing old.node to) → Further new
   pulsed new to within other p =
       let k = pulse_carries to old new p in
@@ -125,14 +125,14 @@ module _ (c : Config) (sites : List Shown) (sent : List (List ℕ)) (i : ℕ) (o
       }
 
 -- the calls are handed in first
-module _ (c : Config) (sites : List Shown) (sent : List (List ℕ)) (i : ℕ) (old : Shown)
+module _ (c : Config) (sites : List SiteView) (sent : List (List ℕ)) (i : ℕ) (old : SiteView)
     (there : slice_get sites i ≡ Some (with_strings [] old)) (h : IsRunning c sites sent) where
-  handed : (calls : List Call) (new : Shown)
+  handed : (calls : List Call) (new : SiteView)
       → (new ≡ site_handed (calls ∷ []) old) ⊎ SiteTurns (site_handed (calls ∷ []) old) new
       → Further c sites sent i old there h new
   handed calls new w =
-      let mid : Shown = site_handed (calls ∷ []) old in
-      let after : List Shown = set sites i (with_strings [] mid) in
+      let mid : SiteView = site_handed (calls ∷ []) old in
+      let after : List SiteView = set sites i (with_strings [] mid) in
       let at : slice_get after i ≡ Some (with_strings [] mid) =
       set-there sites i (with_strings [] mid) (with_strings [] old) there in
       let f = turned_once c after sent i mid at
@@ -144,13 +144,13 @@ module _ (c : Config) (sites : List Shown) (sent : List (List ℕ)) (i : ℕ) (o
       }
 
   -- together, with a turn in which the first begins, or there are none
-  together : (calls : List Call) (new : Shown) → BeginsRow calls old new
+  together : (calls : List Call) (new : SiteView) → BeginsRow calls old new
       → Further c sites sent i old there h new
   together [] new same = stayed c sites sent i old there h new same
   together (call ∷ calls) new b = handed (call ∷ calls) new (inr b.turns)
 
 -- one step of the site, and then others
-followed : (c : Config) (sites : List Shown) (sent : List (List ℕ)) (i : ℕ) (old mid new : Shown)
+followed : (c : Config) (sites : List SiteView) (sent : List (List ℕ)) (i : ℕ) (old mid new : SiteView)
     (there : slice_get sites i ≡ Some (with_strings [] old)) (h : IsRunning c sites sent)
     (first : Further c sites sent i old there h mid)
     → Further c (set sites i (with_strings [] mid)) (sent ++ first.more) i mid
@@ -167,8 +167,8 @@ followed c sites sent i old mid new there h first rest = record {
 }
 
 -- calls of a row are handed in one after another
-answered : (c : Config) (sites : List Shown) (sent : List (List ℕ)) (i : ℕ) (rs : List Record)
-    (old new : Shown) (there : slice_get sites i ≡ Some (with_strings [] old))
+answered : (c : Config) (sites : List SiteView) (sent : List (List ℕ)) (i : ℕ) (rs : List Record)
+    (old new : SiteView) (there : slice_get sites i ≡ Some (with_strings [] old))
     (h : IsRunning c sites sent) → AreAnswered rs old new → Further c sites sent i old there h new
 answered c sites sent i [] old new there h same = stayed c sites sent i old there h new same
 answered c sites sent i (r ∷ rs) old new there h a =
@@ -178,8 +178,8 @@ answered c sites sent i (r ∷ rs) old new there h a =
     (set-there sites i (with_strings [] a.0) (with_strings [] old) there) first.running a.2)
 
 -- and their replies are taken so, each in a turn
-replied : (c : Config) (sites : List Shown) (sent : List (List ℕ)) (i : ℕ) (rs : List Record)
-    (old new : Shown) (there : slice_get sites i ≡ Some (with_strings [] old))
+replied : (c : Config) (sites : List SiteView) (sent : List (List ℕ)) (i : ℕ) (rs : List Record)
+    (old new : SiteView) (there : slice_get sites i ≡ Some (with_strings [] old))
     (h : IsRunning c sites sent) → AreTaken rs old new → Further c sites sent i old there h new
 replied c sites sent i [] old new there h same = stayed c sites sent i old there h new same
 replied c sites sent i (r ∷ rs) old new there h a =
@@ -214,7 +214,7 @@ module _ (c : Config) (nodes : List Embedded) (strings : List (List ℕ)) (i : �
   seen_there : slice_get (map seen nodes) i ≡ Some (seen s)
   seen_there = slice_get-map seen nodes i ∙ ap (option_map seen) there
 
-  abbrev Goes : Shown → Type 0
+  abbrev Goes : SiteView → Type 0
   Goes new = Further c (map seen nodes) d.sent i s.site seen_there d.running new
 
   -- what waits at the nodes was sent, where it was at the one before or is among what was sent
@@ -248,7 +248,7 @@ module _ (c : Config) (nodes : List Embedded) (strings : List (List ℕ)) (i : �
   unchanged : (t : Embedded) → t ≡ s → AreDriven c (set nodes i t) strings
   unchanged t same =
       subst (λ ns. AreDriven c ns strings)
-      (sym (set-same nodes i s there) ∙ ap (set nodes i) (sym same)) d
+      (sym (set_same nodes i s there) ∙ ap (set nodes i) (sym same)) d
 
   -- by what a turn that has a call comes to
   begun : (call : Call) (progress : Option reply.Reply) (t : Embedded)
@@ -298,7 +298,7 @@ module _ (c : Config) (nodes : List Embedded) (strings : List (List ℕ)) (i : �
     sent = d.sent;
     running = subst (λ ss. IsRunning c ss d.sent)
         (sym (map-set seen nodes i t ∙ ap (set (map seen nodes) i) (seen_same t same)
-        ∙ set-same (map seen nodes) i (seen s) seen_there)) d.running;
+        ∙ set_same (map seen nodes) i (seen s) seen_there)) d.running;
     taken = taken;
     waits = waits_on t d.sent (λ bytes has. has) (λ bytes has. d.waits i s there bytes (fewer bytes has));
   }
@@ -432,7 +432,7 @@ first_driven c limits = record {
 
 -- what is promised of a world that runs
 
-nodes_seen : (nodes : List Embedded) → map (λ (s : Shown). s.node) (map seen nodes) ≡ map node_in nodes
+nodes_seen : (nodes : List Embedded) → map (λ (s : SiteView). s.node) (map seen nodes) ≡ map node_in nodes
 nodes_seen [] = refl
 nodes_seen (e ∷ es) = ap (λ l. e.site.node ∷ l) (nodes_seen es)
 

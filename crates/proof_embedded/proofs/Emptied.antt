@@ -6,30 +6,30 @@ use Rattle.ivy_moves.specs.Nodes.{pulsing}
 use Rattle.ivy_moves.specs.ivy_link.declared.Verdict.{Verdict}
 use Rattle.ivy_moves.specs.ivy_link.declared.Verdict.TheVariants as verdict
 use Rattle.ivy_moves.specs.declared.keep.Keep.TheVariants.{History}
-use Rattle.ivy_embedded.specs.ivy_site.Shown.{Shown, after_pulse_to}
+use Rattle.ivy_embedded.specs.ivy_site.SiteView.{SiteView, after_pulse_to}
 use Rattle.ivy_embedded.specs.ivy_site.Sites.{SiteTurns, SiteDelivers, GoesOnOnce, SiteGoesOn, FollowsDelivery, AfterDelivery, holding_in}
 
 -- the site with these strings
-abbrev pub with_strings : List (List ℕ) → Shown → Shown
+abbrev pub with_strings : List (List ℕ) → SiteView → SiteView
 with_strings waiting s = record s { waiting = waiting; keep = History }
 
 -- whatever strings wait at the site, so it is, with the same strings more
-pub record Carries (Relates : Shown → Shown → Type 0) (old new : Shown) : Type 0 where
+pub record Carries (Relates : SiteView → SiteView → Type 0) (old new : SiteView) : Type 0 where
   pub more : List (List ℕ)
   pub waiting : new.waiting ≡ old.waiting ++ more
   pub goes : (ws : List (List ℕ)) → Relates (with_strings ws old) (with_strings (ws ++ more) new)
 
-kept : (old new : Shown) → new ≡ old → (ws : List (List ℕ))
+kept : (old new : SiteView) → new ≡ old → (ws : List (List ℕ))
     → with_strings (ws ++ []) new ≡ with_strings ws old
 kept old new same ws = λ k. with_strings (append-nil ws k) (same k)
 
-none_more : (old new : Shown) → new ≡ old → new.waiting ≡ old.waiting ++ []
-none_more old new same = ap (λ (s : Shown). s.waiting) same ∙ sym (append-nil old.waiting)
+none_more : (old new : SiteView) → new ≡ old → new.waiting ≡ old.waiting ++ []
+none_more old new same = ap (λ (s : SiteView). s.waiting) same ∙ sym (append-nil old.waiting)
 
-pub turn_carries : (old new : Shown) → SiteTurns old new → Carries SiteTurns old new
+pub turn_carries : (old new : SiteView) → SiteTurns old new → Carries SiteTurns old new
 turn_carries old new t = record {
   more = t.effect.sent;
-  waiting = ap (λ (s : Shown). s.waiting) t.after;
+  waiting = ap (λ (s : SiteView). s.waiting) t.after;
   goes = λ ws. record {
     outcome = t.outcome;
     turn = t.turn;
@@ -46,7 +46,7 @@ sent_as verdict.Next sent = sent
 sent_as verdict.Repeat sent = sent
 sent_as verdict.Ahead sent = sent
 
-delivers : (bytes : List ℕ) (v : Verdict) (old new : Shown) → SiteDelivers bytes v old new
+delivers : (bytes : List ℕ) (v : Verdict) (old new : SiteView) → SiteDelivers bytes v old new
     → Carries (SiteDelivers bytes v) old new
 delivers bytes verdict.NotMine old new d = record {
   more = [];
@@ -62,7 +62,7 @@ delivers bytes verdict.NotMine old new d = record {
 }
 delivers bytes verdict.Next old new d = record {
   more = d.effect.sent;
-  waiting = ap (λ (s : Shown). s.waiting) d.after;
+  waiting = ap (λ (s : SiteView). s.waiting) d.after;
   goes = λ ws. record {
     frame = d.frame;
     spelled = d.spelled;
@@ -74,7 +74,7 @@ delivers bytes verdict.Next old new d = record {
 }
 delivers bytes verdict.Repeat old new d = record {
   more = d.effect.sent;
-  waiting = ap (λ (s : Shown). s.waiting) d.after;
+  waiting = ap (λ (s : SiteView). s.waiting) d.after;
   goes = λ ws. record {
     frame = d.frame;
     spelled = d.spelled;
@@ -86,7 +86,7 @@ delivers bytes verdict.Repeat old new d = record {
 }
 delivers bytes verdict.Ahead old new d = record {
   more = d.effect.sent;
-  waiting = ap (λ (s : Shown). s.waiting) d.after;
+  waiting = ap (λ (s : SiteView). s.waiting) d.after;
   goes = λ ws. record {
     frame = d.frame;
     spelled = d.spelled;
@@ -97,12 +97,12 @@ delivers bytes verdict.Ahead old new d = record {
   };
 }
 
-once : (source : ℕ) (bytes : List ℕ) (old new : Shown) → GoesOnOnce source bytes old new
+once : (source : ℕ) (bytes : List ℕ) (old new : SiteView) → GoesOnOnce source bytes old new
     → Carries (GoesOnOnce source bytes) old new
 once source bytes old new g =
     let d = g.next in let sent = d.effect.sent in record {
       more = sent;
-      waiting = ap (λ (s : Shown). s.waiting) d.after;
+      waiting = ap (λ (s : SiteView). s.waiting) d.after;
       goes = λ ws. record {
         ready = g.ready;
         early = g.early;
@@ -119,12 +119,12 @@ once source bytes old new g =
     }
 
 -- one after another
-follow : (old mid new : Shown) (first rest : List (List ℕ)) → mid.waiting ≡ old.waiting ++ first
+follow : (old mid new : SiteView) (first rest : List (List ℕ)) → mid.waiting ≡ old.waiting ++ first
     → new.waiting ≡ mid.waiting ++ rest → new.waiting ≡ old.waiting ++ (first ++ rest)
 follow old mid new first rest one two =
     two ∙ ap (λ l. l ++ rest) one ∙ append_assoc old.waiting first rest
 
-on : (source : ℕ) (more : List (List ℕ)) (old new : Shown) → SiteGoesOn source more old new
+on : (source : ℕ) (more : List (List ℕ)) (old new : SiteView) → SiteGoesOn source more old new
     → Carries (SiteGoesOn source more) old new
 on source [] old new same =
     record { more = []; waiting = none_more old new same; goes = kept old new same }
@@ -140,15 +140,15 @@ on source (bytes ∷ more) old new g =
       );
     }
 
-held : (old new : Shown) (f : Frame) (bytes : List ℕ) → new ≡ holding_in old f bytes
+held : (old new : SiteView) (f : Frame) (bytes : List ℕ) → new ≡ holding_in old f bytes
     → Carries (λ a b. b ≡ holding_in a f bytes) old new
 held old new f bytes same = record {
   more = [];
-  waiting = ap (λ (s : Shown). s.waiting) same ∙ sym (append-nil old.waiting);
+  waiting = ap (λ (s : SiteView). s.waiting) same ∙ sym (append-nil old.waiting);
   goes = λ ws. λ k. with_strings (append-nil ws k) (same k);
 }
 
-follows : (v : Verdict) (f : Frame) (bytes : List ℕ) (mid new : Shown)
+follows : (v : Verdict) (f : Frame) (bytes : List ℕ) (mid new : SiteView)
     → FollowsDelivery v f bytes mid new → Carries (FollowsDelivery v f bytes) mid new
 follows verdict.NotMine f bytes mid new same =
     record { more = []; waiting = none_more mid new same; goes = kept mid new same }
@@ -162,7 +162,7 @@ follows verdict.Next f bytes mid new went =
     record { more = c.more; waiting = c.waiting; goes = λ ws. (went.0, c.goes ws) }
 
 -- the frame that a delivery is of is the same whatever strings wait
-frame_same : (bytes : List ℕ) (v : Verdict) (old new : Shown) (d : SiteDelivers bytes v old new)
+frame_same : (bytes : List ℕ) (v : Verdict) (old new : SiteView) (d : SiteDelivers bytes v old new)
     (ws : List (List ℕ)) → ((delivers bytes v old new d).goes ws).frame ≡ d.frame
 unfolding delivers
 frame_same bytes verdict.NotMine old new d ws = refl
@@ -170,7 +170,7 @@ frame_same bytes verdict.Next old new d ws = refl
 frame_same bytes verdict.Repeat old new d ws = refl
 frame_same bytes verdict.Ahead old new d ws = refl
 
-pub delivery_carries : (bytes : List ℕ) (v : Verdict) (old new : Shown) → AfterDelivery bytes v old new
+pub delivery_carries : (bytes : List ℕ) (v : Verdict) (old new : SiteView) → AfterDelivery bytes v old new
     → Carries (AfterDelivery bytes v) old new
 delivery_carries bytes v old new d =
     let first = delivers bytes v old d.mid d.first in
@@ -187,10 +187,10 @@ delivery_carries bytes v old new d =
       };
     }
 
-pub pulse_carries : (to : ℕ) (old new : Shown) → new ≡ after_pulse_to old to (pulsing old.node to)
+pub pulse_carries : (to : ℕ) (old new : SiteView) → new ≡ after_pulse_to old to (pulsing old.node to)
     → Carries (λ a b. b ≡ after_pulse_to a to (pulsing a.node to)) old new
 pulse_carries to old new same = record {
   more = (pulsing old.node to).sent;
-  waiting = ap (λ (s : Shown). s.waiting) same;
+  waiting = ap (λ (s : SiteView). s.waiting) same;
   goes = λ ws. ap (with_strings (ws ++ (pulsing old.node to).sent)) same;
 }

@@ -22,13 +22,13 @@ use Rattle.ivy_pagetable.specs.Words.{number_at}
 use Rattle.ivy_pagetable.specs.Tables.{entry_at}
 use Rattle.ivy_program.specs.Programs.{Program}
 use Rattle.ivy_moves.specs.ivy_link.Paired.{posted, extended}
-use Rattle.ivy_moves.specs.Ordered.{Ordered, Turns, Delivers, Steps, rests, turns, delivers, one_more}
+use Rattle.ivy_moves.specs.FifoWorld.{FifoWorld, Turns, Delivers, Steps, rests, turns, delivers, one_more}
 use Rattle.proof_waiting.specs.proof_routing.ivy_fixed.Fixed.{Owners, fixed_ops}
 use Rattle.proof_waiting.specs.proof_routing.ivy_coherence.Coherent.{Coherent}
 use Rattle.ivy_pagetable.specs.Accesses.{suffices}
 use Rattle.proof_waiting.specs.proof_routing.ivy_coherence.Steps.{handled}
 use Rattle.proof_waiting.specs.proof_routing.proof_transitions.Letters.{Letter, Place, Underway, Aside, Loose, IsAt}
-use Rattle.proof_waiting.specs.proof_routing.proof_transitions.Rows.{Claim, IsKept}
+use Rattle.proof_waiting.specs.proof_routing.proof_transitions.Rows.{Claim, IsPreserved}
 use Rattle.proof_waiting.proofs.of_proof_routing.of_proof_transitions.Both.{both-kept}
 use Rattle.proof_waiting.proofs.of_proof_routing.Awaited.{awaited}
 use Rattle.proof_waiting.proofs.Onward.{IsDue, IsWithin, IsLast}
@@ -48,12 +48,12 @@ use Rattle.proof_answers.specs.proof_progress.proof_refinement.Runs.{IsReachedIn
 use Rattle.proof_answers.proofs.of_proof_progress.of_ivy_host.Pages.{page_serving}
 use Rattle.proof_answers.proofs.of_proof_progress.of_proof_consistency.CopiedRows.{copied-kept}
 use Rattle.proof_answers.proofs.of_proof_progress.of_proof_consistency.Faithful.{IsFaithful}
-use Rattle.proof_answers.proofs.of_proof_progress.of_proof_consistency.OwingEvents.{Copies}
+use Rattle.proof_answers.proofs.of_proof_progress.of_proof_consistency.CarriedWords.{Copies}
 use Rattle.proof_answers.proofs.of_proof_progress.Reached.{reached_told}
 use Rattle.proof_answers.proofs.of_proof_progress.Stopped.{IsUnanswered, unanswered}
 use Rattle.proof_answers.proofs.of_proof_progress.of_proof_refinement.HeapDeliveries.{HeapDelivery, serves, learns}
 use Rattle.proof_answers.proofs.of_proof_progress.of_proof_refinement.HeapWays.{within_taken}
-use Rattle.proof_answers.proofs.of_proof_progress.of_proof_refinement.HostTurns.{HostTurn, answers, tries_again, goes_on, refuses, asks_for, serves_heap, asks_heap, turn-cases}
+use Rattle.proof_answers.proofs.of_proof_progress.of_proof_refinement.HostTurns.{HostTurn, answers, tries_again, goes_on, refuses, asks_for, serves_heap, asks_heap, turn_cases}
 use Rattle.proof_answers.proofs.of_proof_progress.of_proof_refinement.Led.{get_set}
 use Rattle.proof_answers.proofs.of_proof_progress.of_proof_refinement.LiftedEvents.{Carries, Tells, quiet, answers as is_answered}
 use Rattle.proof_answers.proofs.of_proof_progress.of_proof_refinement.LiftedHosts.{WorldTells, kept-steps}
@@ -152,7 +152,7 @@ pub served_history : (n : Host Managed) (from : ℕ) (m : Message)
 unfolding serving
 served_history n from m = refl
 
-pub heap_still : (o : Ordered (Host Managed)) (source x : ℕ) (core : Host Managed) (m : Message)
+pub heap_still : (o : FifoWorld (Host Managed)) (source x : ℕ) (core : Host Managed) (m : Message)
     → HeapDelivery managed_ops o source x core m
     → (serving managed_ops core source m).after.memory.coherence ≡ core.memory.coherence
 heap_still o source x core m (serves home away asker at k number asks on_way none same heap is does) =
@@ -161,14 +161,14 @@ heap_still o source x core m (learns away home k number r asks back tells does) 
     ap (λ z. z.after.memory.coherence) does
 
 -- a node's core after an event of one node
-pub core_elsewhere : (o o' : Ordered (Host Managed)) (x : ℕ) (n m : Host Managed) (i : ℕ)
+pub core_elsewhere : (o o' : FifoWorld (Host Managed)) (x : ℕ) (n m : Host Managed) (i : ℕ)
     → slice_get o.cores x ≡ Some n → o'.cores ≡ slice_set o.cores x m → i ≢ x
     → slice_get o'.cores i ≡ slice_get o.cores i
 core_elsewhere o o' x n m i at cores ne =
     ap (λ l. slice_get l i) cores
     ∙ elim (get_set o.cores x n m i at) [ inl y ↦ absurd (ne y.0) | inr y ↦ y.1 ]
 
-pub core_here : (o o' : Ordered (Host Managed)) (x : ℕ) (n m : Host Managed) (i : ℕ)
+pub core_here : (o o' : FifoWorld (Host Managed)) (x : ℕ) (n m : Host Managed) (i : ℕ)
     → slice_get o.cores x ≡ Some n → o'.cores ≡ slice_set o.cores x m → i ≡ x
     → slice_get o'.cores i ≡ Some m
 core_here o o' x n m i at cores same =
@@ -177,7 +177,7 @@ core_here o o' x n m i at cores same =
 
 module _ (c : Config) (limits : IsConfig c) (fixed : c.manager ≡ kind.Fixed)
     (programs : List Program) (many : length programs ≡ c.nodes)
-    (o o' : Ordered (Host Managed)) (run : IsReachedInOrder managed_ops c programs o)
+    (o o' : FifoWorld (Host Managed)) (run : IsReachedInOrder managed_ops c programs o)
     (step : Steps (host_rules managed_ops) o o') (i p : ℕ) (inside : p < c.pages) (called : Call)
     (history : List Record) (h : Host Managed) (there : slice_get o.cores i ≡ Some h)
     (is : IsWaiting p called history h) (due : ℕ → ℕ → ℕ) (r : ℕ)
@@ -236,7 +236,7 @@ module _ (c : Config) (limits : IsConfig c) (fixed : c.manager ≡ kind.Fixed)
           IsBase c s n f
           × IsFollowed c due step_due i p ((net_of o).entry i p) l r n
 
-      claimed-kept : IsKept fixed_ops c Claimed
+      claimed-kept : IsPreserved fixed_ops c Claimed
       claimed-kept = both-kept (base-kept c limits) (record {
         by = λ {m} {n} {f} {notice} {n'} {f'} row of before after g.
             followed_on c limits m _ n n'
@@ -315,7 +315,7 @@ module _ (c : Config) (limits : IsConfig c) (fixed : c.manager ≡ kind.Fixed)
         host = t.outcome.after;
         now = core_here o o' x t.core t.outcome.after i t.there t.cores same;
         comes = own (same_Some t.core h (sym t.there ∙ ap (slice_get o.cores) (sym same) ∙ there))
-            (turn-cases managed_ops c x t.core (world.sound x t.core t.there) t.outcome t.turned);
+            (turn_cases managed_ops c x t.core (world.sound x t.core t.there) t.outcome t.turned);
       }
     ]
       where
@@ -515,8 +515,8 @@ module _ (c : Config) (limits : IsConfig c) (fixed : c.manager ≡ kind.Fixed)
         by_steps (delivers source x t) = by_delivery source x t
         by_steps (rests same) = record {
           host = h;
-          now = ap (λ (z : Ordered (Host Managed)). slice_get z.cores i) same ∙ there;
+          now = ap (λ (z : FifoWorld (Host Managed)). slice_get z.cores i) same ∙ there;
           comes = waits_on is
-              (subst (λ (z : Ordered (Host Managed)).
+              (subst (λ (z : FifoWorld (Host Managed)).
               IsReachedIn (net_of z) due p (p % c.nodes) c.nodes i r) (sym same) rank);
         }

@@ -5,9 +5,9 @@ use Rattle.ivy_model.specs.declared.Config.{Config}
 use Rattle.ivy_model.specs.declared.Kind.TheVariants as kind
 use Rattle.ivy_model.specs.Config.{IsConfig}
 use Rattle.ivy_program.specs.Programs.{Program}
-use Rattle.ivy_moves.specs.Ordered.{Ordered}
+use Rattle.ivy_moves.specs.FifoWorld.{FifoWorld}
 use Rattle.proof_waiting.specs.proof_routing.ivy_fixed.Fixed.{Owners, fixed_ops}
-use Rattle.proof_waiting.specs.proof_routing.proof_transitions.Rows.{Claim, IsKept}
+use Rattle.proof_waiting.specs.proof_routing.proof_transitions.Rows.{Claim, IsPreserved}
 use Rattle.proof_waiting.specs.proof_routing.Managing.{IsManaged}
 use Rattle.proof_waiting.specs.Readers.{IsFair}
 use Rattle.proof_waiting.proofs.of_proof_routing.of_proof_transitions.Both.{both-kept}
@@ -33,7 +33,7 @@ use Rattle.proof_answers.proofs.of_proof_progress.of_proof_refinement.Worlds.{fi
 use Rattle.proof_answers.proofs.of_proof_progress.Covered.{covered-kept, first_covered}
 use Rattle.proof_answers.proofs.of_proof_progress.EitherWorlds.{RoutedBy, either-kept, either-first}
 use Rattle.proof_answers.proofs.of_proof_progress.QuietWorlds.{quiet_first}
-use Rattle.proof_answers.proofs.of_proof_progress.Shares.{IsCovered}
+use Rattle.proof_answers.proofs.of_proof_progress.Shares.{HasAccurateCopySets}
 
 fixed_within : Embeds fixed_ops managed_ops Fixed
 fixed_within = record {
@@ -48,19 +48,19 @@ module _ (c : Config) where
   -- whoever waits has its message, copies are counted, and requests to read come first
   abbrev pub IsBase : Claim Owners
   IsBase m n f =
-      ((IsQuiet (IsManaged c) c m n f × IsOwed n) × IsCovered n) × (IsFair c n × IsBounded c n)
+      ((IsQuiet (IsManaged c) c m n f × IsOwed n) × HasAccurateCopySets n) × (IsFair c n × IsBounded c n)
 
   -- of managers that are of the fixed kind
   abbrev pub OfFixed : Claim Owners → Claim Managed
   OfFixed P m n f = (s : ℕ → Owners) × AreWithin Fixed c s m × P s n f
 
-  pub fixed-kept : (P : Claim Owners) → IsKept fixed_ops c P → IsKept managed_ops c (OfFixed P)
+  pub fixed-kept : (P : Claim Owners) → IsPreserved fixed_ops c P → IsPreserved managed_ops c (OfFixed P)
   fixed-kept P kept =
       embedded-kept Fixed fixed_within c P (OfFixed P) (λ m n f h. h)
       (λ s m n f within h. (s, within, h)) kept
 
   module _ (limits : IsConfig c) where
-    pub base-kept : IsKept fixed_ops c IsBase
+    pub base-kept : IsPreserved fixed_ops c IsBase
     base-kept =
         both-kept
         (covered-kept fixed_ops c limits (λ m n f. IsQuiet (IsManaged c) c m n f × IsOwed n)
@@ -79,7 +79,7 @@ module _ (c : Config) where
       abbrev pub spare : Managed
       spare = managed_ops.first c 0
 
-      abbrev first : Ordered (Host Managed)
+      abbrev first : FifoWorld (Host Managed)
       first = first_ordered managed_ops c programs
 
       first_base : OfFixed IsBase (managers_of spare first) (net_of first) (λ p. [])
@@ -100,7 +100,7 @@ module _ (c : Config) where
             ),
           )
 
-      pub reached_base : (o : Ordered (Host Managed)) → IsReachedInOrder managed_ops c programs o
+      pub reached_base : (o : FifoWorld (Host Managed)) → IsReachedInOrder managed_ops c programs o
           → Holds managed_ops c (OfFixed IsBase) spare o
       reached_base =
           reached_holds managed_laws c limits (fixed-kept IsBase base-kept) spare programs many

@@ -14,11 +14,11 @@ use Rattle.ivy_model.proofs.Sizes.{first_sized, leads_sized}
 use Rattle.ivy_pagetable.specs.declared.Word.TheVariants as word
 use Rattle.ivy_pagetable.specs.Words.{number_at}
 use Rattle.ivy_program.specs.Programs.{Program}
-use Rattle.ivy_moves.specs.Following.{ordered_of}
+use Rattle.ivy_moves.specs.Following.{fifo_of}
 use Rattle.ivy_moves.specs.Nodes.{Node}
-use Rattle.ivy_moves.specs.Ordered.{Ordered}
+use Rattle.ivy_moves.specs.FifoWorld.{FifoWorld}
 use Rattle.ivy_moves.specs.Worlds.{World}
-use Rattle.ivy_moves.proofs.Places.{core-of}
+use Rattle.ivy_moves.proofs.Places.{core_of}
 use Rattle.proof_answers.specs.Answered.{IsDue, advances}
 use Rattle.proof_answers.specs.Rounds.{AreRounds}
 use Rattle.proof_answers.specs.Undropped.{IsOfMoves}
@@ -31,7 +31,7 @@ use Rattle.proof_answers.specs.proof_progress.ivy_host.ivy_heap.declared.HeapCal
 use Rattle.proof_answers.specs.proof_progress.ivy_host.ivy_memory.declared.Asked.{Asked}
 use Rattle.proof_answers.specs.proof_progress.ivy_host.ivy_memory.declared.Asked.TheVariants as kinds
 use Rattle.proof_answers.specs.proof_progress.ivy_host.ivy_memory.Asking.{asked_of}
-use Rattle.proof_answers.specs.proof_progress.proof_refinement.Errands.{heap_way}
+use Rattle.proof_answers.specs.proof_progress.proof_refinement.HeapRequests.{heap_way}
 use Rattle.proof_answers.specs.proof_progress.proof_refinement.Runs.{IsReachedInOrder, FollowsInOrder}
 use Rattle.proof_answers.proofs.of_proof_progress.of_proof_consistency.Faithful.{IsFaithful, map-places}
 use Rattle.proof_answers.proofs.of_proof_progress.of_proof_consistency.Owing.{pending}
@@ -42,7 +42,7 @@ use Rattle.proof_answers.proofs.Falling.{AreLater, all_later}
 use Rattle.proof_fairness.specs.Fairness.{IsHeapCall, IsAnswered, CallsAnswered, HeapCallsAnswered}
 use Rattle.proof_fairness.proofs.Aims.{IsReady}
 use Rattle.proof_fairness.proofs.Leading.{HasGrown, told_of}
-use Rattle.proof_fairness.proofs.Errands.{three_rounds_answer}
+use Rattle.proof_fairness.proofs.HeapRequests.{three_rounds_answer}
 use Rattle.proof_fairness.proofs.Rounds.{rounds_answer}
 
 -- a call is due, so there is one
@@ -61,8 +61,8 @@ heap_of c a is = absurd is
 module _ (c : Config) (limits : IsConfig c) (programs : List Program)
     (many : length programs ≡ c.nodes) (w : World (Host Managed))
     (f : FollowsInOrder managed_ops c programs w) (called : Call) (due : IsDue w (Some called))
-    (o : Ordered (Host Managed)) (run : IsReachedInOrder managed_ops c programs o)
-    (later : AreLater (ordered_of w f.posted) o) where
+    (o : FifoWorld (Host Managed)) (run : IsReachedInOrder managed_ops c programs o)
+    (later : AreLater (fifo_of w f.posted) o) where
   abbrev order : List Record
   order = (told_of c limits programs many o run).order
 
@@ -73,7 +73,7 @@ module _ (c : Config) (limits : IsConfig c) (programs : List Program)
   parts : (i : ℕ) (n : Node (Host Managed)) → slice_get w.nodes i ≡ Some n
       → (more : List Record) × (part i order ≡ n.core.history ++ more)
   parts i n there =
-      let m = later.at i n.core (core-of w.nodes i n there) in (
+      let m = later.at i n.core (core_of w.nodes i n there) in (
         m.2.more ++ pending m.0 (heap_way o 0 i),
         faithful.parts i m.0 m.1
             ∙ ap (λ l. l ++ pending m.0 (heap_way o 0 i)) m.2.history
@@ -127,12 +127,12 @@ module _ (c : Config) (programs : List Program) (w : World (Host Managed))
   f : follows w
   f = led_in_order managed_laws c of.limits programs of.many of.moves w of.led
 
-  here : slice_get (ordered_of w f.posted).cores i ≡ Some n.core
-  here = core-of w.nodes i n there
+  here : slice_get (fifo_of w f.posted).cores i ≡ Some n.core
+  here = core_of w.nodes i n there
 
   -- a history that is longer in the ordered world is that of the node
   is_answered : (g : follows end)
-      → HasGrown c of.limits programs of.many i n.core.history (ordered_of end g.posted)
+      → HasGrown c of.limits programs of.many i n.core.history (fifo_of end g.posted)
       → IsAnswered w end i
   is_answered g grown =
       let node = map-places (λ (m : Node (Host Managed)). m.core) end.nodes i grown.0 grown.1 in (
@@ -157,12 +157,12 @@ module _ (c : Config) (programs : List Program) (w : World (Host Managed))
       (due : IsDue w (Some called)) (are : AreRounds c i (6 * c.nodes + 3) w end) where
     by_kind : (a : Asked) → asked_of c called ≡ a → IsAnswered w end i
     by_kind (kinds.Refused code) is =
-        absurd ((told_of c of.limits programs of.many (ordered_of w f.posted) f.reached).servable i
+        absurd ((told_of c of.limits programs of.many (fifo_of w f.posted) f.reached).servable i
         n.core here called code asked is)
     by_kind (kinds.Word page word) is =
         let g = rounds_answer c of.limits fixed programs of.many i called page word is
-        (ordered_of w f.posted) (is_ready c of.limits programs of.many w f called due) w end f n
-        there asked (all_later (ordered_of w f.posted)) are in
+        (fifo_of w f.posted) (is_ready c of.limits programs of.many w f called due) w end f n
+        there asked (all_later (fifo_of w f.posted)) are in
         is_answered g.0 g.1
     by_kind (kinds.Heap k) is =
         let e : 6 * c.nodes + 3 ≡ suc (suc (suc (6 * c.nodes))) = omega arith in

@@ -15,12 +15,12 @@ use Rattle.ivy_moves.specs.ivy_link.Paired.{link_at, posted}
 use Rattle.ivy_moves.specs.declared.Move.{Move}
 use Rattle.ivy_moves.specs.declared.Move.TheVariants.{Turn}
 use Rattle.ivy_moves.specs.Cores.{Outcome}
-use Rattle.ivy_moves.specs.Following.{links_of, ordered_of, Follows, IsTame, FollowsStep}
+use Rattle.ivy_moves.specs.Following.{links_of, fifo_of, Follows, IsWellBehaved, FollowsStep}
 use Rattle.ivy_moves.specs.Nodes.{Node}
-use Rattle.ivy_moves.specs.Ordered.{Ordered, Steps, rests, turns, delivers}
+use Rattle.ivy_moves.specs.FifoWorld.{FifoWorld, Steps, rests, turns, delivers}
 use Rattle.ivy_moves.specs.Worlds.{World, Leads}
 use Rattle.ivy_moves.proofs.Kept.{moves-keep}
-use Rattle.ivy_moves.proofs.Places.{core-of, link-of}
+use Rattle.ivy_moves.proofs.Places.{core_of, link_of}
 use Rattle.proof_answers.specs.Rounds.{IsRound, AreRounds}
 use Rattle.proof_answers.specs.proof_progress.ivy_host.Hosts.{Host, host_rules, serving, turn_of, recorded}
 use Rattle.proof_answers.specs.proof_progress.ivy_host.Managers.{Managed, managed_ops}
@@ -28,7 +28,7 @@ use Rattle.proof_answers.specs.proof_progress.ivy_host.ManagedLaws.{managed_laws
 use Rattle.proof_answers.specs.proof_progress.ivy_host.Sound.{IsSoundHost}
 use Rattle.proof_answers.specs.proof_progress.ivy_host.ivy_memory.Memories.{reply_at, taken_out}
 use Rattle.proof_answers.specs.proof_progress.proof_refinement.Runs.{IsReachedInOrder, FollowsInOrder}
-use Rattle.proof_answers.proofs.of_proof_progress.of_ivy_host.Tame.{tame}
+use Rattle.proof_answers.proofs.of_proof_progress.of_ivy_host.WellBehaved.{well_behaved}
 use Rattle.proof_answers.proofs.of_proof_progress.of_proof_consistency.Faithful.{map-places}
 use Rattle.proof_answers.proofs.of_proof_progress.of_proof_refinement.LiftedWorlds.{IsSoundWorld}
 use Rattle.proof_answers.proofs.of_proof_progress.Reached.{IsToldBy, reached_told}
@@ -37,18 +37,18 @@ use Rattle.proof_answers.proofs.Answering.{Apart, leads_apart, turn_leads}
 use Rattle.proof_answers.proofs.Falling.{no_shorter, by_step}
 
 -- what a step posts stands behind what was posted
-abbrev pub IsLonger : Ordered (Host Managed) → Ordered (Host Managed) → Type 0
+abbrev pub IsLonger : FifoWorld (Host Managed) → FifoWorld (Host Managed) → Type 0
 IsLonger o o' = (x y : ℕ) → (more : List Message) × (o'.posted x y ≡ o.posted x y ++ more)
 
-step_longer : (o o' : Ordered (Host Managed)) → Steps (host_rules managed_ops) o o' → IsLonger o o'
+step_longer : (o o' : FifoWorld (Host Managed)) → Steps (host_rules managed_ops) o o' → IsLonger o o'
 step_longer o o' (rests same) x y =
-    ([], ap (λ (z : Ordered (Host Managed)). z.posted x y) same ∙ sym (append-nil (o.posted x y)))
+    ([], ap (λ (z : FifoWorld (Host Managed)). z.posted x y) same ∙ sym (append-nil (o.posted x y)))
 step_longer o o' (turns i t) x y =
     (posted x y t.outcome.posted, ap (λ g. g x y) t.posted)
 step_longer o o' (delivers source i t) x y =
     (posted x y (serving managed_ops t.core source t.message).posted, ap (λ g. g x y) t.posted)
 
-then_longer : (o u v : Ordered (Host Managed)) → IsLonger o u → IsLonger u v → IsLonger o v
+then_longer : (o u v : FifoWorld (Host Managed)) → IsLonger o u → IsLonger u v → IsLonger o v
 then_longer o u v a b x y = (
   (a x y).0 ++ (b x y).0,
   (b x y).1 ∙ ap (λ l. l ++ (b x y).0) (a x y).1 ∙ append_assoc (o.posted x y) (a x y).0 (b x y).0,
@@ -56,7 +56,7 @@ then_longer o u v a b x y = (
 
 -- the explaining order of a world that is reached, and what goes with it
 abbrev pub told_of : (c : Config) → IsConfig c → (programs : List Program)
-    → length programs ≡ c.nodes → (o : Ordered (Host Managed))
+    → length programs ≡ c.nodes → (o : FifoWorld (Host Managed))
     → IsReachedInOrder managed_ops c programs o → IsToldBy managed_ops c o
 told_of c limits programs many o run =
     reached_told managed_ops managed_laws c limits programs many o run
@@ -66,24 +66,24 @@ module _ (c : Config) (limits : IsConfig c) (programs : List Program)
   abbrev Follower : World (Host Managed) → Type 0
   Follower v = FollowsInOrder managed_ops c programs v
 
-  abbrev order_of : (v : World (Host Managed)) → Follower v → Ordered (Host Managed)
-  order_of v f = ordered_of v f.posted
+  abbrev order_of : (v : World (Host Managed)) → Follower v → FifoWorld (Host Managed)
+  order_of v f = fifo_of v f.posted
 
-  abbrev IsRun : Ordered (Host Managed) → Type 0
+  abbrev IsRun : FifoWorld (Host Managed) → Type 0
   IsRun o = IsReachedInOrder managed_ops c programs o
 
-  tamed : IsTame (host_rules managed_ops) c (IsSoundHost managed_ops c)
-  tamed = tame managed_laws c
+  keeps_well_behaved : IsWellBehaved (host_rules managed_ops) c (IsSoundHost managed_ops c)
+  keeps_well_behaved = well_behaved managed_laws c
 
   -- what steps keep, moves keep
-  module _ (K : Ordered (Host Managed) → Type 0)
-      (on : (o o' : Ordered (Host Managed)) → IsRun o → Steps (host_rules managed_ops) o o' → K o
+  module _ (K : FifoWorld (Host Managed) → Type 0)
+      (on : (o o' : FifoWorld (Host Managed)) → IsRun o → Steps (host_rules managed_ops) o o' → K o
       → K o') where
-    record IsFrom (o : Ordered (Host Managed)) (v : World (Host Managed))
+    record IsFrom (o : FifoWorld (Host Managed)) (v : World (Host Managed))
         (sent : ℕ → ℕ → List Message) : Type 0 where
-      run : IsRun (ordered_of v sent)
-      longer : IsLonger o (ordered_of v sent)
-      kept : K (ordered_of v sent)
+      run : IsRun (fifo_of v sent)
+      longer : IsLonger o (fifo_of v sent)
+      kept : K (fifo_of v sent)
 
     pub record IsLed (u : World (Host Managed)) (f : Follower u) (v : World (Host Managed)) : Type 0
       where
@@ -91,23 +91,23 @@ module _ (c : Config) (limits : IsConfig c) (programs : List Program)
         pub longer : IsLonger (order_of u f) (order_of v follows)
         pub kept : K (order_of v follows)
 
-    from_on : (o : Ordered (Host Managed)) (u v : World (Host Managed)) (sent : ℕ → ℕ → List Message)
+    from_on : (o : FifoWorld (Host Managed)) (u v : World (Host Managed)) (sent : ℕ → ℕ → List Message)
         → Follows c (IsSoundHost managed_ops c) u sent → IsFrom o u sent
         → (next : FollowsStep (host_rules managed_ops) c (IsSoundHost managed_ops c) u sent v)
         → IsFrom o v next.0
     from_on o u v sent follows from next = record {
-      run = (ordered_of u sent ∷ from.run.0, (from.run.1, next.2));
+      run = (fifo_of u sent ∷ from.run.0, (from.run.1, next.2));
       longer =
-          then_longer o (ordered_of u sent) (ordered_of v next.0) from.longer
-          (step_longer (ordered_of u sent) (ordered_of v next.0) next.2);
-      kept = on (ordered_of u sent) (ordered_of v next.0) from.run next.2 from.kept;
+          then_longer o (fifo_of u sent) (fifo_of v next.0) from.longer
+          (step_longer (fifo_of u sent) (fifo_of v next.0) next.2);
+      kept = on (fifo_of u sent) (fifo_of v next.0) from.run next.2 from.kept;
     }
 
     pub led_on : (u v : World (Host Managed)) (f : Follower u) (moves : List Move)
         → Leads (host_rules managed_ops) c u moves v → K (order_of u f) → IsLed u f v
     led_on u v f moves led k =
         let l =
-        moves-keep (host_rules managed_ops) c (IsSoundHost managed_ops c) limits tamed
+        moves-keep (host_rules managed_ops) c (IsSoundHost managed_ops c) limits keeps_well_behaved
         (IsFrom (order_of u f)) (from_on (order_of u f)) u v moves (
           f.posted,
           f.follows,
@@ -165,9 +165,9 @@ module _ (c : Config) (limits : IsConfig c) (programs : List Program)
         let count = f.follows.paired.counted x y (omega (arith, within_x, nodes, long))
         (omega (arith, within_y, nodes, long)) in
         let here : (peer_at (link_at (links_of u) x) y).sent ≡ (peer_at at_x.0.link y).sent =
-        ap (λ (l : Linked). (peer_at l y).sent) (link-of u.nodes x at_x.0 at_x.1) in
+        ap (λ (l : Linked). (peer_at l y).sent) (link_of u.nodes x at_x.0 at_x.1) in
         let ends : (order_of v g).delivered x y ≡ (peer_at at_y.0.link x).delivered =
-        ap (λ (l : Linked). (peer_at l x).delivered) (link-of v.nodes y at_y.0 at_y.1) in
+        ap (λ (l : Linked). (peer_at l x).delivered) (link_of v.nodes y at_y.0 at_y.1) in
         omega (arith, all, count, here, ends)
 
     pub all_there : (x y : ℕ) → length (f.posted x y) ≤ (order_of v g).delivered x y
@@ -175,10 +175,10 @@ module _ (c : Config) (limits : IsConfig c) (programs : List Program)
 
   module _ (i : ℕ) (history : List Record) where
     -- the history is longer
-    abbrev pub HasGrown : Ordered (Host Managed) → Type 0
+    abbrev pub HasGrown : FifoWorld (Host Managed) → Type 0
     HasGrown o = (h : Host Managed) × (slice_get o.cores i ≡ Some h) × (length history < length h.history)
 
-    pub grown_on : (o o' : Ordered (Host Managed)) → IsRun o → Steps (host_rules managed_ops) o o'
+    pub grown_on : (o o' : FifoWorld (Host Managed)) → IsRun o → Steps (host_rules managed_ops) o o'
         → HasGrown o → HasGrown o'
     grown_on o o' run step g =
         let m = (by_step c limits programs many o run o' step).later.at i g.0 g.1 in
@@ -204,10 +204,10 @@ module _ (c : Config) (limits : IsConfig c) (programs : List Program)
         (out, replied_turn managed_ops h called asked r there, omega (arith, a, b))
 
     -- where what steps keep says so, the node's turn in a round records
-    module _ (K : Ordered (Host Managed) → Type 0)
-        (on : (o o' : Ordered (Host Managed)) → IsRun o → Steps (host_rules managed_ops) o o' → K o
+    module _ (K : FifoWorld (Host Managed) → Type 0)
+        (on : (o o' : FifoWorld (Host Managed)) → IsRun o → Steps (host_rules managed_ops) o o' → K o
         → K o')
-        (says : (o : Ordered (Host Managed)) → IsRun o → K o
+        (says : (o : FifoWorld (Host Managed)) → IsRun o → K o
         → HasGrown o ⊎ ((h : Host Managed) × (slice_get o.cores i ≡ Some h) × Records h))
         (u v : World (Host Managed)) (f : Follower u) where
       module _ (round : IsRound c i u v) (k : K (order_of u f)) where
@@ -236,7 +236,7 @@ module _ (c : Config) (limits : IsConfig c) (programs : List Program)
               turn.follows,
               (
                 came.0.core,
-                core-of apart.after.0.nodes i came.0 came.1,
+                core_of apart.after.0.nodes i came.0 came.1,
                 subst (λ (z : Host Managed). length history < length z.history) (sym came.2) is.2.2,
               ),
             )
@@ -249,10 +249,10 @@ module _ (c : Config) (limits : IsConfig c) (programs : List Program)
             (rest.follows, rest.kept)
 
     -- and so do rounds, of which there is one
-    module _ (K : Ordered (Host Managed) → Type 0)
-        (on : (o o' : Ordered (Host Managed)) → IsRun o → Steps (host_rules managed_ops) o o' → K o
+    module _ (K : FifoWorld (Host Managed) → Type 0)
+        (on : (o o' : FifoWorld (Host Managed)) → IsRun o → Steps (host_rules managed_ops) o o' → K o
         → K o')
-        (says : (o : Ordered (Host Managed)) → IsRun o → K o
+        (says : (o : FifoWorld (Host Managed)) → IsRun o → K o
         → HasGrown o ⊎ ((h : Host Managed) × (slice_get o.cores i ≡ Some h) × Records h)) where
       pub rounds_record : (k : ℕ) (u v : World (Host Managed)) (f : Follower u)
           → AreRounds c i (suc k) u v → K (order_of u f) → (g : Follower v) × HasGrown (order_of v g)

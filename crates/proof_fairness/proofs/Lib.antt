@@ -3,5 +3,5 @@ pub mod Unlocking
 pub mod Aims
 pub mod Leading
 pub mod Rounds
-pub mod Errands
+pub mod HeapRequests
 pub mod Calls

@@ -29,11 +29,11 @@ use Rattle.ivy_pagetable.specs.Tables.{entry_at, page_at}
 use Rattle.ivy_program.specs.Programs.{Program}
 use Rattle.ivy_moves.specs.declared.Move.TheVariants.{Turn}
 use Rattle.ivy_moves.specs.Cores.{Outcome}
-use Rattle.ivy_moves.specs.Following.{ordered_of}
+use Rattle.ivy_moves.specs.Following.{fifo_of}
 use Rattle.ivy_moves.specs.Nodes.{Node}
-use Rattle.ivy_moves.specs.Ordered.{Ordered, Delivers, Steps, rests, turns, delivers}
+use Rattle.ivy_moves.specs.FifoWorld.{FifoWorld, Delivers, Steps, rests, turns, delivers}
 use Rattle.ivy_moves.specs.Worlds.{World}
-use Rattle.ivy_moves.proofs.Places.{core-of}
+use Rattle.ivy_moves.proofs.Places.{core_of}
 use Rattle.proof_waiting.specs.proof_routing.ivy_coherence.Coherent.{Coherent}
 use Rattle.proof_waiting.specs.proof_routing.ivy_coherence.Steps.{handled}
 use Rattle.proof_waiting.specs.proof_routing.proof_transitions.Letters.{Net}
@@ -56,14 +56,14 @@ use Rattle.proof_answers.specs.proof_progress.proof_refinement.Nets.{about_pages
 use Rattle.proof_answers.specs.proof_progress.proof_refinement.Runs.{IsReachedInOrder, FollowsInOrder}
 use Rattle.proof_answers.proofs.of_proof_progress.of_ivy_host.Pages.{page_serving}
 use Rattle.proof_answers.proofs.of_proof_progress.of_proof_consistency.Faithful.{map-places}
-use Rattle.proof_answers.proofs.of_proof_progress.of_proof_refinement.HostTurns.{HostTurn, answers, tries_again, goes_on, refuses, asks_for, serves_heap, asks_heap, turn-cases}
+use Rattle.proof_answers.proofs.of_proof_progress.of_proof_refinement.HostTurns.{HostTurn, answers, tries_again, goes_on, refuses, asks_for, serves_heap, asks_heap, turn_cases}
 use Rattle.proof_answers.proofs.of_proof_progress.of_proof_refinement.LiftedEvents.{Tells, quiet, answers as is_answered}
 use Rattle.proof_answers.proofs.of_proof_progress.of_proof_refinement.LiftedRuns.{Holds}
 use Rattle.proof_answers.proofs.of_proof_progress.of_proof_refinement.LiftedSteps.{kept-delivers}
 use Rattle.proof_answers.proofs.of_proof_progress.of_proof_refinement.LiftedWorlds.{fits_heap}
 use Rattle.proof_answers.proofs.of_proof_progress.Pursued.{IsPlain}
 use Rattle.proof_answers.proofs.of_proof_progress.Reached.{IsToldBy}
-use Rattle.proof_answers.proofs.of_proof_progress.Shares.{HasShare, has, gave, IsOccupied, IsCovered}
+use Rattle.proof_answers.proofs.of_proof_progress.Shares.{HasShare, has, gave, IsOccupied, HasAccurateCopySets}
 use Rattle.proof_answers.proofs.of_proof_progress.Stopped.{replied_turn, tries, await_answered}
 use Rattle.proof_answers.proofs.Answering.{Apart, leads_apart, turn_leads}
 use Rattle.proof_answers.proofs.Falling.{AreLater, all_then, no_shorter, by_step}
@@ -91,7 +91,7 @@ all_about (suc k) (m ∷ xs) ys le =
     (all_about k xs ys (omega (arith, le)))
 
 -- an owner that collects misses some, who has a share
-module _ (c : Config) (n : Net) (covered : IsCovered n) (p : ℕ) where
+module _ (c : Config) (n : Net) (covered : HasAccurateCopySets n) (p : ℕ) where
   all_given : (e : Entry) (y : ℕ) → n.entry y p ≡ e → is_owner e ≡ true → is_locked e ≡ true
       → ((x call : ℕ) → Collects e call x → ⊥) → ⊥
   all_given (entry.Idle s) y is own shut none = (let f : false ≡ true = shut in cc)
@@ -155,31 +155,31 @@ await_waits ops n called asked c config none free page offset least of s idle un
 module _ (c : Config) (limits : IsConfig c) (fixed : c.manager ≡ kind.Fixed)
     (programs : List Program) (many : length programs ≡ c.nodes) (i : ℕ) (called : Call)
     (page : ℕ) (w : Word) (of : asked_of c called ≡ kinds.Word page w)
-    (start : Ordered (Host Managed))
-    (ready : (o : Ordered (Host Managed)) (run : IsReachedInOrder managed_ops c programs o)
+    (start : FifoWorld (Host Managed))
+    (ready : (o : FifoWorld (Host Managed)) (run : IsReachedInOrder managed_ops c programs o)
     → AreLater start o
     → IsReady c (told_of c limits programs many o run).faithful.pages called) where
   abbrev Follower : World (Host Managed) → Type 0
   Follower v = FollowsInOrder managed_ops c programs v
 
-  abbrev order_of : (v : World (Host Managed)) → Follower v → Ordered (Host Managed)
-  order_of v f = ordered_of v f.posted
+  abbrev order_of : (v : World (Host Managed)) → Follower v → FifoWorld (Host Managed)
+  order_of v f = fifo_of v f.posted
 
-  abbrev IsRun : Ordered (Host Managed) → Type 0
+  abbrev IsRun : FifoWorld (Host Managed) → Type 0
   IsRun o = IsReachedInOrder managed_ops c programs o
 
-  abbrev told : (o : Ordered (Host Managed)) → IsRun o → IsToldBy managed_ops c o
+  abbrev told : (o : FifoWorld (Host Managed)) → IsRun o → IsToldBy managed_ops c o
   told o run = told_of c limits programs many o run
 
   -- the call was carried out, or its reply was recorded
-  pub data IsPast (history : List Record) (o : Ordered (Host Managed)) : Type 0 where
+  pub data IsPast (history : List Record) (o : FifoWorld (Host Managed)) : Type 0 where
     carried : (h : Host Managed) → slice_get o.cores i ≡ Some h → IsOpen called history h
         → IsPast history o
     answered : (h : Host Managed) → slice_get o.cores i ≡ Some h
         → length history < length h.history → IsPast history o
 
   -- it waits for so many rounds more, or that is past
-  pub data Stage (history : List Record) (p : ℕ) (due : ℕ → ℕ → ℕ) (r : ℕ) (o : Ordered (Host Managed))
+  pub data Stage (history : List Record) (p : ℕ) (due : ℕ → ℕ → ℕ) (r : ℕ) (o : FifoWorld (Host Managed))
       : Type 0 where
     waiting : (h : Host Managed) → slice_get o.cores i ≡ Some h → IsWaiting p called history h
         → IsReachedIn (net_of o) due p (p % c.nodes) c.nodes i r → AreLater start o
@@ -195,14 +195,14 @@ module _ (c : Config) (limits : IsConfig c) (fixed : c.manager ≡ kind.Fixed)
   reply_is : (history : List Record) (h : Host Managed) → IsOpen called history h
       → (r : Reply) × (reply_at h.memory ≡ Some r)
   reply_is history h opened =
-      first_of (reply_told h.memory.side.errand) (reply_there h.memory.coherence.done) opened.told.0
+      first_of (reply_told h.memory.side.heap_request) (reply_there h.memory.coherence.done) opened.told.0
       opened.told.1
 
-  abbrev HasGrown : List Record → Ordered (Host Managed) → Type 0
+  abbrev HasGrown : List Record → FifoWorld (Host Managed) → Type 0
   HasGrown history o = Grown c limits programs many i history o
 
   -- so its turn records the reply
-  past_records : (history : List Record) (o : Ordered (Host Managed)) → IsRun o → IsPast history o
+  past_records : (history : List Record) (o : FifoWorld (Host Managed)) → IsRun o → IsPast history o
       → HasGrown history o
       ⊎ ((h : Host Managed) × (slice_get o.cores i ≡ Some h)
       × Records c limits programs many i history h)
@@ -215,7 +215,7 @@ module _ (c : Config) (limits : IsConfig c) (fixed : c.manager ≡ kind.Fixed)
         reply_records c limits programs many i history h called opened.asked opened.records r.0 r.1,
       )
 
-  module _ (o o' : Ordered (Host Managed)) (run : IsRun o) (step : Steps (host_rules managed_ops) o o')
+  module _ (o o' : FifoWorld (Host Managed)) (run : IsRun o) (step : Steps (host_rules managed_ops) o o')
       (history : List Record) where
     later : AreLater o o'
     later = (by_step c limits programs many o run o' step).later
@@ -290,14 +290,14 @@ module _ (c : Config) (limits : IsConfig c) (fixed : c.manager ≡ kind.Fixed)
       where
         by_steps : Steps (host_rules managed_ops) o o' → IsPast history o'
         by_steps (rests same) =
-            carried h (ap (λ (z : Ordered (Host Managed)). slice_get z.cores i) same ∙ there) opened
+            carried h (ap (λ (z : FifoWorld (Host Managed)). slice_get z.cores i) same ∙ there) opened
         by_steps (turns x t) = elim (cases_eq i x) [
           | inr ne ↦
               carried h (core_elsewhere o o' x t.core t.outcome.after i t.there t.cores ne ∙ there) opened
           | inl same ↦
               open_turn h there opened t.core t.outcome
               (same_Some t.core h (sym t.there ∙ ap (slice_get o.cores) (sym same) ∙ there))
-              (turn-cases managed_ops c x t.core (base.0.sound x t.core t.there) t.outcome t.turned)
+              (turn_cases managed_ops c x t.core (base.0.sound x t.core t.there) t.outcome t.turned)
               (core_here o o' x t.core t.outcome.after i t.there t.cores same)
         ]
         by_steps (delivers source x t) =
@@ -357,7 +357,7 @@ module _ (c : Config) (limits : IsConfig c) (fixed : c.manager ≡ kind.Fixed)
         by_comes h' now (grows more) = past (answered h' now more)
 
   module _ (history : List Record) where
-    IsPast_on : (o o' : Ordered (Host Managed)) → IsRun o → Steps (host_rules managed_ops) o o'
+    IsPast_on : (o o' : FifoWorld (Host Managed)) → IsRun o → Steps (host_rules managed_ops) o o'
         → IsPast history o → IsPast history o'
     IsPast_on o o' run step = past_on o o' run step history
 
@@ -461,7 +461,7 @@ module _ (c : Config) (limits : IsConfig c) (fixed : c.manager ≡ kind.Fixed)
           ]
 
     -- a locked page is one of the pages
-    page_inside : (o : Ordered (Host Managed)) → IsRun o → (h : Host Managed)
+    page_inside : (o : FifoWorld (Host Managed)) → IsRun o → (h : Host Managed)
         → slice_get o.cores i ≡ Some h → (p : ℕ) → h.memory.coherence.locked ≡ Some p → p < c.pages
     page_inside o run h there p locked = elim (cases_lt p c.pages) [
       | inl low ↦ low
@@ -480,7 +480,7 @@ module _ (c : Config) (limits : IsConfig c) (fixed : c.manager ≡ kind.Fixed)
 
   -- a word that waits is answered in so many rounds
   module _ (history : List Record) where
-    rank_at : (o : Ordered (Host Managed)) → IsRun o → (h : Host Managed)
+    rank_at : (o : FifoWorld (Host Managed)) → IsRun o → (h : Host Managed)
         → slice_get o.cores i ≡ Some h → (p : ℕ) → p < c.pages → IsWaiting p called history h
         → IsReachedIn (net_of o) (next_due (net_of o)) p (p % c.nodes) c.nodes i (6 * c.nodes)
     rank_at o run h there p inside is =
@@ -510,17 +510,17 @@ module _ (c : Config) (limits : IsConfig c) (fixed : c.manager ≡ kind.Fixed)
       none : reply_there h.memory.coherence.done ≡ None
 
     -- it waits, or that is past
-    data Moved (o : Ordered (Host Managed)) : Type 0 where
+    data Moved (o : FifoWorld (Host Managed)) : Type 0 where
       waits_now : (p : ℕ) (h : Host Managed) → slice_get o.cores i ≡ Some h
           → IsWaiting p called history h → AreLater start o → Moved o
       is_past : IsPast history o → Moved o
 
-    data Begun (o : Ordered (Host Managed)) : Type 0 where
+    data Begun (o : FifoWorld (Host Managed)) : Type 0 where
       trying : (h : Host Managed) → slice_get o.cores i ≡ Some h → IsTrying h → AreLater start o
           → Begun o
       moved : Moved o → Begun o
 
-    moved_on : (o o' : Ordered (Host Managed)) → IsRun o → Steps (host_rules managed_ops) o o'
+    moved_on : (o o' : FifoWorld (Host Managed)) → IsRun o → Steps (host_rules managed_ops) o o'
         → Moved o → Moved o'
     moved_on o o' run step (is_past k) = is_past (past_on o o' run step history k)
     moved_on o o' run step (waits_now p h there is since) =
@@ -536,7 +536,7 @@ module _ (c : Config) (limits : IsConfig c) (fixed : c.manager ≡ kind.Fixed)
         by_stage (waiting h' now still rank later_on) = waits_now p h' now still later_on
 
     -- what that turn does
-    module _ (o : Ordered (Host Managed)) (run : IsRun o) (since : AreLater start o) (h : Host Managed)
+    module _ (o : FifoWorld (Host Managed)) (run : IsRun o) (since : AreLater start o) (h : Host Managed)
         (there : slice_get o.cores i ≡ Some h) (t : IsTrying h) where
       sound : IsSoundHost managed_ops c i h
       sound = (told o run).faithful.sound.sound i h there
@@ -607,14 +607,14 @@ module _ (c : Config) (limits : IsConfig c) (fixed : c.manager ≡ kind.Fixed)
       trying_turn = by_reply (reply_at h.memory) refl
 
       -- so it moves on
-      moved_by : (o' : Ordered (Host Managed)) (out : Outcome (Host Managed)) → AreLater start o'
+      moved_by : (o' : FifoWorld (Host Managed)) (out : Outcome (Host Managed)) → AreLater start o'
           → slice_get o'.cores i ≡ Some out.after
           → ((length history < length out.after.history) ⊎ IsWaiting page called history out.after)
           → Moved o'
       moved_by o' out since' now (inl more) = is_past (answered out.after now more)
       moved_by o' out since' now (inr is) = waits_now page out.after now is since'
 
-    begun_on : (o o' : Ordered (Host Managed)) → IsRun o → Steps (host_rules managed_ops) o o'
+    begun_on : (o o' : FifoWorld (Host Managed)) → IsRun o → Steps (host_rules managed_ops) o o'
         → Begun o → Begun o'
     begun_on o o' run step (moved k) = moved (moved_on o o' run step k)
     begun_on o o' run step (trying h there t since) = by_steps step
@@ -624,7 +624,7 @@ module _ (c : Config) (limits : IsConfig c) (fixed : c.manager ≡ kind.Fixed)
 
         by_steps : Steps (host_rules managed_ops) o o' → Begun o'
         by_steps (rests same) =
-            trying h (ap (λ (z : Ordered (Host Managed)). slice_get z.cores i) same ∙ there) t since'
+            trying h (ap (λ (z : FifoWorld (Host Managed)). slice_get z.cores i) same ∙ there) t since'
         by_steps (turns x k) = elim (cases_eq i x) [
           | inr ne ↦
               trying h (core_elsewhere o o' x k.core k.outcome.after i k.there k.cores ne ∙ there) t
@@ -664,7 +664,7 @@ module _ (c : Config) (limits : IsConfig c) (fixed : c.manager ≡ kind.Fixed)
               )
         ]
 
-    since_on : (o o' : Ordered (Host Managed)) → IsRun o → Steps (host_rules managed_ops) o o'
+    since_on : (o o' : FifoWorld (Host Managed)) → IsRun o → Steps (host_rules managed_ops) o o'
         → AreLater start o → AreLater start o'
     since_on o o' run step l = all_then start o o' l (later o o' run step history)
 
@@ -697,7 +697,7 @@ module _ (c : Config) (limits : IsConfig c) (fixed : c.manager ≡ kind.Fixed)
             let rest = led_on c limits programs many Moved moved_on apart.after.0 v turn.follows round.after apart.after.2
             (moved_by (order_of apart.mid first.follows) first.follows.reached since h there t
             (order_of apart.after.0 turn.follows) out.0 turn.kept
-            (core-of apart.after.0.nodes i came.0 came.1 ∙ ap Some came.2) out.2) in
+            (core_of apart.after.0.nodes i came.0 came.1 ∙ ap Some came.2) out.2) in
             (rest.follows, rest.kept)
 
     from_moved : (u v : World (Host Managed)) (f : Follower u) → AreRounds c i (6 * c.nodes + 2) u v
@@ -718,7 +718,7 @@ module _ (c : Config) (limits : IsConfig c) (fixed : c.manager ≡ kind.Fixed)
       by_lock n.core.memory.coherence.locked refl (reply_there n.core.memory.coherence.done) refl
     where
       here : slice_get (order_of u f).cores i ≡ Some n.core
-      here = core-of u.nodes i n there
+      here = core_of u.nodes i n there
 
       e : 6 * c.nodes + 3 ≡ suc (6 * c.nodes + 2)
       e = omega arith

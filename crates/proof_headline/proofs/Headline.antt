@@ -11,7 +11,7 @@ use Rattle.ivy_moves.specs.declared.Move.{Move}
 use Rattle.ivy_moves.specs.Nodes.{Node}
 use Rattle.ivy_moves.specs.Worlds.{World, Leads}
 use Rattle.ivy_moves.specs.Explained.{GoesOn}
-use Rattle.ivy_moves.specs.Following.{Follows, IsTame, IsString}
+use Rattle.ivy_moves.specs.Following.{Follows, IsWellBehaved, IsString}
 use Rattle.ivy_moves.proofs.Kept.{led}
 use Rattle.ivy_moves.proofs.Opening.{opening_follows}
 use Rattle.proof_progress.specs.ivy_host.Hosts.{Host, host_rules, answered_by}
@@ -28,30 +28,30 @@ use Rattle.proof_headline.specs.RunState.{Run}
 use Rattle.proof_headline.specs.Reached.{IsLedTo, IsReached, IsExplainedAlong, opening_of}
 use Rattle.proof_headline.specs.Keeping.{Keeps}
 use Rattle.ivy_moves.proofs.Leading.{leads_on}
-use Rattle.proof_progress.proofs.of_ivy_host.Tame.{tame, opening_is}
+use Rattle.proof_progress.proofs.of_ivy_host.WellBehaved.{well_behaved, opening_is}
 
 module _ (c : Config) (programs : List Program) (config : IsConfig c)
     (each : length programs ≡ c.nodes) where
-  tamed : IsTame (host_rules managed_ops) c (IsSoundHost managed_ops c)
-  tamed = tame managed_laws c
+  keeps_well_behaved : IsWellBehaved (host_rules managed_ops) c (IsSoundHost managed_ops c)
+  keeps_well_behaved = well_behaved managed_laws c
 
   opened : Follows c (IsSoundHost managed_ops c) (opening managed_ops c programs) (λ i j. [])
   opened =
       opening_follows c (IsSoundHost managed_ops c) (opening managed_ops c programs)
       (opening_is managed_laws c programs config each)
 
-  pub exclusive-led : (moves : List Move) (w : World (Host Managed))
+  pub exclusive_along : (moves : List Move) (w : World (Host Managed))
       → Leads (host_rules managed_ops) c (opening managed_ops c programs) moves w → IsExclusive w
-  exclusive-led = exclusive_led managed_laws c config (managed_ops.first c 0) programs each
+  exclusive_along = exclusive_led managed_laws c config (managed_ops.first c 0) programs each
 
   pub no_breach-led : (moves : List Move) (w : World (Host Managed))
       → Leads (host_rules managed_ops) c (opening managed_ops c programs) moves w → HasNoBreach w
   no_breach-led = either_no_breach c config (managed_ops.first c 0) programs each
 
-  pub runs-led : (moves : List Move) (w : World (Host Managed))
+  pub runs_led : (moves : List Move) (w : World (Host Managed))
       → Leads (host_rules managed_ops) c (opening managed_ops c programs) moves w
       → AreRuns programs w
-  runs-led moves w h = opening_runs managed_ops managed_laws c config programs each opened w moves h
+  runs_led moves w h = opening_runs managed_ops managed_laws c config programs each opened w moves h
 
   pub explained-along : (moves : List Move)
       → GoesOn (host_rules managed_ops) c answered_by (opening managed_ops c programs) [] moves
@@ -62,7 +62,7 @@ module _ (c : Config) (programs : List Program) (config : IsConfig c)
       → Leads (host_rules managed_ops) c (opening managed_ops c programs) moves w → AllSpell c w
   spelled-led moves w h bytes there =
       let f : (posted : ℕ → ℕ → List Message) × Follows c (IsSoundHost managed_ops c) w posted
-      = led (host_rules managed_ops) c (IsSoundHost managed_ops c) config tamed
+      = led (host_rules managed_ops) c (IsSoundHost managed_ops c) config keeps_well_behaved
       (opening managed_ops c programs) w (λ i j. []) moves opened h in
       let s : IsString c f.0 bytes = All-contains (IsString c f.0) w.sent bytes f.1.strings there in
       (s.0, s.1)
@@ -72,7 +72,7 @@ module _ (c : Config) (programs : List Program) (config : IsConfig c)
       → length w.nodes ≡ c.nodes
   nodes-led moves w h =
       let f : (posted : ℕ → ℕ → List Message) × Follows c (IsSoundHost managed_ops c) w posted
-      = led (host_rules managed_ops) c (IsSoundHost managed_ops c) config tamed
+      = led (host_rules managed_ops) c (IsSoundHost managed_ops c) config keeps_well_behaved
       (opening managed_ops c programs) w (λ i j. []) moves opened h in
       f.1.nodes
 
@@ -82,7 +82,7 @@ module _ (c : Config) (programs : List Program) (config : IsConfig c)
       → IsSoundHost managed_ops c i n.core
   sound-led moves w h =
       let f : (posted : ℕ → ℕ → List Message) × Follows c (IsSoundHost managed_ops c) w posted
-      = led (host_rules managed_ops) c (IsSoundHost managed_ops c) config tamed
+      = led (host_rules managed_ops) c (IsSoundHost managed_ops c) config keeps_well_behaved
       (opening managed_ops c programs) w (λ i j. []) moves opened h in
       f.1.sound
 
@@ -94,8 +94,8 @@ keeps-reached r config each reached = record {
   programs = each;
   nodes = nodes-led r.config r.programs config each reached.0 r.world reached.1;
   reached = reached;
-  exclusive = exclusive-led r.config r.programs config each reached.0 r.world reached.1;
-  runs = runs-led r.config r.programs config each reached.0 r.world reached.1;
+  exclusive = exclusive_along r.config r.programs config each reached.0 r.world reached.1;
+  runs = runs_led r.config r.programs config each reached.0 r.world reached.1;
   no_breach = no_breach-led r.config r.programs config each reached.0 r.world reached.1;
   spelled = spelled-led r.config r.programs config each reached.0 r.world reached.1;
   ordered = led_in_order managed_laws r.config config r.programs each reached.0 r.world reached.1;

@@ -6,7 +6,7 @@ use Rattle.ivy_model.specs.declared.Config.{Config}
 use Rattle.ivy_model.specs.Config.{IsConfig}
 use Rattle.ivy_wire.specs.Data.{Message}
 use Rattle.ivy_program.specs.Programs.{Program}
-use Rattle.ivy_moves.specs.Ordered.{Ordered, delivers}
+use Rattle.ivy_moves.specs.FifoWorld.{FifoWorld, delivers}
 use Rattle.proof_consistency.specs.ivy_host.Hosts.{Host}
 use Rattle.proof_consistency.specs.ivy_host.ManagedLaws.{managed_laws}
 use Rattle.proof_consistency.specs.ivy_host.Managers.{Managed, managed_ops}
@@ -34,7 +34,7 @@ some_below P (suc n) each = elim (some_below P n each) [
   ]
 ]
 
-module _ (c : Config) (o : Ordered (Host Managed)) (sound : IsSoundWorld managed_ops c o) where
+module _ (c : Config) (o : FifoWorld (Host Managed)) (sound : IsSoundWorld managed_ops c o) where
   -- a message under way can be delivered
   some_delivery : (i j : ℕ) (m : Message) → slice_get (o.posted i j) (o.delivered i j) ≡ Some m
       → CanDeliver managed_ops o
@@ -88,7 +88,7 @@ module _ (c : Config) (o : Ordered (Host Managed)) (sound : IsSoundWorld managed
 module _ (c : Config) (programs : List Program) (limits : IsConfig c)
     (many : length programs ≡ c.nodes) where
   -- deliveries lead on
-  pub reached_last : (after : List (Ordered (Host Managed))) (o : Ordered (Host Managed))
+  pub reached_last : (after : List (FifoWorld (Host Managed))) (o : FifoWorld (Host Managed))
       → IsReachedInOrder managed_ops c programs o → AreDeliveries managed_ops o after
       → IsReachedInOrder managed_ops c programs (last_of o after)
   reached_last [] o reached are = reached
@@ -96,7 +96,7 @@ module _ (c : Config) (programs : List Program) (limits : IsConfig c)
       reached_last rest next
       (o ∷ reached.0, (reached.1, delivers are.0.0 are.0.1 are.0.2)) are.1
 
-  answering : (o : Ordered (Host Managed)) → IsReachedInOrder managed_ops c programs o
+  answering : (o : FifoWorld (Host Managed)) → IsReachedInOrder managed_ops c programs o
       → CanDeliver managed_ops o ⊎ (AreAllDelivered o × AreUnblocked managed_ops c o.cores)
   answering o reached =
       let told : IsToldBy managed_ops c o =

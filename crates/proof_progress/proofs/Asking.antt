@@ -18,7 +18,7 @@ use Rattle.proof_consistency.specs.ivy_memory.Asking.{asked_of}
 use Rattle.proof_consistency.specs.ivy_memory.Memories.{NodeMemory, CallBegun, begun_as, call_begun, polled}
 use Rattle.proof_consistency.proofs.of_ivy_memory.Polling.{polled-begun}
 use Rattle.proof_consistency.proofs.of_ivy_memory.Same.{told-asked}
-use Rattle.proof_consistency.proofs.of_ivy_memory.Tame.{call-begun, begun-one, begun-next}
+use Rattle.proof_consistency.proofs.of_ivy_memory.Begun.{call-begun, begun-one, begun-next}
 use Rattle.proof_consistency.specs.ivy_memory.Sound.{IsWordOfPage}
 use Rattle.proof_consistency.specs.ivy_host.Hosts.{Host, recorded, quietly, begins_with, begins_as, steps, turned_at, turn_of, serving}
 

@@ -13,11 +13,11 @@ use Rattle.ivy_pagetable.specs.NodeSets.{nodes_with}
 use Rattle.ivy_pagetable.specs.Accesses.{writes}
 use Rattle.ivy_pagetable.specs.Entries.{readable, is_owner, copies_of, copying, owning}
 use Rattle.ivy_pagetable.specs.Manager.{Ops}
-use Rattle.proof_routing.specs.ivy_coherence.Faults.{waiting_from}
+use Rattle.proof_routing.specs.ivy_coherence.PageFaults.{waiting_from}
 use Rattle.proof_routing.specs.ivy_coherence.Serving.{invalidations}
 use Rattle.proof_routing.specs.proof_transitions.Letters.{Letter, Net, Place, Loose, letter_of, goes_on, installs}
 use Rattle.proof_routing.specs.proof_transitions.Orderly.{reads, In, IsOrderly}
-use Rattle.proof_routing.specs.proof_transitions.Rows.{letter, Comes, Begins, Notice, Row, Claim, IsKept}
+use Rattle.proof_routing.specs.proof_transitions.Rows.{letter, Comes, Begins, Notice, Row, Claim, IsPreserved}
 use Rattle.proof_routing.proofs.of_proof_transitions.Both.{both-kept}
 use Rattle.proof_routing.proofs.of_proof_transitions.RowsCome.{page_came, page_came_shared, acknowledged, all_acknowledged}
 use Rattle.proof_routing.proofs.of_proof_transitions.Members.{without_itself}
@@ -33,18 +33,18 @@ use Rattle.proof_routing.proofs.Old.{installs_letters, taken_letters}
 use Rattle.proof_routing.proofs.Owed.{IsOwed}
 use Rattle.proof_routing.proofs.OwedKept.{was_in}
 use Rattle.proof_routing.proofs.Remaining.{IsOnly, IsNothing, Remain, served_remain, begun_remain, freed_remain, installed_remain, taken_remain}
-use Rattle.proof_progress.proofs.Shares.{HasShare, has, IsOccupied, IsCovered, IsShareOf, part_covered, share_stays, step_covered, stays_here}
+use Rattle.proof_progress.proofs.Shares.{HasShare, has, IsOccupied, HasAccurateCopySets, IsShareOf, part_covered, share_stays, step_covered, stays_here}
 use Rattle.proof_progress.proofs.Sharing.{unmoved_covered, still_reads, given_up_covered, asked_covered, put_covered, only_no_share}
 use Rattle.proof_progress.proofs.Giving.{sole_owner, empty_has, held_by, share_covered, give_covered}
 
-installed_covered : (n : Net) (x p : ℕ) (bytes : List ℕ) → IsCovered n
-    → IsCovered (installs n x p bytes)
+installed_covered : (n : Net) (x p : ℕ) (bytes : List ℕ) → HasAccurateCopySets n
+    → HasAccurateCopySets (installs n x p bytes)
 installed_covered n x p bytes =
     part_covered n (installs n x p bytes) (λ i q. refl) (installs_letters n x p bytes)
     (installed_remain n x p bytes)
 
 -- a copy comes
-module _ (c : Config) (n : Net) (k : IsCovered n) (bytes : List ℕ)
+module _ (c : Config) (n : Net) (k : HasAccurateCopySets n) (bytes : List ℕ)
     (r : Comes c n entry.AwaitRead (λ p. content.ReadRep p bytes)) where
   open r use {node as x, page as p, from, call, state as s, loose, is}
 
@@ -62,7 +62,7 @@ module _ (c : Config) (n : Net) (k : IsCovered n) (bytes : List ℕ)
       freed_remain n x p (entry.AwaitRead s) (entry.Idle copying) (map (letter_of x p) s.put_off) []
       is copy_letter loose refl
 
-  copy_covered : IsCovered copied_net
+  copy_covered : HasAccurateCopySets copied_net
   copy_covered =
       step_covered n copied_net x p (entry.AwaitRead s) (entry.Idle copying) (freed x p) IsNone
       copied (IsOnly copy_letter) copied_remain
@@ -98,12 +98,12 @@ module _ (c : Config) (n : Net) (k : IsCovered n) (bytes : List ℕ)
 module _ (c : Config) (n n' : Net) (x p : ℕ) (e z : Entry) (now : Place → Place)
     (New : Place → Letter → Type 0) (step : IsStep n n' x p e z now New) (Gone : Letter → Type 0)
     (remain : Remain n n' Gone) (own : is_owner z ≡ true) (read : readable z ≡ true)
-    (after : IsOrderly c n') (k : IsCovered n) where
+    (after : IsOrderly c n') (k : HasAccurateCopySets n) where
   owning_covered : ((l : Letter) → Gone l → page_of l.message.content ≡ p)
       → ((a : Place) (l : Letter) → New a l → page_of l.message.content ≡ p) → IsOccupied z
       → ((y : ℕ) → set.contains (copies_of z) y ≡ true → HasShare n x y p)
       → ((y : ℕ) (l : Letter) → set.contains (copies_of z) y ≡ true → Gone l
-      → IsShareOf l x y p → ⊥) → IsCovered n'
+      → IsShareOf l x y p → ⊥) → HasAccurateCopySets n'
   owning_covered about new_about occupied had none =
       step_covered n n' x p e z now New step Gone remain
       (record {
@@ -124,14 +124,14 @@ module _ (c : Config) (n n' : Net) (x p : ℕ) (e z : Entry) (now : Place → Pl
   -- there are no copies
   sole_covered : ((l : Letter) → Gone l → page_of l.message.content ≡ p)
       → ((a : Place) (l : Letter) → New a l → page_of l.message.content ≡ p) → IsOccupied z
-      → copies_of z ≡ set.empty → IsCovered n'
+      → copies_of z ≡ set.empty → HasAccurateCopySets n'
   sole_covered about new_about occupied none =
       owning_covered about new_about occupied
       (λ y held. absurd (empty_has (copies_of z) y none held))
       (λ y l held. absurd (empty_has (copies_of z) y none held))
 
 -- the page comes
-module _ (c : Config) (n : Net) (order : IsOrderly c n) (k : IsCovered n) (bits : ℕ)
+module _ (c : Config) (n : Net) (order : IsOrderly c n) (k : HasAccurateCopySets n) (bits : ℕ)
     (bytes : List ℕ) (r : Comes c n entry.AwaitWrite (λ p. content.WriteRep p bits bytes)) where
   open r use {node as x, page as p, from, call, state as s, loose, is}
 
@@ -139,7 +139,7 @@ module _ (c : Config) (n : Net) (order : IsOrderly c n) (k : IsCovered n) (bits 
   page_letter = letter from x x call (content.WriteRep p bits bytes)
 
   page_covered : nodes_with bits ≡ set.empty
-      → IsCovered (goes_on n x p (entry.Idle owning) (map (letter_of x p) s.waiting.put_off) [])
+      → HasAccurateCopySets (goes_on n x p (entry.Idle owning) (map (letter_of x p) s.waiting.put_off) [])
   page_covered none =
       sole_covered c n n' x p (entry.AwaitWrite s) (entry.Idle owning) (freed x p) IsNone
       (free_step n x p (entry.AwaitWrite s) (entry.Idle owning) s.waiting.put_off is refl refl)
@@ -157,7 +157,7 @@ module _ (c : Config) (n : Net) (order : IsOrderly c n) (k : IsCovered n) (bits 
   collecting = entry.AwaitAcks (record { left = nodes_with bits; waiting = s.waiting })
 
   shared_covered : s.waiting.call ≡ call → nodes_with bits ≢ set.empty
-      → IsCovered (goes_on n x p collecting [] (invalidations x p call (nodes_with bits)))
+      → HasAccurateCopySets (goes_on n x p collecting [] (invalidations x p call (nodes_with bits)))
   shared_covered same some =
       owning_covered c n (goes_on n x p collecting [] (invalidations x p call (nodes_with bits)))
       x p (entry.AwaitWrite s) collecting served (IsOrder n x p call (nodes_with bits))
@@ -174,7 +174,7 @@ module _ (c : Config) (n : Net) (order : IsOrderly c n) (k : IsCovered n) (bits 
       (λ y l held gone share. only_no_share page_letter l x y p tt gone share)
 
 -- an acknowledgement comes
-module _ (c : Config) (n : Net) (order : IsOrderly c n) (k : IsCovered n)
+module _ (c : Config) (n : Net) (order : IsOrderly c n) (k : HasAccurateCopySets n)
     (r : Comes c n entry.AwaitAcks content.InvalAck) where
   open r use {node as x, page as p, from, call, state as s, loose, is}
 
@@ -194,7 +194,7 @@ module _ (c : Config) (n : Net) (order : IsOrderly c n) (k : IsCovered n)
       (sym (ap (λ (v : Letter). v.source) (sym gone) ∙ h.0)) ∙ without_itself s.left from)
       held
 
-  ack_covered : set.remove s.left from ≢ set.empty → IsCovered (goes_on n x p one_less [] [])
+  ack_covered : set.remove s.left from ≢ set.empty → HasAccurateCopySets (goes_on n x p one_less [] [])
   ack_covered more =
       owning_covered c n (goes_on n x p one_less [] []) x p (entry.AwaitAcks s) one_less served
       IsNone (stay_step n x p (entry.AwaitAcks s) one_less is (λ j q h. h)) (IsOnly ack_letter)
@@ -205,7 +205,7 @@ module _ (c : Config) (n : Net) (order : IsOrderly c n) (k : IsCovered n)
       (was_in s.left from y held)) ack_of
 
   last_covered : set.remove s.left from ≡ set.empty
-      → IsCovered (goes_on n x p (entry.Idle owning) (map (letter_of x p) s.waiting.put_off) [])
+      → HasAccurateCopySets (goes_on n x p (entry.Idle owning) (map (letter_of x p) s.waiting.put_off) [])
   last_covered last =
       sole_covered c n n' x p (entry.AwaitAcks s) (entry.Idle owning) (freed x p) IsNone
       (free_step n x p (entry.AwaitAcks s) (entry.Idle owning) s.waiting.put_off is refl refl)
@@ -220,7 +220,7 @@ module _ (c : Config) (n : Net) (order : IsOrderly c n) (k : IsCovered n)
       n' = goes_on n x p (entry.Idle owning) (map (letter_of x p) s.waiting.put_off) []
 
 -- the owner begins to collect acknowledgements
-module _ (c : Config) (n : Net) (order : IsOrderly c n) (k : IsCovered n) (r : Begins c n)
+module _ (c : Config) (n : Net) (order : IsOrderly c n) (k : HasAccurateCopySets n) (r : Begins c n)
     (owner : r.state.owner ≡ true) (unwritten : writes r.state.access ≡ false) where
   open r use {node as x, page as p, call, word, state as s, loose, is}
 
@@ -228,7 +228,7 @@ module _ (c : Config) (n : Net) (order : IsOrderly c n) (k : IsCovered n) (r : B
   begun = entry.AwaitAcks (record { left = s.copies; waiting = waiting_from word call })
 
   orders_covered : IsOrderly c (goes_on n x p begun [] (invalidations x p call s.copies))
-      → IsCovered (goes_on n x p begun [] (invalidations x p call s.copies))
+      → HasAccurateCopySets (goes_on n x p begun [] (invalidations x p call s.copies))
   orders_covered after =
       owning_covered c n (goes_on n x p begun [] (invalidations x p call s.copies)) x p
       (entry.Idle s) begun served (IsOrder n x p call s.copies)
@@ -243,7 +243,7 @@ module _ (c : Config) (n : Net) (order : IsOrderly c n) (k : IsCovered n) (r : B
 module _ (c : Config) (config : IsConfig c) where
   covered_by : {n : Net} {f : ℕ → List ℕ} {notice : Notice} {n' : Net} {f' : ℕ → List ℕ}
       → Row c n f notice n' f' → IsOrderly c n → Descends n → IsOwed n → IsOrderly c n'
-      → IsCovered n → IsCovered n'
+      → HasAccurateCopySets n → HasAccurateCopySets n'
   covered_by (Row.carries r) order down owed after k = installed_covered _ r.node r.page _ k
   covered_by {n = n} (Row.takes r) order down owed after k =
       part_covered n _ (λ i q. refl) (taken_letters n r.source r.dest r.message r.first)
@@ -293,9 +293,9 @@ module _ (c : Config) (config : IsConfig c) where
 
 -- beside any claim under which nets are orderly, requests go down and whoever waits has its message
 pub covered-kept : {S : Type 0} (ops : Ops S) (c : Config) → IsConfig c → (Q : Claim S)
-    → IsKept ops c Q
+    → IsPreserved ops c Q
     → ((m : ℕ → S) (n : Net) (f : ℕ → List ℕ) → Q m n f → IsOrderly c n × Descends n × IsOwed n)
-    → IsKept ops c (λ m n f. Q m n f × IsCovered n)
+    → IsPreserved ops c (λ m n f. Q m n f × HasAccurateCopySets n)
 covered-kept ops c config Q kept known = both-kept kept (record {
   by = λ row of before after k.
       (let b = known _ _ _ before in
@@ -303,7 +303,7 @@ covered-kept ops c config Q kept known = both-kept kept (record {
 })
 
 -- in the first net nobody but the owners has anything
-pub first_covered : (n : Net) → IsFirst n → IsCovered n
+pub first_covered : (n : Net) → IsFirst n → HasAccurateCopySets n
 first_covered n first = record {
   members = λ p i y s a h held. absurd (empty_has s y (place_first n first p i s a h).2 held);
   occupied = λ i p. elim (first.entries i p) [

@@ -6,16 +6,16 @@ use Rattle.std.proofs.lemmas.List.{drop-append-le}
 use Rattle.ivy_wire.specs.Data.{Message, Parcel}
 use Rattle.ivy_moves.specs.ivy_link.Paired.{posted, extended}
 use Rattle.ivy_moves.specs.Cores.{Core}
-use Rattle.ivy_moves.specs.Ordered.{Ordered, Delivers, one_more}
+use Rattle.ivy_moves.specs.FifoWorld.{FifoWorld, Delivers, one_more}
 use Rattle.proof_consistency.proofs.of_proof_refinement.Led.{get_set}
 use Rattle.proof_consistency.proofs.of_proof_refinement.Filtered.{first_left}
 use Rattle.proof_consistency.proofs.of_proof_refinement.HeapWays.{IsWithin, within_taken}
 
 -- the messages under way from one node to another
-abbrev pub under_way : {C : Type 0} → Ordered C → ℕ → ℕ → List Message
+abbrev pub under_way : {C : Type 0} → FifoWorld C → ℕ → ℕ → List Message
 under_way o i j = drop (o.delivered i j) (o.posted i j)
 
-module _ {C : Type 0} (rules : Core C) (o o' : Ordered C) (source x : ℕ)
+module _ {C : Type 0} (rules : Core C) (o o' : FifoWorld C) (source x : ℕ)
     (t : Delivers rules o source x o') where
   -- those before it, but for the one that is delivered
   abbrev pub others_under_way : ℕ → ℕ → List Message

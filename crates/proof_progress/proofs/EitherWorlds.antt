@@ -17,7 +17,7 @@ use Rattle.proof_consistency.specs.ivy_host.Managers.{Managed, Fixed, Dynamic, f
 use Rattle.proof_consistency.specs.ivy_host.ManagedLaws.{managed_laws}
 use Rattle.proof_consistency.specs.ivy_host.Openings.{opening}
 use Rattle.proof_routing.specs.proof_transitions.Letters.{Net}
-use Rattle.proof_routing.specs.proof_transitions.Rows.{IsKept}
+use Rattle.proof_routing.specs.proof_transitions.Rows.{IsPreserved}
 use Rattle.proof_routing.proofs.of_proof_transitions.Opening.{IsFirst}
 use Rattle.proof_routing.specs.Managing.{IsManaged}
 use Rattle.proof_routing.specs.Hinting.{IsHinted}
@@ -54,7 +54,7 @@ RoutedBy kind.Dynamic c m n = (s : ℕ → Hints) × AreWithin Dynamic c s m × 
 
 module _ (c : Config) (limits : IsConfig c) where
   -- each row keeps it so
-  pub either-kept : (k : Kind) → IsKept managed_ops c (IsQuiet (RoutedBy k c) c)
+  pub either-kept : (k : Kind) → IsPreserved managed_ops c (IsQuiet (RoutedBy k c) c)
   either-kept kind.Fixed =
       embedded-kept Fixed fixed_within c (IsQuiet (IsManaged c) c)
       (IsQuiet (RoutedBy kind.Fixed c) c)

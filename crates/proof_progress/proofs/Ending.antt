@@ -10,7 +10,7 @@ use Rattle.ivy_wire.specs.Data.{Content, Message}
 use Rattle.ivy_pagetable.specs.declared.PutOff.{PutOff}
 use Rattle.ivy_pagetable.specs.Entries.{put_offs}
 use Rattle.ivy_program.specs.Programs.{Program}
-use Rattle.ivy_moves.specs.Ordered.{Ordered, Steps, delivers}
+use Rattle.ivy_moves.specs.FifoWorld.{FifoWorld, Steps, delivers}
 use Rattle.proof_consistency.specs.ivy_host.Hosts.{Host, host_rules}
 use Rattle.proof_consistency.specs.ivy_host.Managers.{Managed, managed_ops}
 use Rattle.proof_routing.specs.proof_transitions.Letters.{content_of}
@@ -46,7 +46,7 @@ hops_within : (most i : ℕ) (asked : Option ℕ) → hops_to (λ p j. most) i a
 hops_within most i (Some page) = omega arith
 hops_within most i None = omega arith
 
-module _ (c : Config) (o : Ordered (Host Managed)) where
+module _ (c : Config) (o : FifoWorld (Host Managed)) where
   -- one message
   one_way : (lost i : ℕ) (b : Content) → far_way c o i b ≤ (c.nodes + 1) * heavy_of lost b
   one_way lost i b =
@@ -105,7 +105,7 @@ rounds_most k (suc a) some =
 
 module _ (c : Config) (limits : IsConfig c) (programs : List Program)
     (many : length programs ≡ c.nodes) where
-  ending : (after : List (Ordered (Host Managed))) (o : Ordered (Host Managed))
+  ending : (after : List (FifoWorld (Host Managed))) (o : FifoWorld (Host Managed))
       → IsReachedInOrder managed_ops c programs o → AreDeliveries managed_ops o after
       → length after ≤ rounds (c.nodes + 1) (work c o 0) + way c o
   ending [] o reached are = omega arith

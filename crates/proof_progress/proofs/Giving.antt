@@ -22,7 +22,7 @@ use Rattle.proof_routing.proofs.of_proof_transitions.Places.{served}
 use Rattle.proof_routing.proofs.of_proof_transitions.Sole.{owned_here, no_other_owner, no_page_comes, no_acks}
 use Rattle.proof_routing.proofs.OwedKept.{was_in}
 use Rattle.proof_routing.proofs.Remaining.{IsOnly, IsCounted, letter_there}
-use Rattle.proof_progress.proofs.Shares.{HasShare, has, gave, IsCovered, share_stays}
+use Rattle.proof_progress.proofs.Shares.{HasShare, has, gave, HasAccurateCopySets, share_stays}
 use Rattle.proof_progress.proofs.Sharing.{answer, others_remain, answer_covered, only_no_share}
 
 -- in an orderly net the node that owns a page is the only one
@@ -43,13 +43,13 @@ empty_has s y none held =
     both_ways (set.contains s y) (ap (λ t. set.contains t y) none ∙ contains-empty nat_cmp y) held
 
 -- whom an owner counts has a share
-module _ (n : Net) (k : IsCovered n) (x p : ℕ) (e : Entry) (is : n.entry x p ≡ e) where
+module _ (n : Net) (k : HasAccurateCopySets n) (x p : ℕ) (e : Entry) (is : n.entry x p ≡ e) where
   pub held_by : is_owner e ≡ true → (y : ℕ) → set.contains (copies_of e) y ≡ true → HasShare n x y p
   held_by own y held =
       k.members p x y (copies_of e) (At x) (refl, ap is_owner is ∙ own, sym (ap copies_of is)) held
 
 -- an owner gives a copy
-module _ (c : Config) (n : Net) (order : IsOrderly c n) (counted : IsCounted n) (k : IsCovered n)
+module _ (c : Config) (n : Net) (order : IsOrderly c n) (counted : IsCounted n) (k : HasAccurateCopySets n)
     (r : Served c n entry.Idle content.ReadReq) (owner : r.state.owner ≡ true) where
   open r use {node as x, page as p, from, origin as o, call, state as s, rest, loose, foreign, is}
 
@@ -94,7 +94,7 @@ module _ (c : Config) (n : Net) (order : IsOrderly c n) (counted : IsCounted n) 
             )
       ]
 
-  pub share_covered : IsOrderly c shared_net → IsCovered shared_net
+  pub share_covered : IsOrderly c shared_net → HasAccurateCopySets shared_net
   share_covered after =
       answer_covered c n k r shared o (content.ReadRep p (n.page x p)) (λ j q g. g) (λ j q g. g)
       refl refl
@@ -102,7 +102,7 @@ module _ (c : Config) (n : Net) (order : IsOrderly c n) (counted : IsCounted n) 
       (share_here after)
 
 -- an owner gives the page
-module _ (c : Config) (config : IsConfig c) (n : Net) (order : IsOrderly c n) (k : IsCovered n)
+module _ (c : Config) (config : IsConfig c) (n : Net) (order : IsOrderly c n) (k : HasAccurateCopySets n)
     (r : Served c n entry.Idle content.WriteReq) (owner : r.state.owner ≡ true)
     (low : IsBelow c.nodes r.state.copies) where
   open r use {node as x, page as p, from, origin as o, call, state as s, rest, loose, foreign, is}
@@ -175,7 +175,7 @@ module _ (c : Config) (config : IsConfig c) (n : Net) (order : IsOrderly c n) (k
           (no_acks c n order x p (λ j node g. subst (λ v. Collects v j node) is g)
           (no_other_owner c n order x p own) ack.at ack.letter ack.there ack.says)
 
-  pub give_covered : IsCovered given_net
+  pub give_covered : HasAccurateCopySets given_net
   give_covered =
       answer_covered c n k r (entry.Idle without) o given (λ j q g. g) (λ j q g. g) refl refl
       (λ owns. absurd (let f : false ≡ true = owns in cc)) give_here

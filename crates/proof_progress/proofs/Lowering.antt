@@ -20,7 +20,7 @@ use Rattle.proof_routing.specs.ivy_coherence.Coherent.{Coherent}
 use Rattle.proof_routing.specs.ivy_coherence.Steps.{CoherenceEffect}
 use Rattle.ivy_program.specs.Programs.{Program}
 use Rattle.ivy_moves.specs.Cores.{Outcome}
-use Rattle.ivy_moves.specs.Ordered.{Ordered, Delivers}
+use Rattle.ivy_moves.specs.FifoWorld.{FifoWorld, Delivers}
 use Rattle.proof_consistency.specs.ivy_heap.declared.HeapCall.{HeapCall}
 use Rattle.proof_consistency.specs.ivy_heap.declared.HeapCall.TheVariants as heap_call
 use Rattle.proof_consistency.specs.ivy_heap.HeapCalls.{told_of, request, answer_to}
@@ -102,7 +102,7 @@ answer_less lost (heap_call.Free addr) reply.Done = omega arith
 answer_less lost (heap_call.Free addr) (reply.Refused code) = omega arith
 
 -- of an ordered world
-module _ (c : Config) (o : Ordered (Host Managed)) where
+module _ (c : Config) (o : FifoWorld (Host Managed)) where
   abbrev pub entries : ℕ → ℕ → Entry
   entries i p = (net_of o).entry i p
 
@@ -132,7 +132,7 @@ module _ (c : Config) (o : Ordered (Host Managed)) where
   way = load c.nodes c.pages far_way far (under_way o) entries
 
 -- where entries, next hops and the messages under way are the same, both are
-module _ (c : Config) (o u : Ordered (Host Managed)) (entry : entries c u ≡ entries c o)
+module _ (c : Config) (o u : FifoWorld (Host Managed)) (entry : entries c u ≡ entries c o)
     (hop : hop_at c u ≡ hop_at c o) (under : under_way u ≡ under_way o) where
   pub same_work : (lost : ℕ) → work c u lost ≡ work c o lost
   same_work lost =
@@ -147,11 +147,11 @@ module _ (c : Config) (o u : Ordered (Host Managed)) (entry : entries c u ≡ en
       (under k) (entry k)
 
 -- a delivery lowers the one, or leaves it and lowers the other
-abbrev pub Lowers : ℕ → Config → Ordered (Host Managed) → Ordered (Host Managed) → Type 0
+abbrev pub Lowers : ℕ → Config → FifoWorld (Host Managed) → FifoWorld (Host Managed) → Type 0
 Lowers lost c o o' = (work c o' lost < work c o lost) ⊎ ((work c o' lost ≤ work c o lost) × (way c o' < way c o))
 
 module _ (lost : ℕ) (c : Config) (limits : IsConfig c) (programs : List Program)
-    (many : length programs ≡ c.nodes) (o o' : Ordered (Host Managed))
+    (many : length programs ≡ c.nodes) (o o' : FifoWorld (Host Managed))
     (reached : IsReachedInOrder managed_ops c programs o) (source x : ℕ)
     (t : Delivers (host_rules managed_ops) o source x o') where
   told : IsToldBy managed_ops c o

@@ -13,10 +13,10 @@ use Rattle.ivy_pagetable.specs.declared.Word.TheVariants as word
 use Rattle.ivy_pagetable.specs.Words.{carried_out}
 use Rattle.ivy_pagetable.specs.Manager.{Ops, Laws}
 use Rattle.proof_routing.specs.ivy_coherence.Coherent.{Coherent}
-use Rattle.proof_routing.specs.ivy_coherence.Faults.{Begun}
+use Rattle.proof_routing.specs.ivy_coherence.PageFaults.{Begun}
 use Rattle.proof_routing.specs.ivy_coherence.Several.{first_out}
 use Rattle.ivy_moves.specs.Cores.{Outcome}
-use Rattle.ivy_moves.specs.Ordered.{Ordered, Steps}
+use Rattle.ivy_moves.specs.FifoWorld.{FifoWorld, Steps}
 use Rattle.proof_consistency.specs.ivy_memory.declared.Asked.TheVariants as kinds
 use Rattle.proof_consistency.specs.ivy_memory.Asking.{asked_of}
 use Rattle.proof_consistency.specs.ivy_memory.Memories.{answered, needed, reply_of, reply_there, taken_with, taken_out}
@@ -32,7 +32,7 @@ use Rattle.proof_consistency.proofs.of_proof_refinement.LiftedHosts.{TurnTells, 
 use Rattle.proof_consistency.proofs.CopiedRows.{copied-kept}
 use Rattle.proof_consistency.proofs.Faithful.{IsFaithful, set-places}
 use Rattle.proof_consistency.proofs.Owing.{HaveReplies, IsRunning}
-use Rattle.proof_consistency.proofs.OwingEvents.{Copies}
+use Rattle.proof_consistency.proofs.CarriedWords.{Copies}
 use Rattle.proof_progress.proofs.Stopped.{IsUnanswered, unanswered}
 
 -- the word is no await
@@ -47,7 +47,7 @@ IsPursued c n = (called : Call) (page : ℕ) (w : Word) → n.memory.asked ≡ S
     → asked_of c called ≡ kinds.Word page w → IsPlain w → n.memory.coherence.locked ≡ None
     → reply_there n.memory.coherence.done ≡ None → ⊥
 
-abbrev pub AllPursued : {S : Type 0} → Config → Ordered (Host S) → Type 0
+abbrev pub AllPursued : {S : Type 0} → Config → FifoWorld (Host S) → Type 0
 AllPursued {S} c o = (i : ℕ) (n : Host S) → slice_get o.cores i ≡ Some n → IsPursued c n
 
 plain_replies : (w : Word) (bytes : List ℕ) → IsPlain w
@@ -181,7 +181,7 @@ module _ {S : Type 0} (ops : Ops S) (c : Config) where
       (ap reply_of (sym carries.1.gives) ∙ ap reply_there (sym done) ∙ none)
 
 module _ {S : Type 0} (ops : Ops S) (laws : Laws ops) (c : Config) (config : IsConfig c)
-    (o o' : Ordered (Host S)) (order : List Record) (f : IsFaithful ops c o order)
+    (o o' : FifoWorld (Host S)) (order : List Record) (f : IsFaithful ops c o order)
     (was : AllPursued c o) where
   heap_pursued : (source x : ℕ) (t : _) (core : Host S) → slice_get o.cores x ≡ Some core
       → HeapDelivery ops o source x core t → IsPursued c (serving ops core source t).after
@@ -194,7 +194,7 @@ module _ {S : Type 0} (ops : Ops S) (laws : Laws ops) (c : Config) (config : IsC
   tells_pursued : (flat : ℕ → List ℕ) → WorldTells ops (Copies {S = S} c) c f.pages o o' flat
       → AllPursued c o'
   tells_pursued flat (rested same tells) j n there =
-      was j n (ap (λ (w : Ordered (Host S)). slice_get w.cores j) (sym same) ∙ there)
+      was j n (ap (λ (w : FifoWorld (Host S)). slice_get w.cores j) (sym same) ∙ there)
   tells_pursued flat (turned x t turn tells) j n there =
       elim (set-places o.cores x j t.outcome.after n
       (ap (λ l. slice_get l j) (sym t.cores) ∙ there)) [

@@ -10,14 +10,14 @@ use Rattle.ivy_pagetable.specs.Tables.{entry_at, first_entry}
 use Rattle.ivy_pagetable.specs.Manager.{Ops, Laws}
 use Rattle.ivy_program.specs.Programs.{Program}
 use Rattle.ivy_moves.specs.declared.moves.Move.{Move}
-use Rattle.ivy_moves.specs.Ordered.{Ordered}
+use Rattle.ivy_moves.specs.FifoWorld.{FifoWorld}
 use Rattle.ivy_moves.specs.Worlds.{World, Leads}
-use Rattle.ivy_moves.specs.Following.{ordered_of}
+use Rattle.ivy_moves.specs.Following.{fifo_of}
 use Rattle.proof_consistency.specs.ivy_host.Hosts.{Host, host_rules, first_host}
 use Rattle.proof_consistency.specs.ivy_host.Holding.{HasNoBreach}
 use Rattle.proof_consistency.specs.ivy_host.Openings.{opening}
 use Rattle.proof_routing.specs.proof_transitions.Letters.{Net}
-use Rattle.proof_routing.specs.proof_transitions.Rows.{IsKept}
+use Rattle.proof_routing.specs.proof_transitions.Rows.{IsPreserved}
 use Rattle.proof_routing.proofs.Quiet.{IsQuiet}
 use Rattle.proof_consistency.proofs.of_proof_refinement.Led.{HasOrder, core_there, first_count, opening_first}
 use Rattle.proof_consistency.proofs.of_proof_refinement.LiftedWorlds.{entry_of, breaches_of, manager_of, net_of, managers_of}
@@ -32,11 +32,11 @@ BeginsSo ops c Routed =
     → ((i : ℕ) → i < c.nodes → m i ≡ ops.first c i) → Routed m n
 
 module _ {S : Type 0} {ops : Ops S} (laws : Laws ops) (c : Config) (limits : IsConfig c)
-    (Routed : (ℕ → S) → Net → Type 0) (kept : IsKept ops c (IsQuiet Routed c))
+    (Routed : (ℕ → S) → Net → Type 0) (kept : IsPreserved ops c (IsQuiet Routed c))
     (begins : BeginsSo ops c Routed) (spare : S) (programs : List Program)
     (many : length programs ≡ c.nodes) where
-  abbrev first : Ordered (Host S)
-  first = ordered_of (opening ops c programs) (λ i j. [])
+  abbrev first : FifoWorld (Host S)
+  first = fifo_of (opening ops c programs) (λ i j. [])
 
   -- a node of the world as it begins
   first_there : (i : ℕ) → i < c.nodes

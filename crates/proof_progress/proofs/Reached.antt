@@ -7,9 +7,9 @@ use Rattle.ivy_model.specs.declared.Record.{Record}
 use Rattle.ivy_model.specs.Config.{IsConfig}
 use Rattle.ivy_pagetable.specs.Manager.{Ops, Laws}
 use Rattle.ivy_program.specs.Programs.{Program}
-use Rattle.ivy_moves.specs.Ordered.{Ordered, Steps, rests, turns, delivers}
+use Rattle.ivy_moves.specs.FifoWorld.{FifoWorld, Steps, rests, turns, delivers}
 use Rattle.proof_consistency.specs.ivy_host.Hosts.{Host, host_rules}
-use Rattle.proof_consistency.specs.proof_refinement.Runs.{IsOrderedRun, IsReachedInOrder}
+use Rattle.proof_consistency.specs.proof_refinement.Runs.{IsFifoRun, IsReachedInOrder}
 use Rattle.proof_consistency.proofs.of_proof_refinement.Led.{opening_first}
 use Rattle.proof_consistency.proofs.Faithful.{IsFaithful, set-places}
 use Rattle.proof_consistency.proofs.FaithfulSteps.{GoesOn, faithful_next}
@@ -17,11 +17,11 @@ use Rattle.proof_consistency.proofs.FaithfulOpening.{opening_faithful}
 use Rattle.proof_progress.proofs.Asking.{IsServable, turn-served, serve-served}
 use Rattle.proof_progress.proofs.Pursued.{AllPursued, pursued_next}
 
-abbrev pub AllServable : {S : Type 0} → Config → Ordered (Host S) → Type 0
+abbrev pub AllServable : {S : Type 0} → Config → FifoWorld (Host S) → Type 0
 AllServable {S} c o = (i : ℕ) (n : Host S) → slice_get o.cores i ≡ Some n → IsServable c n
 
 -- an order explains the world, no call in progress is refused at once, and each is pursued
-pub record IsToldBy {S : Type 0} (ops : Ops S) (c : Config) (o : Ordered (Host S)) : Type 0 where
+pub record IsToldBy {S : Type 0} (ops : Ops S) (c : Config) (o : FifoWorld (Host S)) : Type 0 where
   pub order : List Record
   pub faithful : IsFaithful ops c o order
   pub servable : AllServable c o
@@ -29,10 +29,10 @@ pub record IsToldBy {S : Type 0} (ops : Ops S) (c : Config) (o : Ordered (Host S
 
 module _ {S : Type 0} (ops : Ops S) (laws : Laws ops) (c : Config) (config : IsConfig c)
     (programs : List Program) (many : length programs ≡ c.nodes) where
-  servable_next : (o o' : Ordered (Host S)) (order : List Record) → IsFaithful ops c o order
+  servable_next : (o o' : FifoWorld (Host S)) (order : List Record) → IsFaithful ops c o order
       → AllServable c o → Steps (host_rules ops) o o' → AllServable c o'
   servable_next o o' order f served (rests same) j n there =
-      served j n (ap (λ (w : Ordered (Host S)). slice_get w.cores j) (sym same) ∙ there)
+      served j n (ap (λ (w : FifoWorld (Host S)). slice_get w.cores j) (sym same) ∙ there)
   servable_next o o' order f served (turns i t) j n there =
       elim (set-places o.cores i j t.outcome.after n
       (ap (λ l. slice_get l j) (sym t.cores) ∙ there)) [
@@ -52,8 +52,8 @@ module _ {S : Type 0} (ops : Ops S) (laws : Laws ops) (c : Config) (config : IsC
         | inr other ↦ served j n other.1
       ]
 
-  run_told : (before : List (Ordered (Host S))) (o : Ordered (Host S))
-      → IsOrderedRun ops c programs before o → IsToldBy ops c o
+  run_told : (before : List (FifoWorld (Host S))) (o : FifoWorld (Host S))
+      → IsFifoRun ops c programs before o → IsToldBy ops c o
   run_told [] o is =
       subst (IsToldBy ops c) (sym is)
       (record {
@@ -79,6 +79,6 @@ module _ {S : Type 0} (ops : Ops S) (laws : Laws ops) (c : Config) (config : IsC
             pursued_next ops laws c config last o was.order was.faithful was.pursued run.1;
       }
 
-  pub reached_told : (o : Ordered (Host S)) → IsReachedInOrder ops c programs o
+  pub reached_told : (o : FifoWorld (Host S)) → IsReachedInOrder ops c programs o
       → IsToldBy ops c o
   reached_told o reached = run_told reached.0 o reached.1

@@ -5,14 +5,14 @@ use Rattle.ivy_model.specs.declared.Config.{Config}
 use Rattle.ivy_model.specs.Config.{IsConfig}
 use Rattle.ivy_pagetable.specs.Manager.{Ops, Laws}
 use Rattle.ivy_program.specs.Programs.{Program}
-use Rattle.ivy_moves.specs.Ordered.{Ordered}
+use Rattle.ivy_moves.specs.FifoWorld.{FifoWorld}
 use Rattle.proof_consistency.specs.ivy_host.Hosts.{Host}
 use Rattle.proof_routing.specs.proof_transitions.Letters.{Net}
 use Rattle.proof_routing.specs.proof_transitions.Orderly.{IsOrderly}
-use Rattle.proof_routing.specs.proof_transitions.Rows.{IsKept}
+use Rattle.proof_routing.specs.proof_transitions.Rows.{IsPreserved}
 use Rattle.proof_consistency.specs.proof_refinement.Nets.{net_of, managers_of}
 use Rattle.proof_consistency.specs.proof_refinement.Runs.{first_ordered, IsReachedInOrder}
-use Rattle.proof_consistency.proofs.of_proof_refinement.Errands.{have_errands}
+use Rattle.proof_consistency.proofs.of_proof_refinement.HeapRequests.{have_heap_requests}
 use Rattle.proof_consistency.proofs.of_proof_refinement.LiftedRuns.{Holds}
 use Rattle.proof_consistency.proofs.of_proof_refinement.Runs.{reached_holds, letters_below, hops_below}
 use Rattle.proof_consistency.proofs.of_proof_refinement.Worlds.{first_net}
@@ -27,7 +27,7 @@ use Rattle.proof_routing.proofs.Quiet.{IsQuiet}
 use Rattle.proof_progress.proofs.QuietWorlds.{BeginsSo, quiet_first}
 
 module _ {S : Type 0} {ops : Ops S} (laws : Laws ops) (c : Config) (limits : IsConfig c)
-    (Routed : (ℕ → S) → Net → Type 0) (kept : IsKept ops c (IsQuiet Routed c))
+    (Routed : (ℕ → S) → Net → Type 0) (kept : IsPreserved ops c (IsQuiet Routed c))
     (begins : BeginsSo ops c Routed)
     (descends : (m : ℕ → S) (n : Net) → IsOrderly c n → Routed m n → Descends n)
     (programs : List Program) (many : length programs ≡ c.nodes) where
@@ -37,10 +37,10 @@ module _ {S : Type 0} {ops : Ops S} (laws : Laws ops) (c : Config) (limits : IsC
   abbrev IsWaitedFor : (ℕ → S) → Net → (ℕ → List ℕ) → Type 0
   IsWaitedFor m n f = IsQuiet Routed c m n f × IsOwed n
 
-  first : Ordered (Host S)
+  first : FifoWorld (Host S)
   first = first_ordered ops c programs
 
-  reached : (o : Ordered (Host S)) → IsReachedInOrder ops c programs o
+  reached : (o : FifoWorld (Host S)) → IsReachedInOrder ops c programs o
       → Holds ops c IsWaitedFor spare o
   reached =
       reached_holds laws c limits
@@ -54,14 +54,14 @@ module _ {S : Type 0} {ops : Ops S} (laws : Laws ops) (c : Config) (limits : IsC
   pub runs_awaited : AllAwaited ops c programs
   runs_awaited o run =
       (let h = reached o run in
-      (h.1.1.0.0, awaited c (net_of o) h.1.1.0.0 h.1.1.1, h.0.errands, have_errands o h.0))
+      (h.1.1.0.0, awaited c (net_of o) h.1.1.0.0 h.1.1.1, h.0.heap_requests, have_heap_requests o h.0))
 
   -- what follows for each page from the managers' invariant, and from messages and next hops being
   -- at nodes
   pub runs_routed : (Says : (ℕ → S) → Net → ℕ → Type 0)
       → ((m : ℕ → S) (n : Net) (page : ℕ) → IsOrderly c n → Routed m n → page < c.pages
       → IsAwaited n → IsInside c n page (λ i. ops.next_hop (m i) page) → Says m n page)
-      → (o : Ordered (Host S)) → IsReachedInOrder ops c programs o → (page : ℕ) → page < c.pages
+      → (o : FifoWorld (Host S)) → IsReachedInOrder ops c programs o → (page : ℕ) → page < c.pages
       → Says (managers_of spare o) (net_of o) page
   runs_routed Says says o run page lt =
       let h = reached o run in

@@ -28,21 +28,21 @@ use Rattle.ivy_pagetable.specs.Tables.{entry_at, page_at}
 use Rattle.ivy_pagetable.specs.Words.{number_at}
 use Rattle.ivy_wire.specs.declared.Content.TheVariants as content
 use Rattle.ivy_wire.specs.Data.{Message}
-use Rattle.ivy_moves.specs.Ordered.{Ordered}
+use Rattle.ivy_moves.specs.FifoWorld.{FifoWorld}
 use Rattle.proof_consistency.specs.ivy_memory.declared.Asked.{Asked}
 use Rattle.proof_consistency.specs.ivy_memory.declared.Asked.TheVariants as kinds
-use Rattle.proof_consistency.specs.ivy_heap.declared.Errand.{Errand}
-use Rattle.proof_consistency.specs.ivy_heap.declared.Errand.TheVariants as errand
+use Rattle.proof_consistency.specs.ivy_heap.declared.HeapRequest.{HeapRequest}
+use Rattle.proof_consistency.specs.ivy_heap.declared.HeapRequest.TheVariants as heap_request
 use Rattle.proof_consistency.specs.ivy_heap.declared.HeapCall.{HeapCall}
 use Rattle.proof_consistency.specs.ivy_memory.Asking.{asked_of}
 use Rattle.proof_consistency.specs.ivy_heap.HeapCalls.{reply_told}
 use Rattle.proof_consistency.specs.ivy_memory.Memories.{in_progress, first_reply, reply_at, reply_there, taken_with, taken_out}
-use Rattle.proof_consistency.proofs.of_ivy_memory.Pages.{no_errand_of}
+use Rattle.proof_consistency.proofs.of_ivy_memory.Pages.{no_heap_request_of}
 use Rattle.proof_consistency.specs.ivy_host.Hosts.{Host, answered_by, number_of, recorded, turn_of}
 use Rattle.proof_consistency.specs.ivy_host.Sound.{IsSoundHost}
-use Rattle.proof_consistency.specs.proof_refinement.Errands.{about_heap, heap_way, IsErrandAt, resting, asking, answered, IsErrandFor, HaveErrands}
+use Rattle.proof_consistency.specs.proof_refinement.HeapRequests.{about_heap, heap_way, IsHeapRequestAt, resting, asking, answered, IsHeapRequestFor, HaveHeapRequests}
 use Rattle.proof_consistency.specs.proof_refinement.Nets.{about_pages, entry_of, page_of, net_of}
-use Rattle.proof_consistency.proofs.of_proof_refinement.Errands.{have_errands}
+use Rattle.proof_consistency.proofs.of_proof_refinement.HeapRequests.{have_heap_requests}
 use Rattle.proof_consistency.proofs.Faithful.{map-places}
 use Rattle.proof_consistency.proofs.Owing.{owed, reply_owed, along_owed, pending, told-owed, owed-unasked, owed-untold, untold-along, then-alone, none_pending, IsRunning}
 use Rattle.proof_consistency.proofs.OwedCalls.{pending-calls}
@@ -54,7 +54,7 @@ use Rattle.proof_progress.proofs.Stopped.{IsAwait, await_is, replied_turn, await
 use Rattle.proof_progress.proofs.Unlocked.{IsAtRest}
 
 -- where all messages were delivered
-module _ {S : Type 0} (o : Ordered (Host S)) (all : AreAllDelivered o) where
+module _ {S : Type 0} (o : FifoWorld (Host S)) (all : AreAllDelivered o) where
   -- no letter is under way
   pub at_rest : IsAtRest (net_of o)
   at_rest = record {
@@ -71,21 +71,21 @@ module _ {S : Type 0} (o : Ordered (Host S)) (all : AreAllDelivered o) where
   }
 
   -- nor a message of the heap
-  no_errand_way : (i j : ℕ) → heap_way o i j ≡ []
-  no_errand_way i j = ap about_heap (drop_all (o.delivered i j) (o.posted i j) (all i j))
+  no_heap_request_way : (i j : ℕ) → heap_way o i j ≡ []
+  no_heap_request_way i j = ap about_heap (drop_all (o.delivered i j) (o.posted i j) (all i j))
 
 nil_cons : {m : Message} → [] ≡ m ∷ [] → ⊥
 nil_cons h = cc
 
 -- where nothing is on the way, a call that node 0 was asked for has its reply
-told_reply : (i : ℕ) (k : HeapCall) (number : ℕ) (e : Option Errand) (ms ns : List Message)
-    → ms ≡ [] → ns ≡ [] → IsErrandFor k number e → IsErrandAt i e ms ns → reply_told e ≡ None → ⊥
+told_reply : (i : ℕ) (k : HeapCall) (number : ℕ) (e : Option HeapRequest) (ms ns : List Message)
+    → ms ≡ [] → ns ≡ [] → IsHeapRequestFor k number e → IsHeapRequestAt i e ms ns → reply_told e ≡ None → ⊥
 told_reply i k number None ms ns a b for at none = for
-told_reply i k number (Some (errand.Told r)) ms ns a b for at none = none-some r (sym none)
-told_reply i k number (Some (errand.Asked j n)) ms ns a b for (resting rest there back) none = rest
-told_reply i k number (Some (errand.Asked j n)) ms ns a b for (asking h g is there back) none =
+told_reply i k number (Some (heap_request.Told r)) ms ns a b for at none = none-some r (sym none)
+told_reply i k number (Some (heap_request.Asked j n)) ms ns a b for (resting rest there back) none = rest
+told_reply i k number (Some (heap_request.Asked j n)) ms ns a b for (asking h g is there back) none =
     nil_cons (sym a ∙ there)
-told_reply i k number (Some (errand.Asked j n)) ms ns a b for
+told_reply i k number (Some (heap_request.Asked j n)) ms ns a b for
     (answered h g body r is there back reply can) none =
     nil_cons (sym b ∙ back)
 
@@ -93,7 +93,7 @@ first_none : (a b : Option Reply) → first_reply a b ≡ None → (a ≡ None) 
 first_none None b h = (refl, h)
 first_none (Some r) b h = absurd (none-some r (sym h))
 
-module _ {S : Type 0} (ops : Ops S) (c : Config) (config : IsConfig c) (o : Ordered (Host S))
+module _ {S : Type 0} (ops : Ops S) (c : Config) (config : IsConfig c) (o : FifoWorld (Host S))
     (all : AreAllDelivered o) (told : IsToldBy ops c o)
     (unlocked : (x p : ℕ) → is_locked ((net_of o).entry x p) ≡ false) where
   open told use {order, faithful, servable, pursued}
@@ -135,10 +135,10 @@ module _ {S : Type 0} (ops : Ops S) (c : Config) (config : IsConfig c) (o : Orde
           ≡ record { node = number_of n; call = called; reply = r } ∷ along_owed n
       owed_first r is =
           ap (λ a. owed (number_of n) a
-          (reply_owed n.memory.side.errand (heap_way o 0 i) n.memory.coherence.done) ++ along_owed n)
+          (reply_owed n.memory.side.heap_request (heap_way o 0 i) n.memory.coherence.done) ++ along_owed n)
           asked
           ∙ ap (λ y. owed (number_of n) (Some called) y ++ along_owed n)
-          (told-owed n.memory.side.errand (heap_way o 0 i) n.memory.coherence.done r
+          (told-owed n.memory.side.heap_request (heap_way o 0 i) n.memory.coherence.done r
           (λ y e. (good.memory.apart y e).1) is)
 
       along_calls : (r : Reply) → reply_at n.memory ≡ Some r
@@ -169,10 +169,10 @@ module _ {S : Type 0} (ops : Ops S) (c : Config) (config : IsConfig c) (o : Orde
 
       -- It is not.
       module _ (none : reply_at n.memory ≡ None) where
-        untold : (reply_told n.memory.side.errand ≡ None)
+        untold : (reply_told n.memory.side.heap_request ≡ None)
             × (reply_there n.memory.coherence.done ≡ None)
         untold =
-            first_none (reply_told n.memory.side.errand) (reply_there n.memory.coherence.done) none
+            first_none (reply_told n.memory.side.heap_request) (reply_there n.memory.coherence.done) none
 
         -- so no call was made along with it
         alone : n.memory.along ≡ []
@@ -188,8 +188,8 @@ module _ {S : Type 0} (ops : Ops S) (c : Config) (config : IsConfig c) (o : Orde
         -- a call of the heap would have it
         no_heap : (k : HeapCall) → asked_of c called ≡ kinds.Heap k → ⊥
         no_heap k is =
-            let have : HaveErrands o = have_errands o sound in
-            let for : IsErrandFor k (length n.history + 1) n.memory.side.errand =
+            let have : HaveHeapRequests o = have_heap_requests o sound in
+            let for : IsHeapRequestFor k (length n.history + 1) n.memory.side.heap_request =
             have.each i n k there
             (record {
               call = called;
@@ -197,11 +197,11 @@ module _ {S : Type 0} (ops : Ops S) (c : Config) (config : IsConfig c) (o : Orde
               of = ap (λ d. asked_of d called) good.config ∙ is;
             }) in
             let away : i ≢ 0 =
-            λ home. subst (IsErrandFor k (length n.history + 1))
+            λ home. subst (IsHeapRequestFor k (length n.history + 1))
             (have.none n (ap (slice_get o.cores) (sym home) ∙ there)) for in
-            told_reply i k (length n.history + 1) n.memory.side.errand (heap_way o i 0)
-            (heap_way o 0 i) (no_errand_way o all i 0) (no_errand_way o all 0 i) for
-            (sound.errands.each i n away there) untold.0
+            told_reply i k (length n.history + 1) n.memory.side.heap_request (heap_way o i 0)
+            (heap_way o 0 i) (no_heap_request_way o all i 0) (no_heap_request_way o all 0 i) for
+            (sound.heap_requests.each i n away there) untold.0
 
         -- it is an await
         module _ (page offset least : ℕ)
@@ -220,18 +220,18 @@ module _ {S : Type 0} (ops : Ops S) (c : Config) (config : IsConfig c) (o : Orde
           -- no record is owed
           none_owed : pending n (heap_way o 0 i) ≡ []
           none_owed =
-              let errands : n.memory.side.errand ≡ None =
-              no_errand_of n.memory.coherence.config n.memory.asked n.memory.side.errand
+              let heap_requests : n.memory.side.heap_request ≡ None =
+              no_heap_request_of n.memory.coherence.config n.memory.asked n.memory.side.heap_request
               (λ k at h heap. absurd (
               let f : kinds.Word page (word.Await offset least) ≡ kinds.Heap h =
               sym of ∙ ap (λ d. asked_of d called) (sym good.config)
               ∙ ap (asked_of n.memory.coherence.config) (same_Some called k (sym asked ∙ at)) ∙ heap
               in cc
-              )) good.memory.side.errand in
+              )) good.memory.side.heap_request in
               none_pending _ (along_owed n)
               (owed-untold (number_of n) n.memory.asked
-              (reply_owed n.memory.side.errand (heap_way o 0 i) n.memory.coherence.done)
-              (ap (λ e. reply_owed e (heap_way o 0 i) n.memory.coherence.done) errands ∙ untold.1))
+              (reply_owed n.memory.side.heap_request (heap_way o 0 i) n.memory.coherence.done)
+              (ap (λ e. reply_owed e (heap_way o 0 i) n.memory.coherence.done) heap_requests ∙ untold.1))
               (untold-along c n running untold.1)
 
           -- a copy that the node may read has the count of the flat memory
@@ -335,7 +335,7 @@ module _ {S : Type 0} (ops : Ops S) (c : Config) (config : IsConfig c) (o : Orde
         (part_whole
         (none_pending _ (along_owed n)
         (owed-unasked (number_of n) n.memory.asked
-        (reply_owed n.memory.side.errand (heap_way o 0 i) n.memory.coherence.done) is)
+        (reply_owed n.memory.side.heap_request (heap_way o 0 i) n.memory.coherence.done) is)
         (then-alone (number_of n) n.memory.along n.memory.coherence.done
         n.memory.coherence.done_more (good.memory.alone is))))
 

@@ -30,7 +30,7 @@ IsOccupied (entry.AwaitRead s) = Unit {0}
 IsOccupied (entry.AwaitWrite s) = Unit {0}
 IsOccupied (entry.AwaitAcks s) = s.left ≢ set.empty
 
-pub record IsCovered (n : Net) : Type 0 where
+pub record HasAccurateCopySets (n : Net) : Type 0 where
   pub members : (p i y : ℕ) (s : Nodes) (a : OwnerPlace) → IsOwned n p i s a → set.contains s y ≡ true
       → HasShare n i y p
   pub occupied : (i p : ℕ) → IsOccupied (n.entry i p)
@@ -74,7 +74,7 @@ module _ (n n' : Net) (same : (i q : ℕ) → n'.entry i q ≡ n.entry i q)
   owned p i s (In a) h =
       let b = old a h.0 h.3 in (In b.0, (h.0, h.1, h.2, b.1, h.4, h.5, h.6))
 
-  pub part_covered : IsCovered n → IsCovered n'
+  pub part_covered : HasAccurateCopySets n → HasAccurateCopySets n'
   part_covered k = record {
     members = λ p i y s a h held.
         (let b = owned p i s a h in shared i y p (k.members p i y s b.0 b.1 held));
@@ -119,7 +119,7 @@ module _ (n n' : Net) (x p : ℕ) (e z : Entry) (now : Place → Place) (New : P
     pub here : (i y : ℕ) (s : Nodes) (a : OwnerPlace) → IsOwned n' p i s a → set.contains s y ≡ true
         → HasShare n' i y p
 
-  module _ (covering : IsCovering) (k : IsCovered n) where
+  module _ (covering : IsCovering) (k : HasAccurateCopySets n) where
     elsewhere : (q : ℕ) → q ≢ p → (i y : ℕ) (s : Nodes) (a : OwnerPlace) → IsOwned n' q i s a
         → set.contains s y ≡ true → HasShare n' i y q
     elsewhere q ne i y s a h held =
@@ -133,7 +133,7 @@ module _ (n n' : Net) (x p : ℕ) (e z : Entry) (now : Place → Place) (New : P
         (λ l gone share. absurd (ne (sym (share_page l i y q share) ∙ covering.about l gone)))
         (k.members q i y s was.0 was.1 held)
 
-    pub step_covered : IsCovered n'
+    pub step_covered : HasAccurateCopySets n'
     step_covered = record {
       members = λ q i y s a h held. elim (cases_eq q p) [
         | inl same ↦
@@ -151,7 +151,7 @@ module _ (n n' : Net) (x p : ℕ) (e z : Entry) (now : Place → Place) (New : P
     }
 
   -- where neither the owner of the page nor its copies change, but for what is told of them
-  pub stays_here : IsNoMove n n' x p e z now New step p → IsCovered n
+  pub stays_here : IsNoMove n n' x p e z now New step p → HasAccurateCopySets n
       → ((i y : ℕ) (s : Nodes) (b : OwnerPlace) → IsOwned n p i s b → set.contains s y ≡ true
       → HasShare n i y p → HasShare n' i y p)
       → (i y : ℕ) (s : Nodes) (a : OwnerPlace) → IsOwned n' p i s a → set.contains s y ≡ true

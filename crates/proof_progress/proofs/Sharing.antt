@@ -24,7 +24,7 @@ use Rattle.proof_routing.proofs.of_proof_transitions.Sole.{first_fits, owned_her
 use Rattle.proof_routing.proofs.of_proof_transitions.Steps.{IsStep}
 use Rattle.proof_routing.proofs.Old.{put_off_stays, put_off_step}
 use Rattle.proof_routing.proofs.Remaining.{IsThere, IsOnly, IsNothing, IsCounted, Remain, StaysPutOff, served_remain, begun_remain, letter_there}
-use Rattle.proof_progress.proofs.Shares.{HasShare, has, gave, IsOccupied, IsCovered, IsShareOf, share_stays, step_covered, stays_here}
+use Rattle.proof_progress.proofs.Shares.{HasShare, has, gave, IsOccupied, HasAccurateCopySets, IsShareOf, share_stays, step_covered, stays_here}
 
 -- it is no copy, and no acknowledgement that one was given up
 abbrev pub IsNoShare : Content → Type 0
@@ -68,7 +68,7 @@ order_owner c n order l rest p loose is i s b h =
     at.0
 
 -- a letter is served, and one is posted: neither the owner of the page nor its copies change
-module _ (c : Config) (n : Net) (k : IsCovered n) {T : Type 0} {at : T → Entry}
+module _ (c : Config) (n : Net) (k : HasAccurateCopySets n) {T : Type 0} {at : T → Entry}
     {ask : ℕ → Content} (r : Served c n at ask) (z : Entry) (dest : ℕ) (body : Content)
     (fewer : StaysPutOff z (at r.state)) (still : StaysPutOff (at r.state) z) where
   open r use {node as x, page as p, from, origin, call, state as s, rest, loose, is}
@@ -90,7 +90,7 @@ module _ (c : Config) (n : Net) (k : IsCovered n) {T : Type 0} {at : T → Entry
 
   pub answer_covered : page_of (ask p) ≡ p → page_of body ≡ p → IsOccupied z
       → ((i y : ℕ) (w : Nodes) (a : OwnerPlace) → IsOwned answered_net p i w a
-      → set.contains w y ≡ true → HasShare answered_net i y p) → IsCovered answered_net
+      → set.contains w y ≡ true → HasShare answered_net i y p) → HasAccurateCopySets answered_net
   answer_covered about new_about occupied here =
       step_covered n answered_net x p (at s) z served
       (IsThe (Underway x dest (length (n.posted x dest))) (letter x dest origin call body)) answer
@@ -106,7 +106,7 @@ module _ (c : Config) (n : Net) (k : IsCovered n) {T : Type 0} {at : T → Entry
       → (is_owner z ≡ true → (is_owner (at s) ≡ true) × (copies_of z ≡ copies_of (at s)))
       → IsNoShare (ask p)
       → ((i : ℕ) (w : Nodes) (b : OwnerPlace) → IsOwned n p i w b → readable (at s) ≡ true
-      → HasShare answered_net i x p) → IsCovered answered_net
+      → HasShare answered_net i x p) → HasAccurateCopySets answered_net
   unmoved_covered about new_about occupied page same none reader =
       answer_covered about new_about occupied
       (stays_here n answered_net x p (at s) z served
@@ -131,10 +131,10 @@ module _ (c : Config) (n : Net) (k : IsCovered n) {T : Type 0} {at : T → Entry
 
 -- the node gives its copy up, and says so
 pub given_up_covered : (c : Config) (n : Net) (order : IsOrderly c n) (counted : IsCounted n)
-    (k : IsCovered n) {T : Type 0} {at : T → Entry} (r : Served c n at content.Inval) (z : Entry)
+    (k : HasAccurateCopySets n) {T : Type 0} {at : T → Entry} (r : Served c n at content.Inval) (z : Entry)
     → StaysPutOff z (at r.state) → StaysPutOff (at r.state) z
     → IsOccupied z → is_owner z ≡ false
-    → IsCovered (goes_on n r.node r.page z r.rest
+    → HasAccurateCopySets (goes_on n r.node r.page z r.rest
     (parcel_to r.node r.origin r.origin r.call (content.InvalAck r.page) ∷ []))
 given_up_covered c n order counted k r z fewer still occupied plain =
     unmoved_covered c n k r z r.origin (content.InvalAck r.page) fewer still refl refl occupied
@@ -158,7 +158,7 @@ given_up_covered c n order counted k r z fewer still occupied plain =
     ))
 
 -- a word begins to wait, and asks
-module _ (c : Config) (n : Net) (k : IsCovered n) (r : Begins c n) (z : Entry) (dest : ℕ)
+module _ (c : Config) (n : Net) (k : HasAccurateCopySets n) (r : Begins c n) (z : Entry) (dest : ℕ)
     (body : Content) (none : put_offs z ≡ []) where
   open r use {node as x, page as p, call, state as s, loose, is}
 
@@ -177,7 +177,7 @@ module _ (c : Config) (n : Net) (k : IsCovered n) (r : Begins c n) (z : Entry) (
       (λ j q h. absurd (none-some q h))
 
   pub asked_covered : page_of body ≡ p → IsOccupied z → IsNoPage body p → is_owner z ≡ false
-      → (readable (entry.Idle s) ≡ true → readable z ≡ true) → IsCovered asking_net
+      → (readable (entry.Idle s) ≡ true → readable z ≡ true) → HasAccurateCopySets asking_net
   asked_covered new_about occupied page plain reader =
       step_covered n asking_net x p (entry.Idle s) z served
       (IsThe (Underway x dest (length (n.posted x dest))) (letter x dest x call body)) asks
@@ -222,7 +222,7 @@ put_occupied (entry.AwaitRead s) q h = tt
 put_occupied (entry.AwaitWrite s) q h = tt
 put_occupied (entry.AwaitAcks s) q h = h
 
-module _ (c : Config) (n : Net) (k : IsCovered n) (r : PutsOff c n) where
+module _ (c : Config) (n : Net) (k : HasAccurateCopySets n) (r : PutsOff c n) where
   open r use {node as x, page as p, from, later, before as e, rest, loose, is, room}
 
   abbrev put_net : Net
@@ -240,7 +240,7 @@ module _ (c : Config) (n : Net) (k : IsCovered n) (r : PutsOff c n) where
       served_remain n x p e (with_put_off e later) rest [] is put_letter loose
       (put_off_stays e later room)
 
-  pub put_covered : IsCovered put_net
+  pub put_covered : HasAccurateCopySets put_net
   put_covered =
       step_covered n put_net x p e (with_put_off e later) served
       (IsThe (Aside x p (length (put_offs e))) (letter_of x p later)) puts (IsOnly put_letter)

@@ -14,18 +14,18 @@ use Rattle.ivy_pagetable.specs.Entries.{is_locked}
 use Rattle.ivy_pagetable.specs.Manager.{Ops, Laws}
 use Rattle.ivy_program.specs.Programs.{Program}
 use Rattle.ivy_moves.specs.declared.moves.Move.{Move}
-use Rattle.ivy_moves.specs.Following.{links_of, ordered_of}
+use Rattle.ivy_moves.specs.Following.{links_of, fifo_of}
 use Rattle.ivy_moves.specs.Nodes.{Node}
-use Rattle.ivy_moves.specs.Ordered.{Ordered}
+use Rattle.ivy_moves.specs.FifoWorld.{FifoWorld}
 use Rattle.ivy_moves.specs.Worlds.{World, Leads}
-use Rattle.ivy_moves.proofs.Places.{link-of}
+use Rattle.ivy_moves.proofs.Places.{link_of}
 use Rattle.proof_consistency.specs.ivy_host.Hosts.{Host, host_rules, answered_by, turn_of}
 use Rattle.proof_consistency.specs.ivy_host.ManagedLaws.{managed_laws}
 use Rattle.proof_consistency.specs.ivy_host.Managers.{Managed, managed_ops}
 use Rattle.proof_consistency.specs.ivy_host.Openings.{opening}
 use Rattle.proof_routing.specs.proof_transitions.Letters.{Net}
 use Rattle.proof_routing.specs.proof_transitions.Orderly.{IsOrderly}
-use Rattle.proof_routing.specs.proof_transitions.Rows.{IsKept}
+use Rattle.proof_routing.specs.proof_transitions.Rows.{IsPreserved}
 use Rattle.proof_consistency.specs.proof_refinement.Nets.{net_of, managers_of}
 use Rattle.proof_consistency.specs.proof_refinement.Runs.{first_ordered, IsReachedInOrder, FollowsInOrder}
 use Rattle.proof_consistency.proofs.of_proof_refinement.LiftedRuns.{Holds}
@@ -48,11 +48,11 @@ use Rattle.proof_progress.specs.Unblocked.{AreUnblocked}
 use Rattle.proof_progress.proofs.Covered.{covered-kept, first_covered}
 use Rattle.proof_progress.proofs.Reached.{IsToldBy, reached_told}
 use Rattle.proof_progress.proofs.Settling.{at_rest, order_unblocked, unblocked_settled}
-use Rattle.proof_progress.proofs.Shares.{IsCovered}
+use Rattle.proof_progress.proofs.Shares.{HasAccurateCopySets}
 use Rattle.proof_progress.proofs.Unlocked.{none_locked}
 
 module _ {S : Type 0} {ops : Ops S} (laws : Laws ops) (c : Config) (limits : IsConfig c)
-    (Routed : (ℕ → S) → Net → Type 0) (kept : IsKept ops c (IsQuiet Routed c))
+    (Routed : (ℕ → S) → Net → Type 0) (kept : IsPreserved ops c (IsQuiet Routed c))
     (begins : BeginsSo ops c Routed)
     (descends : (m : ℕ → S) (n : Net) → IsOrderly c n → Routed m n → Descends n)
     (programs : List Program) (many : length programs ≡ c.nodes) where
@@ -62,11 +62,11 @@ module _ {S : Type 0} {ops : Ops S} (laws : Laws ops) (c : Config) (limits : IsC
   abbrev IsWaitedFor : (ℕ → S) → Net → (ℕ → List ℕ) → Type 0
   IsWaitedFor m n f = IsQuiet Routed c m n f × IsOwed n
 
-  first : Ordered (Host S)
+  first : FifoWorld (Host S)
   first = first_ordered ops c programs
 
-  covered_reached : (o : Ordered (Host S)) → IsReachedInOrder ops c programs o
-      → Holds ops c (λ m n f. IsWaitedFor m n f × IsCovered n) spare o
+  covered_reached : (o : FifoWorld (Host S)) → IsReachedInOrder ops c programs o
+      → Holds ops c (λ m n f. IsWaitedFor m n f × HasAccurateCopySets n) spare o
   covered_reached =
       reached_holds laws c limits
       (covered-kept ops c limits IsWaitedFor
@@ -82,7 +82,7 @@ module _ {S : Type 0} {ops : Ops S} (laws : Laws ops) (c : Config) (limits : IsC
       )
 
   -- where nothing is under way, no word waits
-  unlocked_reached : (o : Ordered (Host S)) → IsReachedInOrder ops c programs o
+  unlocked_reached : (o : FifoWorld (Host S)) → IsReachedInOrder ops c programs o
       → AreAllDelivered o → (x p : ℕ) → is_locked ((net_of o).entry x p) ≡ false
   unlocked_reached o reached all x p =
       let h = covered_reached o reached in
@@ -93,7 +93,7 @@ module _ {S : Type 0} {ops : Ops S} (laws : Laws ops) (c : Config) (limits : IsC
       none_locked c (net_of o) (at_rest o all) order h.1.1.1 (awaited c (net_of o) order owed) p
       (down p).0 (down p).1 x
 
-  pub unblocked_reached : (o : Ordered (Host S)) → IsReachedInOrder ops c programs o
+  pub unblocked_reached : (o : FifoWorld (Host S)) → IsReachedInOrder ops c programs o
       → AreAllDelivered o → AreUnblocked ops c o.cores
   unblocked_reached o reached all =
       order_unblocked ops c limits o all (reached_told ops laws c limits programs many o reached)
@@ -102,9 +102,9 @@ module _ {S : Type 0} {ops : Ops S} (laws : Laws ops) (c : Config) (limits : IsC
 -- a world in which nothing is under way follows an ordered one in which nothing is
 module _ {S : Type 0} (ops : Ops S) (c : Config) (programs : List Program)
     (w : World (Host S)) (follow : FollowsInOrder ops c programs w)
-    (sound : IsSoundWorld ops c (ordered_of w follow.posted)) (none : HasNothingUnderWay w) where
-  abbrev o : Ordered (Host S)
-  o = ordered_of w follow.posted
+    (sound : IsSoundWorld ops c (fifo_of w follow.posted)) (none : HasNothingUnderWay w) where
+  abbrev o : FifoWorld (Host S)
+  o = fifo_of w follow.posted
 
   node_there : (i : ℕ) → i < c.nodes → (n : Node (Host S)) × (slice_get w.nodes i ≡ Some n)
   node_there i below = elim (slice_get_cases w.nodes i).1 [
@@ -126,8 +126,8 @@ module _ {S : Type 0} (ops : Ops S) (c : Config) (programs : List Program)
       let counted : (peer_at (link_at (links_of w) i) j).sent ≡ length (follow.posted i j) =
       follow.follows.paired.counted i j (omega (arith, below, count))
       (omega (arith, within, count)) in
-      let at_i : link_at (links_of w) i ≡ n.0.link = link-of w.nodes i n.0 n.1 in
-      let at_j : link_at (links_of w) j ≡ d.0.link = link-of w.nodes j d.0 d.1 in
+      let at_i : link_at (links_of w) i ≡ n.0.link = link_of w.nodes i n.0 n.1 in
+      let at_j : link_at (links_of w) j ≡ d.0.link = link_of w.nodes j d.0 d.1 in
       let all : o.delivered i j ≡ length (follow.posted i j) =
       ap (λ l. (peer_at l i).delivered) at_j ∙ none i j n.0 d.0 sent.apart n.1 d.1
       ∙ ap (λ l. (peer_at l j).sent) (sym at_i) ∙ counted in
@@ -145,7 +145,7 @@ module _ {S : Type 0} (ops : Ops S) (c : Config) (programs : List Program)
 -- under the manager of the configuration
 module _ (c : Config) (programs : List Program) (limits : IsConfig c)
     (many : length programs ≡ c.nodes) where
-  pub either_unblocked : (o : Ordered (Host Managed)) → IsReachedInOrder managed_ops c programs o
+  pub either_unblocked : (o : FifoWorld (Host Managed)) → IsReachedInOrder managed_ops c programs o
       → AreAllDelivered o → AreUnblocked managed_ops c o.cores
   either_unblocked =
       unblocked_reached managed_laws c limits (RoutedBy c.manager c)
@@ -162,10 +162,10 @@ module _ (c : Config) (programs : List Program) (limits : IsConfig c)
     unblocked-led none =
         let follow : FollowsInOrder managed_ops c programs w =
         led_in_order managed_laws c limits programs many moves w led in
-        let told : IsToldBy managed_ops c (ordered_of w follow.posted) =
-        reached_told managed_ops managed_laws c limits programs many (ordered_of w follow.posted)
+        let told : IsToldBy managed_ops c (fifo_of w follow.posted) =
+        reached_told managed_ops managed_laws c limits programs many (fifo_of w follow.posted)
         follow.reached in
-        either_unblocked (ordered_of w follow.posted) follow.reached
+        either_unblocked (fifo_of w follow.posted) follow.reached
         (none_under_way managed_ops c programs w follow told.faithful.sound none)
 
     pub settled-led : IsStill managed_ops w

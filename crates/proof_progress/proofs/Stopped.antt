@@ -23,7 +23,7 @@ use Rattle.ivy_pagetable.specs.Manager.{Ops}
 use Rattle.ivy_pagetable.specs.Tables.{entry_at, page_at}
 use Rattle.ivy_pagetable.specs.Words.{number_at, awaited, offset_of, width_of, carried_out}
 use Rattle.ivy_pagetable.proofs.Words.{not_yet}
-use Rattle.proof_routing.specs.ivy_coherence.Faults.{Begun, hit, faulted, accessed, begun_at, begun}
+use Rattle.proof_routing.specs.ivy_coherence.PageFaults.{Begun, hit, faulted, accessed, begun_at, begun}
 use Rattle.proof_consistency.specs.ivy_memory.declared.Asked.TheVariants as kinds
 use Rattle.proof_consistency.specs.ivy_memory.Asking.{asked_of, word_unless, count_asked}
 use Rattle.proof_consistency.specs.ivy_memory.Beside.{nothing_beside}

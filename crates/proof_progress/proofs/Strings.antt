@@ -8,7 +8,7 @@ use Rattle.std.proofs.lemmas.Option.{none-some, same_Some, slice_get_within, get
 use Rattle.ivy_model.specs.declared.Config.{Config}
 use Rattle.ivy_model.specs.Config.{IsConfig}
 use Rattle.ivy_wire.specs.Data.{Frame, Message, Parcel}
-use Rattle.ivy_wire.specs.Faults.{checked}
+use Rattle.ivy_wire.specs.DecodeErrors.{checked}
 use Rattle.ivy_wire.specs.Reading.{frame_at}
 use Rattle.ivy_wire.specs.Spelling.{frame_kind, spelling}
 use Rattle.ivy_wire.proofs.Frames.{spelled_once}
@@ -23,17 +23,17 @@ use Rattle.ivy_pagetable.specs.Manager.{Ops}
 use Rattle.ivy_moves.specs.declared.Move.{Move}
 use Rattle.ivy_moves.specs.declared.Move.TheVariants.{Turn, Deliver, Pulse}
 use Rattle.ivy_moves.specs.Cores.{Core}
-use Rattle.ivy_moves.specs.Following.{links_of, ordered_of, Follows, FollowsStep, IsTame, IsString}
+use Rattle.ivy_moves.specs.Following.{links_of, fifo_of, Follows, FollowsStep, IsWellBehaved, IsString}
 use Rattle.ivy_moves.specs.Nodes.{Node, Effect, accepting, served_next, received_as, received, delivered, delivered_as, verdict_as, verdict_of}
-use Rattle.ivy_moves.specs.Ordered.{Ordered, Steps, rests, turns, delivers}
+use Rattle.ivy_moves.specs.FifoWorld.{FifoWorld, Steps, rests, turns, delivers}
 use Rattle.ivy_moves.specs.Worlds.{World, world_goes_on, remembering, is_named, delivery_of, made_by, moved, GoesOnWith, Moves, Leads}
 use Rattle.ivy_moves.proofs.Following.{follows, early-follows}
-use Rattle.ivy_moves.proofs.Places.{guarded, set-there, link-of}
+use Rattle.ivy_moves.proofs.Places.{guarded, set-there, link_of}
 use Rattle.proof_consistency.specs.ivy_host.Hosts.{Host, host_rules}
 use Rattle.proof_consistency.specs.ivy_host.ManagedLaws.{managed_laws}
 use Rattle.proof_consistency.specs.ivy_host.Managers.{managed_ops}
 use Rattle.proof_consistency.specs.ivy_host.Sound.{IsSoundHost}
-use Rattle.proof_consistency.proofs.of_ivy_host.Tame.{tame}
+use Rattle.proof_consistency.proofs.of_ivy_host.WellBehaved.{well_behaved}
 use Rattle.proof_progress.specs.Answering.{last_of}
 use Rattle.proof_progress.specs.Ending.{AreDeliveries, work_left, most_deliveries}
 use Rattle.proof_progress.specs.Strings.{one_if_next, next_at, next_in, next_along, IsNoTurn, StringsEnd}
@@ -71,8 +71,8 @@ module _ {S : Type 0} (ops : Ops S) where
   abbrev Sound : Config → ℕ → Host S → Type 0
   Sound c = IsSoundHost ops c
 
-  still_tame : (c : Config) → IsTame (host_rules ops) c (Sound c) → IsTame no_turns c (Sound c)
-  still_tame c t = record {
+  still_well_behaved : (c : Config) → IsWellBehaved (host_rules ops) c (Sound c) → IsWellBehaved no_turns c (Sound c)
+  still_well_behaved c t = record {
     turn = λ i core o sound none. absurd (none-some o none);
     serve = t.serve;
   }
@@ -166,7 +166,7 @@ module _ {S : Type 0} (ops : Ops S) where
         h.paired.peers to (omega (arith, some, links)) in
         let nodes = h.nodes in
         let source = string.2.source in
-        subst (λ (l : Linked). string.0.source < length l.peers) (link-of w.nodes to n there)
+        subst (λ (l : Linked). string.0.source < length l.peers) (link_of w.nodes to n there)
         (omega (arith, each, links, nodes, source))
 
     one_more : (e : Effect (Host S)) → delivered (host_rules ops) c n bytes ≡ Some e
@@ -181,7 +181,7 @@ module _ {S : Type 0} (ops : Ops S) where
     -- so the ordered world does not rest
     moves_on : (w' : World (Host S)) (posted' : ℕ → ℕ → List Message)
         → delivery_of (host_rules ops) c w to (Some n) (Some bytes) ≡ Some w'
-        → verdict_of c n bytes ≡ verdict.Next → ordered_of w' posted' ≡ ordered_of w posted → ⊥
+        → verdict_of c n bytes ≡ verdict.Next → fifo_of w' posted' ≡ fifo_of w posted → ⊥
     moves_on w' posted' made v same = went (delivered (host_rules ops) c n bytes) refl made
       where
         went : (r : Option (Effect (Host S))) → delivered (host_rules ops) c n bytes ≡ r
@@ -195,39 +195,39 @@ module _ {S : Type 0} (ops : Ops S) where
             let counts : (peer_at e.after.link string.0.source).delivered
             ≡ (peer_at n.link string.0.source).delivered =
             ap (λ (l : Linked). (peer_at l string.0.source).delivered)
-            (sym (link-of w'.nodes to e.after here))
-            ∙ ap (λ (o : Ordered (Host S)). o.delivered string.0.source to) same
+            (sym (link_of w'.nodes to e.after here))
+            ∙ ap (λ (o : FifoWorld (Host S)). o.delivered string.0.source to) same
             ∙ ap (λ (l : Linked). (peer_at l string.0.source).delivered)
-            (link-of w.nodes to n there) in
+            (link_of w.nodes to n there) in
             let more = one_more e is v in
             omega (arith, counts, more)
 
   -- Deliveries lead from an ordered world to one that the world follows.
-  record Came (c : Config) (o : Ordered (Host S)) (w : World (Host S)) : Type 0 where
+  record Came (c : Config) (o : FifoWorld (Host S)) (w : World (Host S)) : Type 0 where
     posted : ℕ → ℕ → List Message
     follows : Follows c (Sound c) w posted
-    after : List (Ordered (Host S))
+    after : List (FifoWorld (Host S))
     are : AreDeliveries ops o after
-    last : last_of o after ≡ ordered_of w posted
+    last : last_of o after ≡ fifo_of w posted
 
   stay : (c : Config) (w : World (Host S)) (posted : ℕ → ℕ → List Message)
-      → Follows c (Sound c) w posted → Came c (ordered_of w posted) w
+      → Follows c (Sound c) w posted → Came c (fifo_of w posted) w
   stay c w posted h =
       record { posted = posted; follows = h; after = []; are = tt; last = refl }
 
-  deliveries_on : (xs ys : List (Ordered (Host S))) (o : Ordered (Host S))
+  deliveries_on : (xs ys : List (FifoWorld (Host S))) (o : FifoWorld (Host S))
       → AreDeliveries ops o xs → AreDeliveries ops (last_of o xs) ys
       → AreDeliveries ops o (xs ++ ys)
   deliveries_on [] ys o a b = b
   deliveries_on (x ∷ xs) ys o a b = (a.0, deliveries_on xs ys x a.1 b)
 
-  last_on : (xs ys : List (Ordered (Host S))) (o : Ordered (Host S))
+  last_on : (xs ys : List (FifoWorld (Host S))) (o : FifoWorld (Host S))
       → last_of o (xs ++ ys) ≡ last_of (last_of o xs) ys
   last_on [] ys o = refl
   last_on (x ∷ xs) ys o = last_on xs ys x
 
-  abbrev chained : (c : Config) (o : Ordered (Host S)) (w w' : World (Host S)) (came : Came c o w)
-      → Came c (ordered_of w came.posted) w' → Came c o w'
+  abbrev chained : (c : Config) (o : FifoWorld (Host S)) (w w' : World (Host S)) (came : Came c o w)
+      → Came c (fifo_of w came.posted) w' → Came c o w'
   chained c o w w' came more = record {
     posted = more.posted;
     follows = more.follows;
@@ -240,8 +240,8 @@ module _ {S : Type 0} (ops : Ops S) where
   }
 
   -- a step of the ordered world that is no turn: one delivery, where it does not rest
-  step_came : (o o' : Ordered (Host S)) → Steps no_turns o o'
-      → (after : List (Ordered (Host S))) × AreDeliveries ops o after × (last_of o after ≡ o')
+  step_came : (o o' : FifoWorld (Host S)) → Steps no_turns o o'
+      → (after : List (FifoWorld (Host S))) × AreDeliveries ops o after × (last_of o after ≡ o')
       × ((o' ≡ o → ⊥) → 1 ≤ length after)
   step_came o o' (rests same) = ([], tt, sym same, λ moves. absurd (moves same))
   step_came o o' (turns i t) = absurd (none-some t.outcome t.turned)
@@ -267,13 +267,13 @@ module _ {S : Type 0} (ops : Ops S) where
     λ moves. omega arith,
   )
 
-  module _ (c : Config) (config : IsConfig c) (t : IsTame (host_rules ops) c (Sound c)) where
+  module _ (c : Config) (config : IsConfig c) (t : IsWellBehaved (host_rules ops) c (Sound c)) where
     by_step : (w w' : World (Host S)) (posted : ℕ → ℕ → List Message)
         → FollowsStep no_turns c (Sound c) w posted w'
-        → (came : Came c (ordered_of w posted) w')
-        × ((ordered_of w' came.posted ≡ ordered_of w posted → ⊥) → 1 ≤ length came.after)
+        → (came : Came c (fifo_of w posted) w')
+        × ((fifo_of w' came.posted ≡ fifo_of w posted → ⊥) → 1 ≤ length came.after)
     by_step w w' posted f =
-        let s = step_came (ordered_of w posted) (ordered_of w' f.0) f.2 in (
+        let s = step_came (fifo_of w posted) (fifo_of w' f.0) f.2 in (
           record { posted = f.0; follows = f.1; after = s.0; are = s.1; last = s.2 },
           s.3,
         )
@@ -281,15 +281,15 @@ module _ {S : Type 0} (ops : Ops S) where
     -- strings that the node goes on with
     goes_on : (more : List (List ℕ)) (w w' : World (Host S)) (posted : ℕ → ℕ → List Message)
         (i : ℕ) → Follows c (Sound c) w posted → GoesOnWith (host_rules ops) c w i more w'
-        → Came c (ordered_of w posted) w'
+        → Came c (fifo_of w posted) w'
     goes_on [] w w' posted i h done =
-        subst (Came c (ordered_of w posted)) (sym done) (stay c w posted h)
+        subst (Came c (fifo_of w posted)) (sym done) (stay c w posted h)
     goes_on (s ∷ more) w w' posted i h on =
         let f : FollowsStep no_turns c (Sound c) w posted on.1.0 =
-        early-follows no_turns c (Sound c) (still_tame c t) config w on.1.0 posted i s h on.0
+        early-follows no_turns c (Sound c) (still_well_behaved c t) config w on.1.0 posted i s h on.0
         (sym (delivery_alike c w i (slice_get w.nodes i) (Some s)) ∙ on.1.1) in
-        let first : Came c (ordered_of w posted) on.1.0 = (by_step w on.1.0 posted f).0 in
-        chained c (ordered_of w posted) on.1.0 w' first
+        let first : Came c (fifo_of w posted) on.1.0 = (by_step w on.1.0 posted f).0 in
+        chained c (fifo_of w posted) on.1.0 w' first
         (goes_on more on.1.0 w' first.posted i first.follows on.1.2)
 
     delivery_made : (w mid : World (Host S)) (index to : ℕ)
@@ -305,7 +305,7 @@ module _ {S : Type 0} (ops : Ops S) where
         → Follows c (Sound c) w posted → IsNoTurn move → moved (host_rules ops) c w move ≡ Some mid
         → FollowsStep no_turns c (Sound c) w posted mid
     step_of w mid posted move h quiet made =
-        follows no_turns c (Sound c) config (still_tame c t) w mid posted move h
+        follows no_turns c (Sound c) config (still_well_behaved c t) w mid posted move h
         (sym (moved_alike c w move quiet) ∙ made)
 
     verdict_most : (v : Verdict) (k : ℕ) → (v ≡ verdict.Next → 1 ≤ k) → one_if_next v ≤ k
@@ -317,7 +317,7 @@ module _ {S : Type 0} (ops : Ops S) where
     -- a string that is next is delivered in the ordered world
     next_most : (w mid : World (Host S)) (posted posted' : ℕ → ℕ → List Message) (index to k : ℕ)
         → Follows c (Sound c) w posted
-        → ((ordered_of mid posted' ≡ ordered_of w posted → ⊥) → 1 ≤ k)
+        → ((fifo_of mid posted' ≡ fifo_of w posted → ⊥) → 1 ≤ k)
         → (o : Option (Node (Host S))) → slice_get w.nodes to ≡ o
         → (s : Option (List ℕ)) → slice_get w.sent index ≡ s
         → delivery_of (host_rules ops) c w to o s ≡ Some mid → next_at c o s ≤ k
@@ -335,16 +335,16 @@ module _ {S : Type 0} (ops : Ops S) where
 
     move_came : (w w' : World (Host S)) (posted : ℕ → ℕ → List Message) (move : Move)
         → Follows c (Sound c) w posted → IsNoTurn move → Moves (host_rules ops) c w move w'
-        → (came : Came c (ordered_of w posted) w') × (next_in c w move ≤ length came.after)
+        → (came : Came c (fifo_of w posted) w') × (next_in c w move ≤ length came.after)
     move_came w w' posted (Turn i) h quiet m = absurd quiet
     move_came w w' posted (Pulse from to) h quiet m = (
-      subst (Came c (ordered_of w posted)) (sym m.goes_on.1)
+      subst (Came c (fifo_of w posted)) (sym m.goes_on.1)
           (by_step w m.mid posted (step_of w m.mid posted (Pulse from to) h quiet m.made)).0,
       omega arith,
     )
     move_came w w' posted (Deliver index to) h quiet m =
         let s = by_step w m.mid posted (step_of w m.mid posted (Deliver index to) h quiet m.made) in
-        let rest : Came c (ordered_of m.mid s.0.posted) w' =
+        let rest : Came c (fifo_of m.mid s.0.posted) w' =
         goes_on m.more m.mid w' s.0.posted to s.0.follows m.goes_on in
         let counted : next_in c w (Deliver index to) ≤ length s.0.after =
         next_most w m.mid posted s.0.posted index to (length s.0.after) h s.1
@@ -352,17 +352,17 @@ module _ {S : Type 0} (ops : Ops S) where
         (delivery_made w m.mid index to m.made) in
         let long : length (s.0.after ++ rest.after) ≡ length s.0.after + length rest.after =
         length-append s.0.after rest.after in (
-          chained c (ordered_of w posted) m.mid w' s.0 rest,
+          chained c (fifo_of w posted) m.mid w' s.0 rest,
           omega (arith, counted, long),
         )
 
     all_came : (moves : List Move) (w end : World (Host S)) (posted : ℕ → ℕ → List Message)
         → Follows c (Sound c) w posted → All IsNoTurn moves
         → (led : Leads (host_rules ops) c w moves end)
-        → (came : Came c (ordered_of w posted) end)
+        → (came : Came c (fifo_of w posted) end)
         × (next_along (host_rules ops) c w end moves led ≤ length came.after)
     all_came [] w end posted h quiet led =
-        (subst (Came c (ordered_of w posted)) (sym led) (stay c w posted h), omega arith)
+        (subst (Came c (fifo_of w posted)) (sym led) (stay c w posted h), omega arith)
     all_came (move ∷ moves) w end posted h quiet led =
         let first = move_came w led.0 posted move h (All-head IsNoTurn move moves quiet) led.1 in
         let rest =
@@ -373,18 +373,18 @@ module _ {S : Type 0} (ops : Ops S) where
         length-append first.0.after rest.0.after in
         let a = first.1 in
         let b = rest.1 in (
-          chained c (ordered_of w posted) led.0 end first.0 rest.0,
+          chained c (fifo_of w posted) led.0 end first.0 rest.0,
           omega (arith, a, b, long),
         )
 
 pub strings_end : StringsEnd managed_ops
 strings_end c programs limits many w follow moves quiet end led =
     let came =
-    all_came managed_ops c limits (tame managed_laws c) moves w end follow.posted follow.follows quiet
+    all_came managed_ops c limits (well_behaved managed_laws c) moves w end follow.posted follow.follows quiet
     led in
     let most : length came.0.after
-    ≤ most_deliveries c.nodes (work_left c (ordered_of w follow.posted)) =
-    deliveries_end c programs limits many (ordered_of w follow.posted) follow.reached came.0.after
+    ≤ most_deliveries c.nodes (work_left c (fifo_of w follow.posted)) =
+    deliveries_end c programs limits many (fifo_of w follow.posted) follow.reached came.0.after
     came.0.are in
     let counted = came.1 in
     omega (arith, counted, most)

@@ -25,7 +25,7 @@ use Rattle.proof_routing.specs.Descending.{IsAsked, GoDown}
 use Rattle.proof_routing.specs.Sending.{IsPosted, IsSent, HasPage, owns}
 use Rattle.proof_routing.specs.Sending as sending
 use Rattle.proof_routing.specs.Waiting.{IsAwaited, IsReadPending, asks_copy, gets_copy, IsWritePending, asks_page, gets_page, IsRecallPending, ordered, gave_up}
-use Rattle.proof_progress.proofs.Shares.{HasShare, has, gave, IsOccupied, IsCovered}
+use Rattle.proof_progress.proofs.Shares.{HasShare, has, gave, IsOccupied, HasAccurateCopySets}
 use Rattle.proof_progress.proofs.Sharing.{put_about}
 
 -- no letter is under way, nor is one loose
@@ -113,7 +113,7 @@ module _ (c : Config) (n : Net) (rest : IsAtRest n) (order : IsOrderly c n) wher
       ∙ wait_unread (n.entry f.0 f.1)
       (order.orders f.0 f.1 f.2 f.3 f.4 (put_kind f.3.kind f.1 p says))
 
-  module _ (k : IsCovered n) where
+  module _ (k : HasAccurateCopySets n) where
     -- nobody has a share in what is put off
     no_share_unread : (owner x p : ℕ) → readable (n.entry x p) ≡ false → HasShare n owner x p → ⊥
     no_share_unread owner x p unread (has (reads h)) = both_ways (readable (n.entry x p)) unread h

@@ -4,32 +4,32 @@ use Rattle.ivy_model.specs.declared.Config.{Config}
 use Rattle.ivy_model.specs.Config.{IsConfig}
 use Rattle.ivy_pagetable.specs.Manager.{Ops}
 use Rattle.ivy_program.specs.Programs.{Program}
-use Rattle.ivy_moves.specs.Ordered.{Ordered, Delivers}
+use Rattle.ivy_moves.specs.FifoWorld.{FifoWorld, Delivers}
 use Rattle.proof_consistency.specs.ivy_host.Hosts.{Host, host_rules}
 use Rattle.proof_consistency.specs.proof_refinement.Runs.{IsReachedInOrder}
 use Rattle.proof_progress.specs.Ending.{AreDeliveries}
 use Rattle.proof_progress.specs.Unblocked.{AreUnblocked}
 
 -- all messages that were ever posted were delivered
-abbrev pub AreAllDelivered : {S : Type 0} → Ordered (Host S) → Type 0
+abbrev pub AreAllDelivered : {S : Type 0} → FifoWorld (Host S) → Type 0
 AreAllDelivered o = (i j : ℕ) → length (o.posted i j) ≤ o.delivered i j
 
 -- the last of these worlds, and the one before them where there are none
-abbrev pub last_of : {S : Type 0} → Ordered (Host S) → List (Ordered (Host S)) → Ordered (Host S)
+abbrev pub last_of : {S : Type 0} → FifoWorld (Host S) → List (FifoWorld (Host S)) → FifoWorld (Host S)
 last_of o [] = o
 last_of o (next ∷ rest) = last_of next rest
 
 module _ {S : Type 0} (ops : Ops S) where
   -- a message can be delivered next
-  abbrev pub CanDeliver : Ordered (Host S) → Type 0
+  abbrev pub CanDeliver : FifoWorld (Host S) → Type 0
   CanDeliver o =
-      (source node : ℕ) × (next : Ordered (Host S)) × Delivers (host_rules ops) o source node next
+      (source node : ℕ) × (next : FifoWorld (Host S)) × Delivers (host_rules ops) o source node next
 
   -- The law: from each ordered world that programs reach, whatever was delivered, a message can be
   -- delivered next, or nothing is under way, and no node is blocked.
   abbrev pub DeliveriesAnswer : Type 0
   DeliveriesAnswer = (c : Config) (programs : List Program) → IsConfig c
-      → length programs ≡ c.nodes → (o : Ordered (Host S)) → IsReachedInOrder ops c programs o
-      → (after : List (Ordered (Host S))) → AreDeliveries ops o after
+      → length programs ≡ c.nodes → (o : FifoWorld (Host S)) → IsReachedInOrder ops c programs o
+      → (after : List (FifoWorld (Host S))) → AreDeliveries ops o after
       → CanDeliver (last_of o after)
       ⊎ (AreAllDelivered (last_of o after) × AreUnblocked ops c (last_of o after).cores)

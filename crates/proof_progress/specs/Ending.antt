@@ -9,7 +9,7 @@ use Rattle.ivy_wire.specs.Data.{Content}
 use Rattle.ivy_pagetable.specs.Entries.{put_offs}
 use Rattle.ivy_pagetable.specs.Manager.{Ops}
 use Rattle.ivy_program.specs.Programs.{Program}
-use Rattle.ivy_moves.specs.Ordered.{Ordered, Delivers}
+use Rattle.ivy_moves.specs.FifoWorld.{FifoWorld, Delivers}
 use Rattle.proof_consistency.specs.ivy_host.Hosts.{Host, host_rules}
 use Rattle.proof_routing.specs.proof_transitions.Letters.{content_of}
 use Rattle.proof_consistency.specs.proof_refinement.Nets.{net_of}
@@ -34,7 +34,7 @@ work_of (content.AllocRep code addr) = 1
 work_of (content.FreeReq addr) = 2
 work_of (content.FreeRep code) = 1
 
-module _ {S : Type 0} (c : Config) (o : Ordered (Host S)) where
+module _ {S : Type 0} (c : Config) (o : FifoWorld (Host S)) where
   -- the work that is left of the messages under way
   abbrev pub work_under_way : ℕ
   work_under_way =
@@ -58,7 +58,7 @@ most_deliveries nodes work = (nodes + 1) * work * (work + 1)
 
 module _ {S : Type 0} (ops : Ops S) where
   -- a delivery leads from the world to the first of these, one from that to the next, and so on
-  abbrev pub AreDeliveries : Ordered (Host S) → List (Ordered (Host S)) → Type 0
+  abbrev pub AreDeliveries : FifoWorld (Host S) → List (FifoWorld (Host S)) → Type 0
   AreDeliveries o [] = Unit {0}
   AreDeliveries o (next ∷ rest) =
       ((source node : ℕ) × Delivers (host_rules ops) o source node next) × AreDeliveries next rest
@@ -67,6 +67,6 @@ module _ {S : Type 0} (ops : Ops S) where
   -- in whatever order they come.
   abbrev pub DeliveriesEnd : Type 0
   DeliveriesEnd = (c : Config) (programs : List Program) → IsConfig c
-      → length programs ≡ c.nodes → (o : Ordered (Host S)) → IsReachedInOrder ops c programs o
-      → (after : List (Ordered (Host S))) → AreDeliveries o after
+      → length programs ≡ c.nodes → (o : FifoWorld (Host S)) → IsReachedInOrder ops c programs o
+      → (after : List (FifoWorld (Host S))) → AreDeliveries o after
       → length after ≤ most_deliveries c.nodes (work_left c o)

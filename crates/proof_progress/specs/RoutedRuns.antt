@@ -5,10 +5,10 @@ use Rattle.ivy_model.specs.declared.Config.{Config}
 use Rattle.ivy_model.specs.declared.Kind.TheVariants as kind
 use Rattle.ivy_pagetable.specs.Manager.{Ops}
 use Rattle.ivy_program.specs.Programs.{Program}
-use Rattle.ivy_moves.specs.Ordered.{Ordered}
+use Rattle.ivy_moves.specs.FifoWorld.{FifoWorld}
 use Rattle.proof_consistency.specs.ivy_host.Hosts.{Host}
 use Rattle.proof_routing.specs.proof_transitions.Orderly.{IsOrderly}
-use Rattle.proof_consistency.specs.proof_refinement.Errands.{AreErrands, HaveErrands}
+use Rattle.proof_consistency.specs.proof_refinement.HeapRequests.{AreHeapRequests, HaveHeapRequests}
 use Rattle.proof_consistency.specs.proof_refinement.Nets.{net_of, managers_of}
 use Rattle.proof_consistency.specs.proof_refinement.Runs.{IsReachedInOrder}
 use Rattle.proof_routing.specs.Waiting.{IsAwaited}
@@ -16,18 +16,18 @@ use Rattle.proof_routing.specs.Routing.{AreRoutes, AreManaged}
 
 module _ {S : Type 0} (ops : Ops S) (c : Config) (programs : List Program) where
   -- each node's next hop for a page
-  abbrev pub hops_of : Ordered (Host S) → ℕ → ℕ → ℕ
+  abbrev pub hops_of : FifoWorld (Host S) → ℕ → ℕ → ℕ
   hops_of o page node = ops.next_hop (managers_of (ops.first c 0) o node) page
 
   -- the entries and letters fit together, and whoever waits has its message: a word, and a call of
   -- the heap
   abbrev pub AllAwaited : Type 0
-  AllAwaited = (o : Ordered (Host S)) → IsReachedInOrder ops c programs o
-      → IsOrderly c (net_of o) × IsAwaited (net_of o) × AreErrands o × HaveErrands o
+  AllAwaited = (o : FifoWorld (Host S)) → IsReachedInOrder ops c programs o
+      → IsOrderly c (net_of o) × IsAwaited (net_of o) × AreHeapRequests o × HaveHeapRequests o
 
   -- the routes to each page, and besides where nodes manage pages
   abbrev pub AllRouted : Type 0
   AllRouted =
-      (o : Ordered (Host S)) → IsReachedInOrder ops c programs o → (page : ℕ) → page < c.pages
+      (o : FifoWorld (Host S)) → IsReachedInOrder ops c programs o → (page : ℕ) → page < c.pages
       → AreRoutes c (net_of o) page (hops_of o page)
       × (c.manager ≡ kind.Fixed → AreManaged c (net_of o) page (hops_of o page))

@@ -11,7 +11,7 @@ use Rattle.ivy_program.specs.Programs.{Program}
 use Rattle.ivy_moves.specs.declared.Move.{Move}
 use Rattle.ivy_moves.specs.declared.Move.TheVariants.{Turn, Deliver, Pulse}
 use Rattle.ivy_moves.specs.Cores.{Core}
-use Rattle.ivy_moves.specs.Following.{ordered_of}
+use Rattle.ivy_moves.specs.Following.{fifo_of}
 use Rattle.ivy_moves.specs.Nodes.{Node, verdict_of}
 use Rattle.ivy_moves.specs.Worlds.{World, Leads}
 use Rattle.proof_consistency.specs.ivy_host.Hosts.{Host, host_rules}
@@ -57,4 +57,4 @@ StringsEnd {S} ops = (c : Config) (programs : List Program) → IsConfig c
     → (moves : List Move) → All IsNoTurn moves → (end : World (Host S))
     → (led : Leads (host_rules ops) c w moves end)
     → next_along (host_rules ops) c w end moves led
-    ≤ most_deliveries c.nodes (work_left c (ordered_of w follow.posted))
+    ≤ most_deliveries c.nodes (work_left c (fifo_of w follow.posted))

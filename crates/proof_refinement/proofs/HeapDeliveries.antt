@@ -9,24 +9,24 @@ use Rattle.ivy_wire.specs.Data.{Message}
 use Rattle.ivy_wire.specs.Posts.{parcel_to}
 use Rattle.ivy_pagetable.specs.Manager.{Ops}
 use Rattle.ivy_host.specs.ivy_alloc.Heap.{HeapState}
-use Rattle.ivy_moves.specs.Ordered.{Ordered, Delivers}
+use Rattle.ivy_moves.specs.FifoWorld.{FifoWorld, Delivers}
 use Rattle.ivy_host.specs.ivy_heap.declared.HeapCall.{HeapCall}
-use Rattle.ivy_host.specs.ivy_heap.declared.Errand.TheVariants as errand
+use Rattle.ivy_host.specs.ivy_heap.declared.HeapRequest.TheVariants as heap_request
 use Rattle.ivy_host.specs.ivy_heap.HeapCalls.{told_of, kept, request, answer_to, reply_in}
-use Rattle.ivy_host.proofs.of_ivy_memory.Errands.{request_handled, answer_handled}
+use Rattle.ivy_host.proofs.of_ivy_memory.HeapRequests.{request_handled, answer_handled}
 use Rattle.ivy_host.proofs.of_ivy_memory.Pages.{is_of_pages}
 use Rattle.ivy_host.specs.Hosts.{Host, serving, host_rules}
 use Rattle.ivy_host.specs.Sound.{IsSoundHost}
 use Rattle.ivy_host.proofs.Pages.{serving_by}
-use Rattle.proof_refinement.specs.Errands.{heap_way, call_message, IsErrandAt, resting, asking, answered, AreErrands}
+use Rattle.proof_refinement.specs.HeapRequests.{heap_way, call_message, IsHeapRequestAt, resting, asking, answered, AreHeapRequests}
 use Rattle.proof_refinement.proofs.HeapWays.{IsWithin, way_taken}
 
 -- what a message of the heap does: node 0 serves the request, and its answer is the one under way
 -- from then on; or the node that asked learns the reply
-pub data HeapDelivery {S : Type 0} (ops : Ops S) (o : Ordered (Host S)) (source x : ℕ)
+pub data HeapDelivery {S : Type 0} (ops : Ops S) (o : FifoWorld (Host S)) (source x : ℕ)
     (core : Host S) (m : Message) : Type 0 where
   serves : x ≡ 0 → source ≢ 0 → (asker : Host S) → slice_get o.cores source ≡ Some asker
-      → (k : HeapCall) (number : ℕ) → asker.memory.side.errand ≡ Some (errand.Asked k number)
+      → (k : HeapCall) (number : ℕ) → asker.memory.side.heap_request ≡ Some (heap_request.Asked k number)
       → heap_way o source 0 ≡ m ∷ [] → heap_way o 0 source ≡ []
       → m ≡ call_message source number (request k) → (heap : HeapState)
       → core.memory.side.heap ≡ Some heap
@@ -36,13 +36,13 @@ pub data HeapDelivery {S : Type 0} (ops : Ops S) (o : Ordered (Host S)) (source 
         posted = parcel_to x source source number (answer_to k (told_of heap k).reply) ∷ [];
       } → HeapDelivery ops o source x core m
   learns : x ≢ 0 → source ≡ 0 → (k : HeapCall) (number : ℕ) (r : Reply)
-      → core.memory.side.errand ≡ Some (errand.Asked k number) → heap_way o 0 x ≡ m ∷ []
+      → core.memory.side.heap_request ≡ Some (heap_request.Asked k number) → heap_way o 0 x ≡ m ∷ []
       → reply_in k m.content ≡ Some r
       → serving ops core source m ≡ record {
         after = record core {
           memory =
               record core.memory
-              { side = record core.memory.side { errand = Some (errand.Told r) } };
+              { side = record core.memory.side { heap_request = Some (heap_request.Told r) } };
         };
         posted = [];
       } → HeapDelivery ops o source x core m
@@ -56,20 +56,20 @@ one_begins : (m n : Message) (rest l : List Message) → l ≡ m ∷ rest → l 
 one_begins m n rest l some one =
     same_Some m n (ap (λ (z : List Message). slice_get z 0) (sym some ∙ one))
 
-module _ {S : Type 0} (ops : Ops S) (c : Config) (o : Ordered (Host S)) (errands : AreErrands o)
+module _ {S : Type 0} (ops : Ops S) (c : Config) (o : FifoWorld (Host S)) (heap_requests : AreHeapRequests o)
     (source x : ℕ) (core : Host S) (there : slice_get o.cores x ≡ Some core)
     (good : IsSoundHost ops c x core)
     (below : source < length o.cores) (apart : source ≢ x) (m : Message) (rest : List Message)
     (first : heap_way o source x ≡ m ∷ rest) where
   -- at node 0
-  served-by : x ≡ 0 → (asker : Host S) → slice_get o.cores source ≡ Some asker
-      → (k : HeapCall) (number : ℕ) → asker.memory.side.errand ≡ Some (errand.Asked k number)
+  served_by : x ≡ 0 → (asker : Host S) → slice_get o.cores source ≡ Some asker
+      → (k : HeapCall) (number : ℕ) → asker.memory.side.heap_request ≡ Some (heap_request.Asked k number)
       → heap_way o source 0 ≡ call_message source number (request k) ∷ [] → heap_way o 0 source ≡ []
       → (heap : Option HeapState) → core.memory.side.heap ≡ heap
       → HeapDelivery ops o source x core m
-  served-by home asker at k number asks on_way none None is =
+  served_by home asker at k number asks on_way none None is =
       absurd (good.memory.side.away is (good.me ∙ home))
-  served-by home asker at k number asks on_way none (Some heap) is =
+  served_by home asker at k number asks on_way none (Some heap) is =
       let same : m ≡ call_message source number (request k) =
       one_begins m _ rest (heap_way o source 0)
       (subst (λ z. heap_way o source z ≡ m ∷ rest) home first) on_way in
@@ -84,21 +84,21 @@ module _ {S : Type 0} (ops : Ops S) (c : Config) (o : Ordered (Host S)) (errands
         posted = parcel_to i source source number (answer_to k (told_of heap k).reply) ∷ [];
       }) good.me)
 
-  served-at : x ≡ 0 → (asker : Host S) → slice_get o.cores source ≡ Some asker
-      → IsErrandAt source asker.memory.side.errand (heap_way o source 0) (heap_way o 0 source)
+  served_at : x ≡ 0 → (asker : Host S) → slice_get o.cores source ≡ Some asker
+      → IsHeapRequestAt source asker.memory.side.heap_request (heap_way o source 0) (heap_way o 0 source)
       → HeapDelivery ops o source x core m
-  served-at home asker at (resting rests none back) =
+  served_at home asker at (resting rests none back) =
       absurd (empty_begins m rest (heap_way o source 0)
       (subst (λ z. heap_way o source z ≡ m ∷ rest) home first) none)
-  served-at home asker at (asking k number asks on_way none) =
-      served-by home asker at k number asks on_way none core.memory.side.heap refl
-  served-at home asker at (answered k number body r asks none back tells can) =
+  served_at home asker at (asking k number asks on_way none) =
+      served_by home asker at k number asks on_way none core.memory.side.heap refl
+  served_at home asker at (answered k number body r asks none back tells can) =
       absurd (empty_begins m rest (heap_way o source 0)
       (subst (λ z. heap_way o source z ≡ m ∷ rest) home first) none)
 
   -- at the node that asked
   learned-at : x ≢ 0 → source ≡ 0
-      → IsErrandAt x core.memory.side.errand (heap_way o x 0) (heap_way o 0 x)
+      → IsHeapRequestAt x core.memory.side.heap_request (heap_way o x 0) (heap_way o 0 x)
       → HeapDelivery ops o source x core m
   learned-at away home (resting rests none back) =
       absurd (empty_begins m rest (heap_way o 0 x)
@@ -116,28 +116,28 @@ module _ {S : Type 0} (ops : Ops S) (c : Config) (o : Ordered (Host S)) (errands
       (ap (λ z. serving ops core z m) home
       ∙ serving_by ops core 0 m _
       (answer_handled ops core.memory m k r (ap (λ (z : Message). z.origin) same ∙ sym good.me)
-      (asks ∙ ap (λ (z : Message). Some (errand.Asked k z.call)) (sym same)) replies))
+      (asks ∙ ap (λ (z : Message). Some (heap_request.Asked k z.call)) (sym same)) replies))
 
   fits-rule : HeapDelivery ops o source x core m
   fits-rule = elim (cases_eq x 0) [
     | inl home ↦ elim (slice_get_cases o.cores source).1 [
       | inl at ↦
-          served-at home at.0 at.2 (errands.each source at.0 (λ e. apart (e ∙ sym home)) at.2)
+          served_at home at.0 at.2 (heap_requests.each source at.0 (λ e. apart (e ∙ sym home)) at.2)
       | inr past ↦ absurd (let beyond = past.0 in omega (arith, below, beyond))
     ]
     | inr away ↦ elim (cases_eq source 0) [
-      | inl home ↦ learned-at away home (errands.each x core away there)
+      | inl home ↦ learned-at away home (heap_requests.each x core away there)
       | inr other ↦
           absurd (empty_begins m rest (heap_way o source x) first
-          (errands.apart source x other away))
+          (heap_requests.apart source x other away))
     ]
   ]
 
-pub heap_delivery : {S : Type 0} (ops : Ops S) (c : Config) (o o' : Ordered (Host S)) → IsWithin o
-    → AreErrands o → (source x : ℕ) (t : Delivers (host_rules ops) o source x o')
+pub heap_delivery : {S : Type 0} (ops : Ops S) (c : Config) (o o' : FifoWorld (Host S)) → IsWithin o
+    → AreHeapRequests o → (source x : ℕ) (t : Delivers (host_rules ops) o source x o')
     → IsSoundHost ops c x t.core
     → source < length o.cores → source ≢ x → is_of_pages t.message.content ≡ false
     → HeapDelivery ops o source x t.core t.message
-heap_delivery ops c o o' within errands source x t good below apart heap =
+heap_delivery ops c o o' within heap_requests source x t good below apart heap =
     let way = way_taken (host_rules ops) o o' within source x t heap in
-    fits-rule ops c o errands source x t.core t.there good below apart t.message way.0 way.1
+    fits-rule ops c o heap_requests source x t.core t.there good below apart t.message way.0 way.1

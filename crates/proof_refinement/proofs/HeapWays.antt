@@ -11,13 +11,13 @@ use Rattle.ivy_wire.specs.Data.{Content, Message, Parcel}
 use Rattle.ivy_wire.specs.Posts.{parcel_to}
 use Rattle.ivy_moves.specs.ivy_link.Paired.{posted, extended}
 use Rattle.ivy_moves.specs.Cores.{Core}
-use Rattle.ivy_moves.specs.Ordered.{Ordered, Delivers, one_more}
+use Rattle.ivy_moves.specs.FifoWorld.{FifoWorld, Delivers, one_more}
 use Rattle.ivy_host.proofs.of_ivy_memory.Pages.{is_of_pages, IsOfPages}
-use Rattle.proof_refinement.specs.Errands.{about_heap, heap_way, call_message}
+use Rattle.proof_refinement.specs.HeapRequests.{about_heap, heap_way, call_message}
 use Rattle.proof_refinement.proofs.Filtered.{filter_none, first_left, posted-filter}
 
 -- no more was delivered than was posted
-abbrev pub IsWithin : {C : Type 0} → Ordered C → Type 0
+abbrev pub IsWithin : {C : Type 0} → FifoWorld C → Type 0
 IsWithin o = (i j : ℕ) → o.delivered i j ≤ length (o.posted i j)
 
 -- where a message goes
@@ -67,7 +67,7 @@ way_on sent more d within =
     ap about_heap (drop-append-le d sent more within)
     ∙ filter-append (λ m. not (is_of_pages m.content)) (drop d sent) more
 
-way_since : {C : Type 0} (o o' : Ordered C) (delivered : ℕ → ℕ → ℕ) (ps : List Parcel)
+way_since : {C : Type 0} (o o' : FifoWorld C) (delivered : ℕ → ℕ → ℕ) (ps : List Parcel)
     → o'.posted ≡ extended o.posted ps → o'.delivered ≡ delivered → (i j : ℕ)
     → delivered i j ≤ length (o.posted i j)
     → heap_way o' i j
@@ -78,12 +78,12 @@ way_since o o' delivered ps sent done i j within =
     ∙ way_on (o.posted i j) (posted i j ps) (delivered i j) within
 
 -- after a turn
-pub way_turned : {C : Type 0} (o o' : Ordered C) (ps : List Parcel) → IsWithin o
+pub way_turned : {C : Type 0} (o o' : FifoWorld C) (ps : List Parcel) → IsWithin o
     → o'.posted ≡ extended o.posted ps → o'.delivered ≡ o.delivered → (i j : ℕ)
     → heap_way o' i j ≡ heap_way o i j ++ about_heap (posted i j ps)
 way_turned o o' ps within sent done i j = way_since o o' o.delivered ps sent done i j (within i j)
 
-pub way_still : {C : Type 0} (o o' : Ordered C) (ps : List Parcel) → IsWithin o
+pub way_still : {C : Type 0} (o o' : FifoWorld C) (ps : List Parcel) → IsWithin o
     → o'.posted ≡ extended o.posted ps → o'.delivered ≡ o.delivered → All IsOfPages ps → (i j : ℕ)
     → heap_way o' i j ≡ heap_way o i j
 way_still o o' ps within sent done pages i j =
@@ -99,7 +99,7 @@ at_pair source x P i j h same =
     (subst (λ b. P source b) (sym (eqb-true j x both.1)) h)
 
 -- the first message under way from one node to another is taken
-module _ {C : Type 0} (o : Ordered C) (within : IsWithin o) (source x : ℕ) (m : Message)
+module _ {C : Type 0} (o : FifoWorld C) (within : IsWithin o) (source x : ℕ) (m : Message)
     (first : slice_get (o.posted source x) (o.delivered source x) ≡ Some m) where
   within-one : (i j : ℕ) (b : Bool) → (i == source && j == x) ≡ b
       → (if b then o.delivered i j + 1 else o.delivered i j) ≤ length (o.posted i j)
@@ -154,7 +154,7 @@ module _ {C : Type 0} (o : Ordered C) (within : IsWithin o) (source x : ℕ) (m 
   ]
 
 -- after a delivery: this is what the message is not the first of
-module _ {C : Type 0} (rules : Core C) (o o' : Ordered C) (within : IsWithin o) (source x : ℕ)
+module _ {C : Type 0} (rules : Core C) (o o' : FifoWorld C) (within : IsWithin o) (source x : ℕ)
     (t : Delivers rules o source x o') where
   abbrev answers : List Parcel
   answers = (rules.serve t.core source t.message).posted

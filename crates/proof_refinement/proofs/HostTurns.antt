@@ -13,7 +13,7 @@ use Rattle.ivy_pagetable.specs.Manager.{Ops}
 use Rattle.proof_transitions.specs.ivy_coherence.declared.Need.{Need}
 use Rattle.proof_transitions.specs.ivy_coherence.declared.Need.TheVariants as need
 use Rattle.proof_transitions.specs.ivy_coherence.Coherent.{Coherent}
-use Rattle.proof_transitions.specs.ivy_coherence.Faults.{Begun, along, begun}
+use Rattle.proof_transitions.specs.ivy_coherence.PageFaults.{Begun, along, begun}
 use Rattle.ivy_host.specs.ivy_alloc.Heap.{HeapState}
 use Rattle.ivy_program.specs.States.{State}
 use Rattle.ivy_program.specs.Steps.{Step, Local, Asks, Ends, step_of, at_state, along_of}
@@ -24,14 +24,14 @@ use Rattle.ivy_host.specs.ivy_heap.declared.Answer.TheVariants.{Given, Awaited, 
 use Rattle.ivy_host.specs.ivy_memory.declared.Asked.{Asked}
 use Rattle.ivy_host.specs.ivy_memory.declared.Asked.TheVariants as kinds
 use Rattle.ivy_host.specs.ivy_heap.declared.HeapCall.{HeapCall}
-use Rattle.ivy_host.specs.ivy_heap.declared.Errand.TheVariants as errand
+use Rattle.ivy_host.specs.ivy_heap.declared.HeapRequest.TheVariants as heap_request
 use Rattle.ivy_host.specs.ivy_memory.Asking.{asked_of, CanAsk}
 use Rattle.ivy_host.specs.ivy_heap.HeapCalls.{HeapBegun, told_of, kept, closed, request, number_in, heap_begun_at}
 use Rattle.ivy_host.specs.ivy_memory.Memories.{NodeMemory, CallBegun, answered, needed, again_unless, again, heap_answered, begun_as, call_begun, tried_as, polled_as, reply_of, reply_at, taken_with, taken_out}
 use Rattle.ivy_host.specs.ivy_memory.Memories.{without_call as without_asked}
 use Rattle.ivy_host.specs.ivy_memory.Beside.{Beside, nothing_beside, beside}
 use Rattle.ivy_host.proofs.of_ivy_memory.Asking.{can_ask}
-use Rattle.ivy_host.proofs.of_ivy_memory.Tame.{Begins, begun-begins, needed-posted}
+use Rattle.ivy_host.proofs.of_ivy_memory.WellBehaved.{Begins, begun-begins, needed-posted}
 use Rattle.ivy_host.proofs.of_ivy_memory.Polling.{polled_so}
 use Rattle.proof_refinement.proofs.LiftedEvents.{SameNet}
 use Rattle.ivy_host.specs.Hosts.{Host, recorded, quietly, begins_with, begins_as, begins, steps, turned_at, turn_of}
@@ -68,10 +68,10 @@ taken-net m [] = record { me = refl; manager = refl; table = refl; locked = refl
 taken-net m (k ∷ ks) = record { me = refl; manager = refl; table = refl; locked = refl; breaches = refl }
 
 -- no call of the heap is asked for, or told of, then
-pub taken-errand : {S : Type 0} (m : NodeMemory S) (calls : List Call)
+pub taken-heap_request : {S : Type 0} (m : NodeMemory S) (calls : List Call)
     → (taken_with m calls).side ≡ closed m.side
-taken-errand m [] = refl
-taken-errand m (k ∷ ks) = refl
+taken-heap_request m [] = refl
+taken-heap_request m (k ∷ ks) = refl
 
 -- The turns of a node: the reply of its call in progress is there; the word of that call is tried
 -- again; the program goes on by itself; its call is refused; it asks for a word; or it makes a call
@@ -116,7 +116,7 @@ pub data HostTurn {S : Type 0} (ops : Ops S) (c : Config) (h : Host S)
                 asked = Some called;
                 along = [];
                 number = number_of h;
-                side = record h.memory.side { errand = Some (errand.Asked k (number_of h)) };
+                side = record h.memory.side { heap_request = Some (heap_request.Asked k (number_of h)) };
               };
         };
         posted =
@@ -127,7 +127,7 @@ pub data HostTurn {S : Type 0} (ops : Ops S) (c : Config) (h : Host S)
 abbrev heap_sent : {S : Type 0} → NodeMemory S → HeapCall → ℕ → HeapBegun
 heap_sent m k number = record {
   answer = Awaited;
-  after = record m.side { errand = Some (errand.Asked k number) };
+  after = record m.side { heap_request = Some (heap_request.Asked k number) };
   posted = parcel_to m.coherence.me 0 m.coherence.me number (request k) ∷ [];
 }
 
@@ -266,9 +266,9 @@ module _ {S : Type 0} (ops : Ops S) (c : Config) (x : ℕ) (h : Host S) (good : 
   at-cases None asked is = steps-cases (step_of h.process) asked refl is
 
   -- each turn of a sound node is one of these
-  pub turn-cases : turn_of ops h ≡ Some out → HostTurn ops c h out
+  pub turn_cases : turn_of ops h ≡ Some out → HostTurn ops c h out
   unfolding turn_of
-  turn-cases is = at-cases h.memory.asked refl is
+  turn_cases is = at-cases h.memory.asked refl is
 
 module _ {S : Type 0} (ops : Ops S) (h : Host S) (called : Call) (more : Beside) (page : ℕ)
     (word : Word) where

@@ -10,9 +10,9 @@ use Rattle.ivy_pagetable.specs.Manager.{Ops}
 use Rattle.ivy_program.specs.Programs.{Program}
 use Rattle.ivy_moves.specs.declared.moves.Move.{Move}
 use Rattle.ivy_moves.specs.Nodes.{Node}
-use Rattle.ivy_moves.specs.Ordered.{Ordered, Steps}
+use Rattle.ivy_moves.specs.FifoWorld.{FifoWorld, Steps}
 use Rattle.ivy_moves.specs.Worlds.{World, Leads}
-use Rattle.ivy_moves.specs.Following.{IsTame, Follows, ordered_of}
+use Rattle.ivy_moves.specs.Following.{IsWellBehaved, Follows, fifo_of}
 use Rattle.ivy_moves.proofs.Kept.{moves-keep}
 use Rattle.ivy_host.specs.Hosts.{Host, host_rules, first_host}
 use Rattle.ivy_host.specs.Openings.{first_nodes, opening}
@@ -34,11 +34,11 @@ get_set (z ∷ xs) (suc i) x y (suc j) h =
     ]
 
 -- the soundness of all nodes
-abbrev pub AllSound : {S : Type 0} → Ops S → Config → Ordered (Host S) → Type 0
+abbrev pub AllSound : {S : Type 0} → Ops S → Config → FifoWorld (Host S) → Type 0
 AllSound ops c o = (i : ℕ) (n : Host _) → slice_get o.cores i ≡ Some n → IsSoundHost ops c i n
 
 -- a world as it begins: what holds of its nodes
-abbrev pub AreFirst : {S : Type 0} → Ops S → Config → Ordered (Host S) → Type 0
+abbrev pub AreFirst : {S : Type 0} → Ops S → Config → FifoWorld (Host S) → Type 0
 AreFirst ops c o =
     (i : ℕ) (k : Host _) → slice_get o.cores i ≡ Some k
     → (program : Program) × (k ≡ first_host ops c i program)
@@ -61,31 +61,31 @@ module _ {S : Type 0} where
 
 module _ {S : Type 0} (ops : Ops S) (c : Config) where
   sound_cores : (w : World (Host S)) (posted : ℕ → ℕ → List Message)
-      → Follows c (IsSoundHost ops c) w posted → AllSound ops c (ordered_of w posted)
+      → Follows c (IsSoundHost ops c) w posted → AllSound ops c (fifo_of w posted)
   sound_cores w posted h i k is =
       let n = node_there w.nodes i k is in subst (IsSoundHost ops c i) n.2 (h.sound i n.0 n.1)
 
   -- a world that follows an ordered one of which this holds
-  pub record HasOrder (P : Ordered (Host S) → Type 0) (w : World (Host S)) : Type 0 where
+  pub record HasOrder (P : FifoWorld (Host S) → Type 0) (w : World (Host S)) : Type 0 where
     pub posted : ℕ → ℕ → List Message
     pub follows : Follows c (IsSoundHost ops c) w posted
-    pub holds : P (ordered_of w posted)
+    pub holds : P (fifo_of w posted)
 
   -- it holds after each move of an ordered world of which it holds
-  abbrev pub IsSteady : (Ordered (Host S) → Type 0) → Type 0
+  abbrev pub IsSteady : (FifoWorld (Host S) → Type 0) → Type 0
   IsSteady P =
-      (o o' : Ordered (Host S)) → P o → AllSound ops c o → Steps (host_rules ops) o o' → P o'
+      (o o' : FifoWorld (Host S)) → P o → AllSound ops c o → Steps (host_rules ops) o o' → P o'
 
 module _ {S : Type 0} (ops : Ops S) (c : Config) (limits : IsConfig c)
-    (tame : IsTame (host_rules ops) c (IsSoundHost ops c)) where
+    (well_behaved : IsWellBehaved (host_rules ops) c (IsSoundHost ops c)) where
   -- all moves keep it so
-  pub order_led : (P : Ordered (Host S) → Type 0) → IsSteady ops c P
+  pub order_led : (P : FifoWorld (Host S) → Type 0) → IsSteady ops c P
       → (w w' : World (Host S)) (moves : List Move) → HasOrder ops c P w
       → Leads (host_rules ops) c w moves w' → HasOrder ops c P w'
   order_led P kept w w' moves a lead =
-      let f = moves-keep (host_rules ops) c (IsSoundHost ops c) limits tame
-      (λ v posted. P (ordered_of v posted))
-      (λ v v' posted follows holds next. kept (ordered_of v posted) (ordered_of v' next.0) holds
+      let f = moves-keep (host_rules ops) c (IsSoundHost ops c) limits well_behaved
+      (λ v posted. P (fifo_of v posted))
+      (λ v v' posted follows holds next. kept (fifo_of v posted) (fifo_of v' next.0) holds
       (sound_cores ops c v posted follows) next.2)
       w w' moves (a.posted, a.follows, a.holds) lead in
       record { posted = f.0; follows = f.1; holds = f.2 }
@@ -115,7 +115,7 @@ module _ {S : Type 0} (ops : Ops S) (c : Config) where
 
   -- the world as it begins
   pub opening_first : (programs : List Program)
-      → AreFirst ops c (ordered_of (opening ops c programs) (λ i j. []))
+      → AreFirst ops c (fifo_of (opening ops c programs) (λ i j. []))
   opening_first programs i k is =
       let f = first_cores 0 programs i k is in
       (f.0, f.1 ∙ ap (λ n. first_host ops c n f.0) (let g : i + 0 ≡ i = omega arith in g))

@@ -3,7 +3,7 @@ pub mod HeapWays
 pub mod HeapDeliveries
 pub mod HostTurns
 pub mod Led
-pub mod ErrandSteps
+pub mod HeapRequestSteps
 pub mod LiftedNets
 pub mod LiftedEvents
 pub mod LiftedRows
@@ -17,7 +17,7 @@ pub mod LiftedRuns
 pub mod Opened
 pub mod Worlds
 pub mod Runs
-pub mod Errands
+pub mod HeapRequests
 pub use Rattle.ivy_host.proofs.of_ivy_alloc as of_ivy_alloc
 pub use Rattle.ivy_host.proofs.of_ivy_heap as of_ivy_heap
 pub use Rattle.proof_transitions.proofs.of_ivy_coherence as of_ivy_coherence

@@ -19,9 +19,9 @@ use Rattle.proof_transitions.specs.ivy_coherence.declared.need.Need.TheVariants 
 use Rattle.proof_transitions.specs.ivy_coherence.Coherent.{Coherent}
 use Rattle.ivy_pagetable.specs.Accesses.{suffices}
 use Rattle.proof_transitions.specs.Letters.{Letter, Net, written}
-use Rattle.proof_transitions.specs.Rows.{with_flat_page, IsKept}
+use Rattle.proof_transitions.specs.Rows.{with_flat_page, IsPreserved}
 use Rattle.proof_transitions.proofs.Alike.{alike_holds}
-use Rattle.proof_refinement.proofs.LiftedNets.{Stands, written-here, written-page, written-node}
+use Rattle.proof_refinement.proofs.LiftedNets.{Stands, written_here, written-page, written-node}
 
 -- node x of the net is this coherence
 pub record IsNode {S : Type 0} (m : ℕ → S) (n : Net) (x : ℕ) (k : Coherent S) : Type 0 where
@@ -157,13 +157,13 @@ one_page : {X : Type 0} (h g : ℕ → ℕ → X) (x p : ℕ) (v : X) → h x p 
 one_page h g x p v here near far i q = elim (cases_eq i x) [
   | inr ne ↦ far i q ne ∙ sym (written-node g x p v i q ne)
   | inl y ↦ subst (λ z. h z q ≡ written g x p v z q) (sym y) (elim (cases_eq q p) [
-    | inl w ↦ subst (λ z. h x z ≡ written g x p v x z) (sym w) (here ∙ sym (written-here g x p v))
+    | inl w ↦ subst (λ z. h x z ≡ written g x p v x z) (sym w) (here ∙ sym (written_here g x p v))
     | inr ne ↦ near q ne ∙ sym (written-page g x p v q ne)
   ])
 ]
 
 module _ {S : Type 0} {ops : Ops S} {P : (ℕ → S) → Net → (ℕ → List ℕ) → Type 0} {c : Config}
-    (kept : IsKept ops c P) (m : ℕ → S) (n : Net) (x p : ℕ) (k : Coherent S) (node : IsNode m n x k)
+    (kept : IsPreserved ops c P) (m : ℕ → S) (n : Net) (x p : ℕ) (k : Coherent S) (node : IsNode m n x k)
   where
     -- before the event
     pub stands-first : (f : ℕ → List ℕ) (rest : List Letter) → n.loose ≡ rest → P m n f

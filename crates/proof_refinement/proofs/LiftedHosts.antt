@@ -7,19 +7,19 @@ use Rattle.ivy_pagetable.specs.Manager.{Ops, Laws}
 use Rattle.proof_transitions.specs.ivy_coherence.Coherent.{Coherent}
 use Rattle.proof_transitions.specs.ivy_coherence.Steps.{handled}
 use Rattle.ivy_moves.specs.Cores.{Outcome}
-use Rattle.ivy_moves.specs.Ordered.{Ordered, Turns, Delivers, Steps, rests, turns, delivers}
+use Rattle.ivy_moves.specs.FifoWorld.{FifoWorld, Turns, Delivers, Steps, rests, turns, delivers}
 use Rattle.ivy_host.specs.ivy_heap.HeapCalls.{request}
 use Rattle.ivy_host.specs.ivy_memory.Beside.{Beside, nothing_beside}
-use Rattle.ivy_host.proofs.of_ivy_heap.Errands.{request_heap}
+use Rattle.ivy_host.proofs.of_ivy_heap.HeapRequests.{request_heap}
 use Rattle.ivy_host.proofs.of_ivy_memory.Pages.{is_of_pages}
 use Rattle.ivy_host.specs.Hosts.{Host, host_rules}
 use Rattle.proof_transitions.specs.Letters.{Net}
-use Rattle.proof_transitions.specs.Rows.{IsKept}
+use Rattle.proof_transitions.specs.Rows.{IsPreserved}
 use Rattle.proof_refinement.proofs.HeapDeliveries.{HeapDelivery}
 use Rattle.proof_refinement.proofs.LiftedEvents.{Tells, Starts}
 use Rattle.proof_refinement.proofs.LiftedWorlds.{net_of, managers_of, pages_among, IsSoundWorld, fits_heap}
 use Rattle.proof_refinement.proofs.LiftedSteps.{kept-delivers, kept-heap, kept-still, kept-begins}
-pub use Rattle.proof_refinement.proofs.HostTurns.{number_of, asks, asked_for, without_call, HostTurn, answers, tries_again, goes_on, refuses, asks_for, serves_heap, asks_heap, turn-cases}
+pub use Rattle.proof_refinement.proofs.HostTurns.{number_of, asks, asked_for, without_call, HostTurn, answers, tries_again, goes_on, refuses, asks_for, serves_heap, asks_heap, turn_cases}
 use Rattle.proof_refinement.proofs.HostTurns.{made_along, taken-net, marks, asked_coherence, asked_posted}
 
 -- what a turn tells the flat memory
@@ -43,7 +43,7 @@ TurnTells P c x f h out (asks_heap called k idle step of none is) flat = flat �
 -- What a step of the ordered world tells the flat memory's pages: one in which a message of the
 -- heap is delivered, nothing.
 pub data WorldTells {S : Type 0} (ops : Ops S) (P : (ℕ → S) → Net → (ℕ → List ℕ) → Type 0)
-    (c : Config) (f : ℕ → List ℕ) (o o' : Ordered (Host S)) (flat : ℕ → List ℕ) : Type 0 where
+    (c : Config) (f : ℕ → List ℕ) (o o' : FifoWorld (Host S)) (flat : ℕ → List ℕ) : Type 0 where
   rested : o' ≡ o → flat ≡ f → WorldTells ops P c f o o' flat
   turned : (x : ℕ) (t : Turns (host_rules ops) o x o') (turn : HostTurn ops c t.core t.outcome)
       → TurnTells P c x f t.core t.outcome turn flat → WorldTells ops P c f o o' flat
@@ -56,7 +56,7 @@ pub data WorldTells {S : Type 0} (ops : Ops S) (P : (ℕ → S) → Net → (ℕ
       → HeapDelivery ops o source x t.core t.message → flat ≡ f → WorldTells ops P c f o o' flat
 
 module _ {S : Type 0} {ops : Ops S} {P : (ℕ → S) → Net → (ℕ → List ℕ) → Type 0} (laws : Laws ops)
-    (c : Config) (kept : IsKept ops c P) (spare : S) (o o' : Ordered (Host S)) (f : ℕ → List ℕ)
+    (c : Config) (kept : IsPreserved ops c P) (spare : S) (o o' : FifoWorld (Host S)) (f : ℕ → List ℕ)
     (w : IsSoundWorld ops c o) (h : P (managers_of spare o) (net_of o) f) where
   abbrev Then : (ℕ → List ℕ) → Type 0
   Then flat = P (managers_of spare o') (net_of o') flat
@@ -118,7 +118,7 @@ module _ {S : Type 0} {ops : Ops S} {P : (ℕ → S) → Net → (ℕ → List �
       (f, subst (λ z. P (managers_of spare z) (net_of z) f) (sym same) h, rested same refl)
   kept-steps (turns x t) =
       let turn : HostTurn ops c t.core t.outcome =
-      turn-cases ops c x t.core (w.sound x t.core t.there) t.outcome t.turned in
+      turn_cases ops c x t.core (w.sound x t.core t.there) t.outcome t.turned in
       let all = kept-turns x t turn in
       (all.0, all.1, turned x t turn all.2)
   kept-steps (delivers source x t) = either (is_of_pages t.message.content) refl

@@ -37,10 +37,10 @@ use Rattle.proof_transitions.proofs.of_ivy_coherence.SoundEntries.{entry_is}
 use Rattle.proof_transitions.proofs.of_ivy_coherence.Keeping.{idle-start, copy-start, page-start, last-start}
 use Rattle.proof_transitions.specs.Letters.{Letter, Net, content_of, letter_of}
 use Rattle.proof_transitions.specs.Orderly.{AwaitsCopy, AwaitsPage, Collects}
-use Rattle.proof_transitions.specs.Rows.{letter, IsFull, Misfits, Comes, Row, IsKept}
-use Rattle.proof_refinement.proofs.LiftedNets.{told-again, reached, Stands, written-here}
+use Rattle.proof_transitions.specs.Rows.{letter, IsFull, Misfits, Comes, Row, IsPreserved}
+use Rattle.proof_refinement.proofs.LiftedNets.{told-again, reached, Stands, written_here}
 use Rattle.proof_refinement.proofs.LiftedRows.{goes, goes_quietly, comes, comes_quietly, IsCarried, owner_suffices, carried_all_at, dropped_at}
-use Rattle.proof_refinement.proofs.LiftedServing.{served-at, all_served-at}
+use Rattle.proof_refinement.proofs.LiftedServing.{served_at, all_served-at}
 use Rattle.proof_refinement.proofs.LiftedEvents.{IsNode, ComesTo, WaitsAt, Tells, quiet, answers, Ended, stands-first, ended-leads}
 
 -- what waits at an entry is the same once one more message is put off there
@@ -159,7 +159,7 @@ waits_still k sound p inside z same q word call h =
     ]
 
 module _ {S : Type 0} {ops : Ops S} {P : (ℕ → S) → Net → (ℕ → List ℕ) → Type 0} (laws : Laws ops)
-    (m : ℕ → S) (n : Net) (f : ℕ → List ℕ) (k : Coherent S) (kept : IsKept ops k.config P)
+    (m : ℕ → S) (n : Net) (f : ℕ → List ℕ) (k : Coherent S) (kept : IsPreserved ops k.config P)
     (sound : IsSound ops k) (from : ℕ) (below : from < k.config.nodes) (foreign : from ≢ k.me)
     (p : ℕ) (inside : p < k.config.pages) where
   abbrev Goes : CoherenceEffect S → Type 0
@@ -173,7 +173,7 @@ module _ {S : Type 0} {ops : Ops S} {P : (ℕ → S) → Net → (ℕ → List �
   Here e = (reached n k.me p e (page_at k.table p) k.breaches [] []).entry k.me p
 
   here_is : (e : Entry) → Here e ≡ e
-  here_is e = written-here n.entry k.me p e
+  here_is e = written_here n.entry k.me p e
 
   -- the letter is what the node's own word waits for
   abbrev coming : {T : Type 0} (at : T → Entry) (state : T) (bring : ℕ → Content) (call : ℕ)
@@ -316,7 +316,7 @@ module _ {S : Type 0} {ops : Ops S} {P : (ℕ → S) → Net → (ℕ → List �
         f,
         entry_ended m n k sound p inside (entry.Idle v.idle) v.manager k.locked k.more k.done k.done_more v.breaches
             v.posted f
-            (served-at laws k.config kept m n k.me p sound.here inside f (page_at k.table p)
+            (served_at laws k.config kept m n k.me p sound.here inside f (page_at k.table p)
             k.manager (place k p (page_at k.table p) sound inside (sound.sized p inside))
             (serving i k.manager k.breaches []) from q [] (idle-start k p i sound inside is) can
             sender h),
@@ -548,7 +548,7 @@ module _ {S : Type 0} {ops : Ops S} {P : (ℕ → S) → Net → (ℕ → List �
       (λ b. absurd (let g : true ≡ false = sym b.1 ∙ gone in cc)))
 
 module _ {S : Type 0} {ops : Ops S} {P : (ℕ → S) → Net → (ℕ → List ℕ) → Type 0} (laws : Laws ops)
-    (m : ℕ → S) (n : Net) (f : ℕ → List ℕ) (k : Coherent S) (kept : IsKept ops k.config P)
+    (m : ℕ → S) (n : Net) (f : ℕ → List ℕ) (k : Coherent S) (kept : IsPreserved ops k.config P)
     (sound : IsSound ops k) (node : IsNode m n k.me k) (from : ℕ) (below : from < k.config.nodes)
     (foreign : from ≢ k.me) where
   -- what is promised of a message, at the page that it is about
@@ -558,8 +558,8 @@ module _ {S : Type 0} {ops : Ops S} {P : (ℕ → S) → Net → (ℕ → List �
       × ((m' : ℕ → S) (n' : Net) → ComesTo m n k.me g.after g.posted m' n' → P m' n' flat)
       × Tells P k.config k.me f k g.after flat
 
-  served-by : (p : ℕ) (g : CoherenceEffect S) → GoesTo P m n f k p g.after g.posted → Served g
-  served-by p g goes = (
+  served_by : (p : ℕ) (g : CoherenceEffect S) → GoesTo P m n f k p g.after g.posted → Served g
+  served_by p g goes = (
     goes.0,
     (λ m' n' leads. ended-leads kept m n k.me p k node g.after g.posted goes.0 m' n' goes.1
         leads),
@@ -577,7 +577,7 @@ module _ {S : Type 0} {ops : Ops S} {P : (ℕ → S) → Net → (ℕ → List �
       → Misfits (reached n k.me p (entry_at k.table p) (page_at k.table p) k.breaches [] (l ∷ []))
       k.me l l.message.content → Served (breach ops k)
   dropped-served p l inside loose h dest why =
-      served-by p (breach ops k)
+      served_by p (breach ops k)
       (breach-goes laws m n f k kept sound from below foreign p inside (entry_at k.table p) l
       refl (stands-first kept m n k.me p k node f (l ∷ []) loose h) dest why)
 
@@ -595,7 +595,7 @@ module _ {S : Type 0} {ops : Ops S} {P : (ℕ → S) → Net → (ℕ → List �
       → Served
       (asked ops k p (record { kind = kind; origin = o; call = call }) (entry_at k.table p))
   request-served kind o call p inside can sender loose h =
-      served-by p _
+      served_by p _
       (asked-goes laws m n f k kept sound from below foreign p inside kind o call
       (entry_at k.table p) refl can sender (stands-first kept m n k.me p k node f _ loose h))
 
@@ -627,7 +627,7 @@ module _ {S : Type 0} {ops : Ops S} {P : (ℕ → S) → Net → (ℕ → List �
       (inl (λ e. absurd (let g : true ≡ false = sym (eq-eqb o from (sym e)) ∙ other in cc))))
   as-served o call (content.ReadRep page bytes) by least most fits loose h =
       either-served (o == k.me) _ _
-      (λ own. served-by page _
+      (λ own. served_by page _
       (copy_came-goes laws m n f k kept sound from below foreign page fits.0 call bytes
       (entry_at k.table page) refl fits.1
       (stands-first kept m n k.me page k node f _
@@ -636,7 +636,7 @@ module _ {S : Type 0} {ops : Ops S} {P : (ℕ → S) → Net → (ℕ → List �
       (λ other. dropped-served page _ fits.0 loose h refl (inl (apart_from o other)))
   as-served o call (content.WriteRep page copies bytes) by least most fits loose h =
       either-served (o == k.me) _ _
-      (λ own. served-by page _
+      (λ own. served_by page _
       (page_came-goes laws m n f k kept sound from below foreign page fits.0 call copies bytes
       (entry_at k.table page) refl fits.2 fits.1
       (stands-first kept m n k.me page k node f _
@@ -645,7 +645,7 @@ module _ {S : Type 0} {ops : Ops S} {P : (ℕ → S) → Net → (ℕ → List �
       (λ other. dropped-served page _ fits.0 loose h refl (inl (apart_from o other)))
   as-served o call (content.InvalAck page) by least most fits loose h =
       either-served (o == k.me) _ _
-      (λ own. served-by page _
+      (λ own. served_by page _
       (acknowledged-goes laws m n f k kept sound from below foreign page fits call
       (entry_at k.table page) refl
       (stands-first kept m n k.me page k node f _
@@ -673,7 +673,7 @@ module _ {S : Type 0} {ops : Ops S} {P : (ℕ → S) → Net → (ℕ → List �
 abbrev pub KeepsHandled : {S : Type 0} → Ops S → ((ℕ → S) → Net → (ℕ → List ℕ) → Type 0) → (ℕ → S)
     → Net → (ℕ → List ℕ) → Coherent S → Config → ℕ → ℕ → Message → Type 0
 KeepsHandled ops P m n f k c x from message =
-    IsKept ops c P → IsSound ops k → IsNode m n x k → from < c.nodes → from ≢ x
+    IsPreserved ops c P → IsSound ops k → IsNode m n x k → from < c.nodes → from ≢ x
     → FitsMessage c message
     → n.loose ≡ record { source = from; dest = x; message = message } ∷ [] → P m n f
     → (flat : ℕ → List ℕ)

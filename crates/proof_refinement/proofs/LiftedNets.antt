@@ -34,8 +34,8 @@ twice : {X : Type 0} (b : Bool) (u v old : X)
 twice true u v old = refl
 twice false u v old = refl
 
-pub written-here : {X : Type 0} (g : ℕ → ℕ → X) (x p : ℕ) (v : X) → written g x p v x p ≡ v
-written-here g x p v =
+pub written_here : {X : Type 0} (g : ℕ → ℕ → X) (x p : ℕ) (v : X) → written g x p v x p ≡ v
+written_here g x p v =
     ap (λ b. if b && p == p then v else g x p) (eq-eqb x x refl)
     ∙ ap (λ b. if b then v else g x p) (eq-eqb p p refl)
 
@@ -53,8 +53,8 @@ written-twice : {X : Type 0} (g : ℕ → ℕ → X) (x p : ℕ) (u v : X) (i q 
     → written (written g x p u) x p v i q ≡ written g x p v i q
 written-twice g x p u v i q = twice (i == x && q == p) u v (g i q)
 
-pub told-here : {S : Type 0} (m : ℕ → S) (x : ℕ) (s : S) → with_manager m x s x ≡ s
-told-here m x s = ap (λ b. if b then s else m x) (eq-eqb x x refl)
+pub told_here : {S : Type 0} (m : ℕ → S) (x : ℕ) (s : S) → with_manager m x s x ≡ s
+told_here m x s = ap (λ b. if b then s else m x) (eq-eqb x x refl)
 
 pub told-node : {S : Type 0} (m : ℕ → S) (x : ℕ) (s : S) (i : ℕ) → i ≢ x → with_manager m x s i ≡ m i
 told-node m x s i ne = ap (λ b. if b then s else m i) (ne_eqb i x ne)
@@ -63,7 +63,7 @@ told-node m x s i ne = ap (λ b. if b then s else m i) (ne_eqb i x ne)
 pub told-again : {S : Type 0} (m : ℕ → S) (x : ℕ) (s : S) (g : S → S) (i : ℕ)
     → with_manager m x (g s) i ≡ with_manager (with_manager m x s) x (g (with_manager m x s x)) i
 told-again m x s g i =
-    ap (λ z. with_manager m x (g z) i) (sym (told-here m x s))
+    ap (λ z. with_manager m x (g z) i) (sym (told_here m x s))
     ∙ sym (twice (i == x) s (g (with_manager m x s x)) (m i))
 
 one_posted : (b : Bool) (message : Message) (whole front back : List Message)
@@ -108,13 +108,13 @@ module _ {S : Type 0} (m M : ℕ → S) (n : Net) (x p : ℕ) (s : S)
   }
 
   -- the page's bytes are written too
-  pub comes-alike : (e z : Entry) (old bytes : List ℕ) (broken : ℕ) (ps qs now : List Parcel)
+  pub comes_alike : (e z : Entry) (old bytes : List ℕ) (broken : ℕ) (ps qs now : List Parcel)
       (before rest : List Letter)
       → ((i j : ℕ) → extended n.posted now i j ≡ extended (extended n.posted ps) qs i j)
       → AreAlike M (with_manager m x s)
       (installs (goes_on (reached n x p e old broken ps before) x p z rest qs) x p bytes)
       (reached n x p z bytes broken now rest)
-  comes-alike e z old bytes broken ps qs now before rest sent = record {
+  comes_alike e z old bytes broken ps qs now before rest sent = record {
     managers = managers;
     entries = λ i q. sym (written-twice n.entry x p e z i q);
     pages = λ i q. sym (written-twice n.page x p old bytes i q);

@@ -14,12 +14,12 @@ use Rattle.proof_transitions.specs.ivy_coherence.Several.{all_carried}
 use Rattle.proof_transitions.specs.ivy_coherence.Serving.{counted}
 use Rattle.ivy_pagetable.specs.Accesses.{suffices}
 use Rattle.proof_transitions.specs.Letters.{Letter, Net, goes_on, installs}
-use Rattle.proof_transitions.specs.Rows.{Notice, Row, Claim, Misfits, IsKept, IsNamedBy, noticed, with_manager, with_flat_page}
+use Rattle.proof_transitions.specs.Rows.{Notice, Row, Claim, Misfits, IsPreserved, IsNamedBy, noticed, with_manager, with_flat_page}
 use Rattle.proof_transitions.proofs.Alike.{alike_holds}
 use Rattle.proof_refinement.proofs.LiftedEvents.{CarriesAll}
-use Rattle.proof_refinement.proofs.LiftedNets.{reached, Stands, written-here, told-here, extended-on, extended-none, goes-alike, comes-alike, installs-alike, drops-alike}
+use Rattle.proof_refinement.proofs.LiftedNets.{reached, Stands, written_here, told_here, extended-on, extended-none, goes-alike, comes_alike, installs-alike, drops-alike}
 
-module _ {S : Type 0} {ops : Ops S} {P : Claim S} {c : Config} (kept : IsKept ops c P)
+module _ {S : Type 0} {ops : Ops S} {P : Claim S} {c : Config} (kept : IsPreserved ops c P)
     {m : ℕ → S} {n : Net} {x p : ℕ} {f : ℕ → List ℕ} {e : Entry} {b : List ℕ} {s : S} {broken : ℕ}
     {ps : List Parcel} {before : List Letter}
     (h : Stands P m n x p f e b s broken ps before) where
@@ -56,7 +56,7 @@ module _ {S : Type 0} {ops : Ops S} {P : Claim S} {c : Config} (kept : IsKept op
         → Stands P m n x p f z bytes after broken (ps ++ qs) rest
     comes z qs rest bytes row = record {
       holds = alike_holds _ _ _ _
-          (comes-alike m _ n x p after managers e z b bytes broken ps qs (ps ++ qs) before rest
+          (comes_alike m _ n x p after managers e z b bytes broken ps qs (ps ++ qs) before rest
           (extended-on n.posted ps qs)) P f
           (kept.by row of h.holds);
     }
@@ -66,13 +66,13 @@ module _ {S : Type 0} {ops : Ops S} {P : Claim S} {c : Config} (kept : IsKept op
         → Stands P m n x p f z bytes after broken ps rest
     comes_quietly z rest bytes row = record {
       holds = alike_holds _ _ _ _
-          (comes-alike m _ n x p after managers e z b bytes broken ps [] ps before rest
+          (comes_alike m _ n x p after managers e z b bytes broken ps [] ps before rest
           (extended-none n.posted ps)) P f
           (kept.by row of h.holds);
     }
 
 -- a word is carried out
-pub carried_at : {S : Type 0} {ops : Ops S} {P : Claim S} {c : Config} → IsKept ops c P
+pub carried_at : {S : Type 0} {ops : Ops S} {P : Claim S} {c : Config} → IsPreserved ops c P
     → {m : ℕ → S} {n : Net} {x p : ℕ} {f : ℕ → List ℕ} {i : IdleState} {b : List ℕ} {s : S}
     {broken : ℕ} {ps : List Parcel} {rest : List Letter}
     → Stands P m n x p f (entry.Idle i) b s broken ps rest → x < c.nodes → p < c.pages → (w : Word)
@@ -86,7 +86,7 @@ carried_at {P = P} kept {m} {n} {x} {p} {f} {i} {b} {s} {broken} {ps} {rest} h h
           broken ps rest) P _
           (subst (λ d. P (with_manager m x s)
           (installs (reached n x p (entry.Idle i) b broken ps rest) x p (carried_out w d).bytes)
-          (with_flat_page f p (carried_out w (f p)).bytes)) (written-here n.page x p b)
+          (with_flat_page f p (carried_out w (f p)).bytes)) (written_here n.page x p b)
           (kept.by (Row.carries (record {
             node = x;
             page = p;
@@ -95,7 +95,7 @@ carried_at {P = P} kept {m} {n} {x} {p} {f} {i} {b} {s} {broken} {ps} {rest} h h
             here = here;
             inside = inside;
             is_word = word;
-            is = written-here n.entry x p (entry.Idle i);
+            is = written_here n.entry x p (entry.Idle i);
             enough = enough;
           })) tt h.holds));
     }
@@ -110,7 +110,7 @@ owner_suffices true = refl
 owner_suffices false = refl
 
 -- words are carried out one after another
-pub carried_all_at : {S : Type 0} {ops : Ops S} {P : Claim S} {c : Config} → IsKept ops c P
+pub carried_all_at : {S : Type 0} {ops : Ops S} {P : Claim S} {c : Config} → IsPreserved ops c P
     → {m : ℕ → S} {n : Net} {x p : ℕ} → x < c.nodes → p < c.pages → (words : List Word)
     → {f : ℕ → List ℕ} {i : IdleState} {b : List ℕ} {s : S}
     {broken : ℕ} {ps : List Parcel} {rest : List Letter}
@@ -136,9 +136,9 @@ carried_all_at {P = P} {c = c} kept {m} {n} {x} {p} here inside (w ∷ words) {f
           here = here;
           inside = inside;
           is_word = is.0;
-          idle = written-here n.entry x p (entry.Idle i);
+          idle = written_here n.entry x p (entry.Idle i);
           enough = is.1;
-          gives = ap (λ d. (carried_out w d).out) (sym (written-here n.page x p b));
+          gives = ap (λ d. (carried_out w d).out) (sym (written_here n.page x p b));
           after = refl;
         },
         all.2,
@@ -146,7 +146,7 @@ carried_all_at {P = P} {c = c} kept {m} {n} {x} {p} here inside (w ∷ words) {f
     )
 
 -- a letter is dropped
-pub dropped_at : {S : Type 0} {ops : Ops S} {P : Claim S} {c : Config} → IsKept ops c P
+pub dropped_at : {S : Type 0} {ops : Ops S} {P : Claim S} {c : Config} → IsPreserved ops c P
     → {m : ℕ → S} {n : Net} {x p : ℕ} {f : ℕ → List ℕ} {e : Entry} {b : List ℕ} {s : S} {broken : ℕ}
     {ps : List Parcel} {l : Letter} {rest : List Letter}
     → Stands P m n x p f e b s broken ps (l ∷ rest) → x < c.nodes → l.dest ≡ x
@@ -172,4 +172,4 @@ dropped_at {P = P} kept {m} {n} {x} {p} {f} {e} {b} {s} {broken} {ps} {l} {rest}
 -- the next hop of the manager that the node has
 pub hop_here : {S : Type 0} (ops : Ops S) (m : ℕ → S) (x : ℕ) (s : S) (p : ℕ)
     → ops.next_hop s p ≡ ops.next_hop (with_manager m x s x) p
-hop_here ops m x s p = ap (λ z. ops.next_hop z p) (sym (told-here m x s))
+hop_here ops m x s p = ap (λ z. ops.next_hop z p) (sym (told_here m x s))

@@ -5,20 +5,20 @@ use Rattle.std.proofs.lemmas.Option.{none-some, slice_get_within}
 use Rattle.ivy_model.specs.declared.Config.{Config}
 use Rattle.ivy_model.specs.Config.{IsConfig}
 use Rattle.ivy_pagetable.specs.Manager.{Ops, Laws}
-use Rattle.ivy_host.proofs.of_ivy_memory.Tame.{first_sound-memory}
+use Rattle.ivy_host.proofs.of_ivy_memory.WellBehaved.{first_sound-memory}
 use Rattle.ivy_program.specs.Programs.{Program}
 use Rattle.ivy_moves.specs.declared.moves.Move.{Move}
 use Rattle.ivy_moves.specs.Nodes.{Node}
-use Rattle.ivy_moves.specs.Ordered.{Ordered}
+use Rattle.ivy_moves.specs.FifoWorld.{FifoWorld}
 use Rattle.ivy_moves.specs.Worlds.{World, Leads}
-use Rattle.ivy_moves.specs.Following.{ordered_of}
+use Rattle.ivy_moves.specs.Following.{fifo_of}
 use Rattle.ivy_host.specs.Hosts.{Host, host_rules}
 use Rattle.ivy_host.specs.Openings.{opening}
 use Rattle.ivy_host.specs.Sound.{IsSoundHost}
-use Rattle.ivy_host.proofs.Tame.{tame, opening_is}
+use Rattle.ivy_host.proofs.WellBehaved.{well_behaved, opening_is}
 use Rattle.proof_transitions.specs.Letters.{Net}
-use Rattle.proof_transitions.specs.Rows.{IsKept}
-use Rattle.proof_refinement.specs.Errands.{about_heap, heap_way, IsAtRest, resting}
+use Rattle.proof_transitions.specs.Rows.{IsPreserved}
+use Rattle.proof_refinement.specs.HeapRequests.{about_heap, heap_way, IsAtRest, resting}
 use Rattle.proof_refinement.proofs.Opened.{opening_delivered}
 use Rattle.proof_refinement.proofs.Led.{HasOrder, order_led, opening_first}
 use Rattle.proof_refinement.proofs.LiftedWorlds.{net_of, managers_of, IsSoundWorld, steps_sound}
@@ -26,19 +26,19 @@ use Rattle.proof_refinement.proofs.LiftedHosts.{kept-steps}
 
 -- P holds of the nodes and messages of a sound world, and of some pages of the flat memory
 abbrev pub Holds : {S : Type 0} → Ops S → Config → ((ℕ → S) → Net → (ℕ → List ℕ) → Type 0) → S
-    → Ordered (Host S) → Type 0
+    → FifoWorld (Host S) → Type 0
 Holds ops c P spare o =
     IsSoundWorld ops c o × ((f : ℕ → List ℕ) × P (managers_of spare o) (net_of o) f)
 
 pub kept-led : {S : Type 0} {ops : Ops S} {P : (ℕ → S) → Net → (ℕ → List ℕ) → Type 0} → Laws ops
-    → (c : Config) → IsConfig c → IsKept ops c P
+    → (c : Config) → IsConfig c → IsPreserved ops c P
     → (spare : S) (w w' : World (Host S)) (moves : List Move)
     → HasOrder ops c (Holds ops c P spare) w → Leads (host_rules ops) c w moves w'
     → HasOrder ops c (Holds ops c P spare) w'
 kept-led {ops = ops} {P = P} laws c limits kept spare w w' moves =
-    order_led ops c limits (tame laws c) (Holds ops c P spare)
+    order_led ops c limits (well_behaved laws c) (Holds ops c P spare)
     (λ o o' h sound step. (
-      steps_sound ops c (tame laws c) o o' h.0 step,
+      steps_sound ops c (well_behaved laws c) o o' h.0 step,
       (let all = kept-steps laws c kept spare o o' h.1.0 h.0 h.1.1 step in (all.0, all.1)),
     )) w w'
     moves
@@ -46,9 +46,9 @@ kept-led {ops = ops} {P = P} laws c limits kept spare w w' moves =
 -- the world as it begins is sound
 pub sound_opening : {S : Type 0} {ops : Ops S} → Laws ops → (c : Config) → IsConfig c
     → (programs : List Program) → length programs ≡ c.nodes
-    → IsSoundWorld ops c (ordered_of (opening ops c programs) (λ i j. []))
+    → IsSoundWorld ops c (fifo_of (opening ops c programs) (λ i j. []))
 sound_opening {S = S} {ops = ops} laws c limits programs many =
-    let o : Ordered (Host S) = ordered_of (opening ops c programs) (λ i j. []) in
+    let o : FifoWorld (Host S) = fifo_of (opening ops c programs) (λ i j. []) in
     let none_under_way : (i j : ℕ) → heap_way o i j ≡ [] =
     λ i j. ap (λ d. about_heap (drop d [])) (opening_delivered ops c programs i j) in
     let count : length o.cores ≡ c.nodes =
@@ -69,11 +69,11 @@ sound_opening {S = S} {ops = ops} laws c limits programs many =
           });
       sent = λ i j k m there. absurd (none-some m there);
       within = λ i j. (let none = opening_delivered ops c programs i j in omega (arith, none));
-      errands = record {
+      heap_requests = record {
         apart = λ i j a b. none_under_way i j;
         home = none_under_way 0 0;
         each = λ i h away there.
-            resting (subst (λ (z : Host S). IsAtRest z.memory.side.errand)
+            resting (subst (λ (z : Host S). IsAtRest z.memory.side.heap_request)
             (sym (opening_first ops c programs i h there).1) tt) (none_under_way i 0)
             (none_under_way 0 i);
       };

@@ -17,12 +17,12 @@ use Rattle.proof_transitions.specs.ivy_coherence.Serving.{Serving, served, serve
 use Rattle.proof_transitions.specs.ivy_coherence.IdleSound.{CanBeServed}
 use Rattle.proof_transitions.proofs.of_ivy_coherence.IdleServing.{IsServing, IsPlace, all_one, all_head, all_tail, all_served-keeps}
 use Rattle.proof_transitions.specs.Letters.{Letter, Net, content_of, letter_of}
-use Rattle.proof_transitions.specs.Rows.{letter, Row, Served, IsKept}
-use Rattle.proof_refinement.proofs.LiftedNets.{reached, Stands, written-here, told-again}
+use Rattle.proof_transitions.specs.Rows.{letter, Row, Served, IsPreserved}
+use Rattle.proof_refinement.proofs.LiftedNets.{reached, Stands, written_here, told-again}
 use Rattle.proof_refinement.proofs.LiftedRows.{goes, dropped_at, hop_here}
 
 module _ {S : Type 0} {ops : Ops S} {P : (ℕ → S) → Net → (ℕ → List ℕ) → Type 0} (laws : Laws ops)
-    (c : Config) (kept : IsKept ops c P) (m : ℕ → S) (n : Net) (x p : ℕ) (here : x < c.nodes)
+    (c : Config) (kept : IsPreserved ops c P) (m : ℕ → S) (n : Net) (x p : ℕ) (here : x < c.nodes)
     (inside : p < c.pages) (f : ℕ → List ℕ) (b : List ℕ) (first : S)
     (at : IsPlace ops c x p b first) where
   -- this was served, and these letters are left
@@ -46,7 +46,7 @@ module _ {S : Type 0} {ops : Ops S} {P : (ℕ → S) → Net → (ℕ → List �
     inside = inside;
     loose = refl;
     foreign = foreign;
-    is = written-here n.entry x p (entry.Idle v.idle);
+    is = written_here n.entry x p (entry.Idle v.idle);
   }
 
   by_owner : (v : Serving S) (from o call : ℕ) (k : Request) (rest : List Letter)
@@ -56,19 +56,19 @@ module _ {S : Type 0} {ops : Ops S} {P : (ℕ → S) → Net → (ℕ → List �
   by_owner v from o call request.Read rest s own foreign h =
       subst (λ d. Stands P m n x p f (entry.Idle (sharing (set.insert v.idle.copies o))) b v.manager
       v.breaches (v.posted ++ parcel_to x o o call (content.ReadRep p d) ∷ []) rest)
-      (written-here n.page x p b)
+      (written_here n.page x p b)
       (goes kept h tt v.manager (λ i. refl) _ _ rest
       (Row.shares (asked v content.ReadReq from o call rest foreign) own s.idle.copies.below))
   by_owner v from o call request.Write rest s own foreign h =
       subst (λ d. Stands P m n x p f (entry.Idle without) b (ops.on_given v.manager p o) v.breaches
       (v.posted ++ parcel_to x o o call
       (content.WriteRep p (bits_of (set.remove v.idle.copies o)) d) ∷ []) rest)
-      (written-here n.page x p b)
+      (written_here n.page x p b)
       (goes kept h here _ (told-again m x v.manager (λ z. ops.on_given z p o)) _ _ rest
       (Row.gives (asked v content.WriteReq from o call rest foreign) own s.idle.copies.below))
   by_owner v from o call request.Invalidate rest s own foreign h =
       dropped_at kept h here refl
-      (inr (inl (ap is_owner (written-here n.entry x p (entry.Idle v.idle)) ∙ own)))
+      (inr (inl (ap is_owner (written_here n.entry x p (entry.Idle v.idle)) ∙ own)))
 
   by_other : (v : Serving S) (from o call : ℕ) (k : Request) (rest : List Letter)
       → IsServing ops c x p first v → v.idle.owner ≡ false → o ≢ x
@@ -90,12 +90,12 @@ module _ {S : Type 0} {ops : Ops S} {P : (ℕ → S) → Net → (ℕ → List �
       (Row.ends_copy (asked v content.Inval from o call rest foreign) (sender refl) own)
 
   -- one letter; an order is of the node that is to write
-  pub served-at : (v : Serving S) (from : ℕ) (q : PutOff) (rest : List Letter)
+  pub served_at : (v : Serving S) (from : ℕ) (q : PutOff) (rest : List Letter)
       → IsServing ops c x p first v → CanBeServed c x q
       → (q.kind ≡ request.Invalidate → from ≡ q.origin)
       → Left v (letter from x q.origin q.call (content_of q.kind p) ∷ rest)
       → Left (served ops x p b v q) rest
-  served-at v from q rest s can sender h = either v.idle.owner refl
+  served_at v from q rest s can sender h = either v.idle.owner refl
     where
       either : (own : Bool) → v.idle.owner ≡ own
           → Left (if own then served_by_owner ops x p b v q.origin q.call q.kind
@@ -112,4 +112,4 @@ module _ {S : Type 0} {ops : Ops S} {P : (ℕ → S) → Net → (ℕ → List �
       all_served-at (served ops x p b v q) qs
       (all_served-keeps laws c x p b first at v (q ∷ []) s (all_one (CanBeServed c x) q one))
       (all_tail (CanBeServed c x) q qs can)
-      (served-at v q.origin q (map (letter_of x p) qs) s one (λ k. refl) h)
+      (served_at v q.origin q (map (letter_of x p) qs) s one (λ k. refl) h)

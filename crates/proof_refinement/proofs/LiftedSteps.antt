@@ -9,12 +9,12 @@ use Rattle.ivy_pagetable.specs.Words.{IsWord}
 use Rattle.ivy_pagetable.specs.Manager.{Ops, Laws}
 use Rattle.proof_transitions.specs.ivy_coherence.Coherent.{Coherent}
 use Rattle.proof_transitions.specs.ivy_coherence.Steps.{handled}
-use Rattle.proof_transitions.specs.ivy_coherence.Faults.{begun}
+use Rattle.proof_transitions.specs.ivy_coherence.PageFaults.{begun}
 use Rattle.proof_transitions.proofs.of_ivy_coherence.Same.{handled-same}
-use Rattle.ivy_host.proofs.of_ivy_memory.Tame.{with_done-sound}
-use Rattle.ivy_moves.specs.Ordered.{Ordered, Turns, Delivers, one_more}
+use Rattle.ivy_host.proofs.of_ivy_memory.WellBehaved.{with_done-sound}
+use Rattle.ivy_moves.specs.FifoWorld.{FifoWorld, Turns, Delivers, one_more}
 use Rattle.ivy_host.specs.ivy_heap.HeapCalls.{told_of, answer_to}
-use Rattle.ivy_host.proofs.of_ivy_heap.Errands.{answer_heap}
+use Rattle.ivy_host.proofs.of_ivy_heap.HeapRequests.{answer_heap}
 use Rattle.ivy_host.proofs.of_ivy_memory.Pages.{is_of_pages, handled-pages, begun-pages}
 use Rattle.ivy_host.specs.Hosts.{Host, host_rules, serving}
 use Rattle.ivy_moves.specs.Cores.{Outcome}
@@ -23,7 +23,7 @@ use Rattle.ivy_host.specs.ivy_memory.Memories.{by_coherence}
 use Rattle.ivy_host.proofs.Pages.{page_serving}
 use Rattle.ivy_host.specs.Sound.{IsSoundHost}
 use Rattle.proof_transitions.specs.Letters.{Letter, Net}
-use Rattle.proof_transitions.specs.Rows.{taken, Row, IsKept}
+use Rattle.proof_transitions.specs.Rows.{taken, Row, IsPreserved}
 use Rattle.proof_transitions.proofs.Alike.{alike_holds}
 use Rattle.proof_refinement.proofs.LiftedEvents.{IsNode, ComesTo, SameNet, comes_alike, Tells, Starts}
 use Rattle.proof_refinement.proofs.LiftedMessages.{kept-handled}
@@ -33,7 +33,7 @@ use Rattle.proof_refinement.proofs.HeapDeliveries.{HeapDelivery, serves, learns}
 use Rattle.proof_refinement.proofs.LiftedWorlds.{net_with, net_of, managers_of, pages_among, all_pages, node_of, leads_to, letter_first, letter_taken, heap_taken, IsSent, IsSoundWorld}
 
 module _ {S : Type 0} {ops : Ops S} {P : (ℕ → S) → Net → (ℕ → List ℕ) → Type 0} (laws : Laws ops)
-    (c : Config) (kept : IsKept ops c P) (spare : S) (o o' : Ordered (Host S)) (f : ℕ → List ℕ)
+    (c : Config) (kept : IsPreserved ops c P) (spare : S) (o o' : FifoWorld (Host S)) (f : ℕ → List ℕ)
     (w : IsSoundWorld ops c o) (h : P (managers_of spare o) (net_of o) f) where
   -- P of the world after an event, and of these pages
   abbrev pub Then : (ℕ → List ℕ) → Type 0

@@ -15,14 +15,14 @@ use Rattle.proof_transitions.specs.ivy_coherence.declared.need.Need.TheVariants 
 use Rattle.ivy_pagetable.specs.Words.{IsWord, needs_write, carried_out}
 use Rattle.ivy_pagetable.specs.Manager.{Ops}
 use Rattle.proof_transitions.specs.ivy_coherence.Coherent.{Coherent}
-use Rattle.proof_transitions.specs.ivy_coherence.Faults.{Begun, hit, faulted, busy, accessed, begun_at, begun}
+use Rattle.proof_transitions.specs.ivy_coherence.PageFaults.{Begun, hit, faulted, busy, accessed, begun_at, begun}
 use Rattle.proof_transitions.specs.ivy_coherence.IdleSound.{IsSoundIdle}
 use Rattle.proof_transitions.specs.ivy_coherence.Sound.{IsSound}
 use Rattle.proof_transitions.proofs.of_ivy_coherence.Changing.{entry_with, page_with}
 use Rattle.proof_transitions.proofs.of_ivy_coherence.SoundEntries.{entry_is}
 use Rattle.proof_transitions.specs.Letters.{Net, written}
-use Rattle.proof_transitions.specs.Rows.{with_manager, with_flat_page as with_flat, IsHop, Begins, Row, IsKept}
-use Rattle.proof_refinement.proofs.LiftedNets.{reached, Stands, written-here, written-page}
+use Rattle.proof_transitions.specs.Rows.{with_manager, with_flat_page as with_flat, IsHop, Begins, Row, IsPreserved}
+use Rattle.proof_refinement.proofs.LiftedNets.{reached, Stands, written_here, written-page}
 use Rattle.proof_refinement.proofs.LiftedRows.{goes, carried_at, hop_here}
 use Rattle.proof_refinement.proofs.LiftedEvents.{IsNode, ComesTo, WaitsAt, Starts, busy as is_busy, hits, waits, Ended, stands-first, ended-leads}
 use Rattle.proof_refinement.proofs.LiftedMessages.{entry_ended}
@@ -32,7 +32,7 @@ false_unless true h = absurd (h refl)
 false_unless false h = refl
 
 module _ {S : Type 0} {ops : Ops S} {P : (ℕ → S) → Net → (ℕ → List ℕ) → Type 0} (m : ℕ → S)
-    (n : Net) (f : ℕ → List ℕ) (k : Coherent S) (kept : IsKept ops k.config P)
+    (n : Net) (f : ℕ → List ℕ) (k : Coherent S) (kept : IsPreserved ops k.config P)
     (sound : IsSound ops k) (node : IsNode m n k.me k) (loose : n.loose ≡ []) (h : P m n f) (p : ℕ)
     (w : Word) (call : ℕ) (inside : p < k.config.pages) (is_word : IsWord k.config.page_size w)
     (numbered : 1 ≤ call) where
@@ -91,9 +91,9 @@ module _ {S : Type 0} {ops : Ops S} {P : (ℕ → S) → Net → (ℕ → List �
               here = sound.here;
               inside = inside;
               is_word = is_word;
-              idle = written-here n.entry k.me p (entry.Idle i);
+              idle = written_here n.entry k.me p (entry.Idle i);
               enough = enough;
-              gives = ap (λ d. (carried_out w d).out) (sym (written-here n.page k.me p old));
+              gives = ap (λ d. (carried_out w d).out) (sym (written_here n.page k.me p old));
               after = refl;
             }),
       )
@@ -104,7 +104,7 @@ module _ {S : Type 0} {ops : Ops S} {P : (ℕ → S) → Net → (ℕ → List �
   free i none q = elim (cases_eq q p) [
     | inl y ↦
         subst (λ r. is_locked (written n.entry k.me p (entry.Idle i) k.me r) ≡ false) (sym y)
-        (ap is_locked (written-here n.entry k.me p (entry.Idle i)))
+        (ap is_locked (written_here n.entry k.me p (entry.Idle i)))
     | inr ne ↦
         ap is_locked (written-page n.entry k.me p (entry.Idle i) q ne ∙ node.entries q)
         ∙ false_unless (is_locked (entry_at k.table q))
@@ -124,7 +124,7 @@ module _ {S : Type 0} {ops : Ops S} {P : (ℕ → S) → Net → (ℕ → List �
     numbered = numbered;
     loose = refl;
     free = free i none;
-    is = written-here n.entry k.me p (entry.Idle i);
+    is = written_here n.entry k.me p (entry.Idle i);
   }
 
   hop : (i : IdleState) → entry_at k.table p ≡ entry.Idle i → i.owner ≡ false
@@ -206,7 +206,7 @@ module _ {S : Type 0} {ops : Ops S} {P : (ℕ → S) → Net → (ℕ → List �
 abbrev pub KeepsBegun : {S : Type 0} → Ops S → ((ℕ → S) → Net → (ℕ → List ℕ) → Type 0) → (ℕ → S)
     → Net → (ℕ → List ℕ) → Coherent S → Config → ℕ → ℕ → Word → ℕ → Type 0
 KeepsBegun ops P m n f k c x page word call =
-    IsKept ops c P → IsSound ops k → IsNode m n x k → n.loose ≡ [] → P m n f → page < c.pages
+    IsPreserved ops c P → IsSound ops k → IsNode m n x k → n.loose ≡ [] → P m n f → page < c.pages
     → IsWord c.page_size word → 1 ≤ call
     → (flat : ℕ → List ℕ)
     × ((m' : ℕ → _) (n' : Net)
@@ -231,7 +231,7 @@ kept-begun {ops = ops} {P = P} c x m n f k page word call config me =
 
 -- What changes nothing of the net: where nothing but the answer is taken out, say.
 pub kept-quiet : {S : Type 0} {ops : Ops S} {P : (ℕ → S) → Net → (ℕ → List ℕ) → Type 0} (c : Config)
-    → IsKept ops c P → (x : ℕ) (m m' : ℕ → S) (n n' : Net) (f : ℕ → List ℕ) (k k' : Coherent S)
+    → IsPreserved ops c P → (x : ℕ) (m m' : ℕ → S) (n n' : Net) (f : ℕ → List ℕ) (k k' : Coherent S)
     → IsNode m n x k → n.loose ≡ [] → P m n f → k'.manager ≡ k.manager → k'.table ≡ k.table
     → k'.breaches ≡ k.breaches → ComesTo m n x k' [] m' n' → P m' n' f
 kept-quiet {P = P} c kept x m m' n n' f k k' node loose h manager table breaches leads =

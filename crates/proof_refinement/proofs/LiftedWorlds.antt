@@ -13,23 +13,23 @@ use Rattle.ivy_wire.specs.Spelling.{FitsMessage, FitsParcel}
 use Rattle.ivy_moves.specs.ivy_link.Paired.{posted, extended}
 use Rattle.ivy_pagetable.specs.Manager.{Ops}
 use Rattle.proof_transitions.proofs.of_ivy_coherence.IdleServing.{all_head, all_tail}
-use Rattle.ivy_moves.specs.Ordered.{Ordered, Delivers, Steps, rests, turns, delivers, one_more}
-use Rattle.ivy_moves.specs.Following.{IsTame}
+use Rattle.ivy_moves.specs.FifoWorld.{FifoWorld, Delivers, Steps, rests, turns, delivers, one_more}
+use Rattle.ivy_moves.specs.Following.{IsWellBehaved}
 use Rattle.ivy_host.specs.Hosts.{Host, host_rules}
 use Rattle.ivy_host.specs.Sound.{IsSoundHost}
 use Rattle.ivy_host.proofs.of_ivy_memory.Pages.{is_of_pages, IsOfPages}
 use Rattle.proof_transitions.specs.Letters.{Letter}
 use Rattle.proof_transitions.specs.Rows.{taken}
 use Rattle.proof_transitions.proofs.Alike.{AreAlike}
-use Rattle.proof_refinement.specs.Errands.{AreErrands}
+use Rattle.proof_refinement.specs.HeapRequests.{AreHeapRequests}
 use Rattle.proof_refinement.specs.Nets.{about_pages}
 pub use Rattle.proof_refinement.specs.Nets.{entry_of, page_of, breaches_of, manager_of, net_with, net_of, managers_of}
 use Rattle.proof_refinement.proofs.Led.{get_set}
 use Rattle.proof_refinement.proofs.Filtered.{filter_every, kept_at, kept_more, posted-filter}
 use Rattle.proof_refinement.proofs.HeapWays.{IsWithin, at_pair, within_taken}
 use Rattle.proof_refinement.proofs.HeapDeliveries.{HeapDelivery, heap_delivery}
-use Rattle.proof_refinement.proofs.HostTurns.{turn-cases}
-use Rattle.proof_refinement.proofs.ErrandSteps.{turn_errands, page_errands, heap_errands}
+use Rattle.proof_refinement.proofs.HostTurns.{turn_cases}
+use Rattle.proof_refinement.proofs.HeapRequestSteps.{turn_heap_requests, page_heap_requests, requests_of_heap}
 use Rattle.proof_refinement.proofs.LiftedEvents.{IsNode, ComesTo}
 
 -- the parcels among these that are about pages
@@ -40,7 +40,7 @@ pub all_pages : (ps : List Parcel) → All IsOfPages ps → pages_among ps ≡ p
 all_pages ps pages = filter_every (λ (p : Parcel). is_of_pages p.message.content) ps pages
 
 module _ {S : Type 0} where
-  pub node_of : (spare : S) (o : Ordered (Host S)) (delivered : ℕ → ℕ → ℕ) (loose : List Letter)
+  pub node_of : (spare : S) (o : FifoWorld (Host S)) (delivered : ℕ → ℕ → ℕ) (loose : List Letter)
       (x : ℕ) (h : Host S) → slice_get o.cores x ≡ Some h → h.memory.coherence.me ≡ x
       → IsNode (managers_of spare o) (net_with o delivered loose) x h.memory.coherence
   node_of spare o delivered loose x h there me = record {
@@ -52,7 +52,7 @@ module _ {S : Type 0} where
   }
 
   -- the world after an event of node x: of what it posted, the messages about pages are letters
-  pub leads_to : (spare : S) (o o' : Ordered (Host S)) (delivered : ℕ → ℕ → ℕ) (loose : List Letter)
+  pub leads_to : (spare : S) (o o' : FifoWorld (Host S)) (delivered : ℕ → ℕ → ℕ) (loose : List Letter)
       (x : ℕ) (h after : Host S) (ps : List Parcel) → slice_get o.cores x ≡ Some h
       → o'.cores ≡ slice_set o.cores x after
       → after.memory.coherence.me ≡ x → o'.posted ≡ extended o.posted ps → o'.delivered ≡ delivered
@@ -86,7 +86,7 @@ module _ {S : Type 0} where
       }
 
 -- the first message under way from one node to another is taken: one about a page is a letter
-module _ {S : Type 0} (o : Ordered (Host S)) (source x : ℕ) (m : Message)
+module _ {S : Type 0} (o : FifoWorld (Host S)) (source x : ℕ) (m : Message)
     (first : slice_get (o.posted source x) (o.delivered source x) ≡ Some m) where
   -- the letters delivered before it
   abbrev before : ℕ → ℕ → ℕ
@@ -168,13 +168,13 @@ pub record IsSent (c : Config) (i j : ℕ) (m : Message) : Type 0 where
 -- Each core is that of a sound node of this configuration, each message was sent by a node to
 -- another one, no more was delivered than was posted, and the messages of the heap are those of the
 -- calls that node 0 was asked for.
-pub record IsSoundWorld {S : Type 0} (ops : Ops S) (c : Config) (o : Ordered (Host S)) : Type 0
+pub record IsSoundWorld {S : Type 0} (ops : Ops S) (c : Config) (o : FifoWorld (Host S)) : Type 0
   where
     pub count : length o.cores ≡ c.nodes
     pub sound : (i : ℕ) (h : Host S) → slice_get o.cores i ≡ Some h → IsSoundHost ops c i h
     pub sent : (i j k : ℕ) (m : Message) → slice_get (o.posted i j) k ≡ Some m → IsSent c i j m
     pub within : IsWithin o
-    pub errands : AreErrands o
+    pub heap_requests : AreHeapRequests o
 
 -- what stands in two lists, one after the other
 get_either : {X : Type 0} (xs ys : List X) (k : ℕ) (x : X) → slice_get (xs ++ ys) k ≡ Some x
@@ -210,7 +210,7 @@ posted-sent c me i j (p ∷ ps) k m fits is =
 
 module _ {S : Type 0} (ops : Ops S) (c : Config) where
   -- a message of the heap fits a rule
-  pub fits_heap : (o o' : Ordered (Host S)) → IsSoundWorld ops c o
+  pub fits_heap : (o o' : FifoWorld (Host S)) → IsSoundWorld ops c o
       → (source x : ℕ) (t : Delivers (host_rules ops) o source x o')
       → is_of_pages t.message.content ≡ false → HeapDelivery ops o source x t.core t.message
   fits_heap o o' w source x t heap =
@@ -218,27 +218,27 @@ module _ {S : Type 0} (ops : Ops S) (c : Config) where
       w.sent source x (o.delivered source x) t.message t.first in
       let below = sent.below in
       let count = w.count in
-      heap_delivery ops c o o' w.within w.errands source x t (w.sound x t.core t.there)
+      heap_delivery ops c o o' w.within w.heap_requests source x t (w.sound x t.core t.there)
       (omega (arith, below, count)) sent.apart heap
 
-  delivered_errands : (o o' : Ordered (Host S)) → IsSoundWorld ops c o
+  delivered_heap_requests : (o o' : FifoWorld (Host S)) → IsSoundWorld ops c o
       → (source x : ℕ) (t : Delivers (host_rules ops) o source x o') (b : Bool)
-      → is_of_pages t.message.content ≡ b → AreErrands o'
-  delivered_errands o o' w source x t true about =
-      page_errands ops o o' w.within w.errands source x t about
-  delivered_errands o o' w source x t false heap =
-      heap_errands ops o o' w.within w.errands source x t heap (fits_heap o o' w source x t heap)
+      → is_of_pages t.message.content ≡ b → AreHeapRequests o'
+  delivered_heap_requests o o' w source x t true about =
+      page_heap_requests ops o o' w.within w.heap_requests source x t about
+  delivered_heap_requests o o' w source x t false heap =
+      requests_of_heap ops o o' w.within w.heap_requests source x t heap (fits_heap o o' w source x t heap)
 
 module _ {S : Type 0} (ops : Ops S) (c : Config)
-    (tame : IsTame (host_rules ops) c (IsSoundHost ops c)) where
+    (well_behaved : IsWellBehaved (host_rules ops) c (IsSoundHost ops c)) where
   -- an event of node x keeps it so
-  event_sound : (o o' : Ordered (Host S)) (x : ℕ) (h after : Host S) (ps : List Parcel)
+  event_sound : (o o' : FifoWorld (Host S)) (x : ℕ) (h after : Host S) (ps : List Parcel)
       (delivered : ℕ → ℕ → ℕ) → IsSoundWorld ops c o → slice_get o.cores x ≡ Some h
       → o'.cores ≡ slice_set o.cores x after
       → o'.posted ≡ extended o.posted ps → o'.delivered ≡ delivered
       → ((i j : ℕ) → delivered i j ≤ length (o.posted i j))
-      → IsSoundHost ops c x after × All (FitsParcel c x) ps → AreErrands o' → IsSoundWorld ops c o'
-  event_sound o o' x h after ps delivered w there cores sent done within good errands = record {
+      → IsSoundHost ops c x after × All (FitsParcel c x) ps → AreHeapRequests o' → IsSoundWorld ops c o'
+  event_sound o o' x h after ps delivered w there cores sent done within good heap_requests = record {
     count = ap length cores ∙ length-set o.cores x after ∙ w.count;
     sound = λ i k is. elim (get_set o.cores x h after i there) [
       | inl y ↦
@@ -259,19 +259,19 @@ module _ {S : Type 0} (ops : Ops S) (c : Config)
         let long : length (o'.posted i j) ≡ length (o.posted i j) + length (posted i j ps) =
         ap (λ g. length (g i j)) sent ∙ length-append (o.posted i j) (posted i j ps) in
         omega (arith, less, now, long));
-    errands = errands;
+    heap_requests = heap_requests;
   }
 
   -- and so does each step
-  pub steps_sound : (o o' : Ordered (Host S)) → IsSoundWorld ops c o → Steps (host_rules ops) o o'
+  pub steps_sound : (o o' : FifoWorld (Host S)) → IsSoundWorld ops c o → Steps (host_rules ops) o o'
       → IsSoundWorld ops c o'
   steps_sound o o' w (rests same) = subst (IsSoundWorld ops c) (sym same) w
   steps_sound o o' w (turns x t) =
       let good : IsSoundHost ops c x t.core = w.sound x t.core t.there in
       event_sound o o' x t.core t.outcome.after t.outcome.posted o.delivered w t.there t.cores
-      t.posted t.delivered w.within (tame.turn x t.core t.outcome good t.turned)
-      (turn_errands ops o o' w.within w.errands c x t good
-      (turn-cases ops c x t.core good t.outcome t.turned))
+      t.posted t.delivered w.within (well_behaved.turn x t.core t.outcome good t.turned)
+      (turn_heap_requests ops o o' w.within w.heap_requests c x t good
+      (turn_cases ops c x t.core good t.outcome t.turned))
   steps_sound o o' w (delivers source x t) =
       let sent : IsSent c source x t.message =
       w.sent source x (o.delivered source x) t.message t.first in
@@ -279,6 +279,6 @@ module _ {S : Type 0} (ops : Ops S) (c : Config)
       ((host_rules ops).serve t.core source t.message).posted (one_more o.delivered source x) w
       t.there t.cores t.posted t.delivered
       (within_taken o w.within source x t.message t.first)
-      (tame.serve x source t.core t.message (w.sound x t.core t.there) sent.below sent.apart
+      (well_behaved.serve x source t.core t.message (w.sound x t.core t.there) sent.below sent.apart
       sent.fits)
-      (delivered_errands ops c o o' w source x t (is_of_pages t.message.content) refl)
+      (delivered_heap_requests ops c o o' w source x t (is_of_pages t.message.content) refl)

@@ -8,7 +8,7 @@ use Rattle.ivy_moves.specs.ivy_link.Paired.{link_at}
 use Rattle.ivy_pagetable.specs.Manager.{Ops}
 use Rattle.ivy_program.specs.Programs.{Program}
 use Rattle.ivy_moves.specs.Nodes.{Node}
-use Rattle.ivy_moves.specs.Following.{ordered_of, links_of}
+use Rattle.ivy_moves.specs.Following.{fifo_of, links_of}
 use Rattle.ivy_host.specs.Hosts.{Host}
 use Rattle.ivy_host.specs.Openings.{opening, first_nodes}
 
@@ -37,7 +37,7 @@ module _ {S : Type 0} (ops : Ops S) (c : Config) where
       ∙ ap (option_map (λ (m : Node (Host S)). m.link)) is)
 
   pub opening_delivered : (programs : List Program) (i j : ℕ)
-      → (ordered_of (opening ops c programs) (λ i j. [])).delivered i j ≡ 0
+      → (fifo_of (opening ops c programs) (λ i j. [])).delivered i j ≡ 0
   opening_delivered programs i j = elim (slice_get_cases (opening ops c programs).nodes j).1 [
     | inl there ↦
         ap (λ l. (peer_at l i).delivered)

@@ -11,17 +11,17 @@ use Rattle.ivy_pagetable.specs.Entries.{put_offs}
 use Rattle.ivy_pagetable.specs.Manager.{Ops, Laws}
 use Rattle.ivy_program.specs.Programs.{Program}
 use Rattle.ivy_moves.specs.declared.moves.Move.{Move}
-use Rattle.ivy_moves.specs.Ordered.{Ordered}
+use Rattle.ivy_moves.specs.FifoWorld.{FifoWorld}
 use Rattle.ivy_moves.specs.Worlds.{World, Leads}
 use Rattle.ivy_moves.proofs.Opening.{opening_follows}
 use Rattle.ivy_host.specs.Hosts.{Host, host_rules}
 use Rattle.ivy_host.specs.Openings.{opening}
 use Rattle.ivy_host.specs.Sound.{IsSoundHost}
-use Rattle.ivy_host.proofs.Tame.{tame, opening_is}
+use Rattle.ivy_host.proofs.WellBehaved.{well_behaved, opening_is}
 use Rattle.proof_transitions.specs.Letters.{Letter, Net, Place, Underway, Aside, Loose, IsAt}
-use Rattle.proof_transitions.specs.Rows.{IsKept}
+use Rattle.proof_transitions.specs.Rows.{IsPreserved}
 use Rattle.proof_refinement.specs.Nets.{entry_of, manager_of, net_of, managers_of}
-use Rattle.proof_refinement.specs.Runs.{first_ordered, IsOrderedRun, IsReachedInOrder, FollowsInOrder}
+use Rattle.proof_refinement.specs.Runs.{first_ordered, IsFifoRun, IsReachedInOrder, FollowsInOrder}
 use Rattle.proof_refinement.proofs.Filtered.{filtered_from}
 use Rattle.proof_refinement.proofs.Led.{HasOrder, order_led}
 use Rattle.proof_refinement.proofs.LiftedWorlds.{IsSoundWorld, steps_sound}
@@ -29,22 +29,22 @@ use Rattle.proof_refinement.proofs.LiftedHosts.{kept-steps}
 use Rattle.proof_refinement.proofs.LiftedRuns.{Holds, sound_opening}
 
 module _ {S : Type 0} {ops : Ops S} {P : (ℕ → S) → Net → (ℕ → List ℕ) → Type 0} (laws : Laws ops)
-    (c : Config) (limits : IsConfig c) (kept : IsKept ops c P) (spare : S)
+    (c : Config) (limits : IsConfig c) (kept : IsPreserved ops c P) (spare : S)
     (programs : List Program) (many : length programs ≡ c.nodes) (f : ℕ → List ℕ)
     (first : P (managers_of spare (first_ordered ops c programs))
     (net_of (first_ordered ops c programs)) f) where
-  run_holds : (before : List (Ordered (Host S))) (o : Ordered (Host S))
-      → IsOrderedRun ops c programs before o → Holds ops c P spare o
+  run_holds : (before : List (FifoWorld (Host S))) (o : FifoWorld (Host S))
+      → IsFifoRun ops c programs before o → Holds ops c P spare o
   run_holds [] o is =
       subst (Holds ops c P spare) (sym is) (sound_opening laws c limits programs many, (f, first))
   run_holds (last ∷ before) o run =
       let h : Holds ops c P spare last = run_holds before last run.0 in (
-        steps_sound ops c (tame laws c) last o h.0 run.1,
+        steps_sound ops c (well_behaved laws c) last o h.0 run.1,
         (let all = kept-steps laws c kept spare last o h.1.0 h.0 h.1.1 run.1 in (all.0, all.1)),
       )
 
   -- P of each ordered world that is reached
-  pub reached_holds : (o : Ordered (Host S)) → IsReachedInOrder ops c programs o
+  pub reached_holds : (o : FifoWorld (Host S)) → IsReachedInOrder ops c programs o
       → Holds ops c P spare o
   reached_holds o reached = run_holds reached.0 o reached.1
 
@@ -54,7 +54,7 @@ module _ {S : Type 0} {ops : Ops S} (laws : Laws ops) (c : Config) (limits : IsC
       → Leads (host_rules ops) c (opening ops c programs) moves w → FollowsInOrder ops c programs w
   led_in_order moves w led =
       let h : HasOrder ops c (IsReachedInOrder ops c programs) w =
-      order_led ops c limits (tame laws c) (IsReachedInOrder ops c programs)
+      order_led ops c limits (well_behaved laws c) (IsReachedInOrder ops c programs)
       (λ o o' reached sound step. (o ∷ reached.0, (reached.1, step))) (opening ops c programs) w
       moves (record {
         posted = λ i j. [];
@@ -66,7 +66,7 @@ module _ {S : Type 0} {ops : Ops S} (laws : Laws ops) (c : Config) (limits : IsC
       record { posted = h.posted; follows = h.follows; reached = h.holds }
 
 -- the letters of a sound world are at its nodes, and so is who a node asks
-module _ {S : Type 0} (ops : Ops S) (c : Config) (o : Ordered (Host S))
+module _ {S : Type 0} (ops : Ops S) (c : Config) (o : FifoWorld (Host S))
     (sound : IsSoundWorld ops c o) where
   aside_below : (i p k : ℕ) (q : PutOff) → slice_get (put_offs ((net_of o).entry i p)) k ≡ Some q
       → i < c.nodes

@@ -12,18 +12,18 @@ use Rattle.ivy_pagetable.specs.Tables.{entry_at, first_entry}
 use Rattle.ivy_pagetable.specs.Manager.{Ops, Laws}
 use Rattle.ivy_program.specs.Programs.{Program}
 use Rattle.ivy_moves.specs.declared.moves.Move.{Move}
-use Rattle.ivy_moves.specs.Ordered.{Ordered}
+use Rattle.ivy_moves.specs.FifoWorld.{FifoWorld}
 use Rattle.ivy_moves.specs.Worlds.{World, Leads}
-use Rattle.ivy_moves.specs.Following.{ordered_of}
+use Rattle.ivy_moves.specs.Following.{fifo_of}
 use Rattle.ivy_moves.proofs.Opening.{opening_follows}
 use Rattle.ivy_host.specs.Hosts.{Host, host_rules, first_host}
 use Rattle.ivy_host.specs.Holding.{IsExclusive}
 use Rattle.ivy_host.specs.Openings.{opening}
 use Rattle.ivy_host.specs.Sound.{IsSoundHost}
-use Rattle.ivy_host.proofs.Tame.{opening_is}
+use Rattle.ivy_host.proofs.WellBehaved.{opening_is}
 use Rattle.proof_transitions.specs.Letters.{Net}
 use Rattle.proof_transitions.specs.Orderly.{IsOrderly}
-use Rattle.proof_transitions.specs.Rows.{IsKept}
+use Rattle.proof_transitions.specs.Rows.{IsPreserved}
 use Rattle.proof_refinement.specs.Nets.{about_pages}
 use Rattle.proof_refinement.proofs.Led.{HasOrder, core_there, opening_first}
 use Rattle.proof_refinement.proofs.Opened.{opening_delivered}
@@ -53,7 +53,7 @@ first_at i p n = elim (entry_first n p (first_entry i)) [
 module _ {S : Type 0} (ops : Ops S) (c : Config) where
   -- the net of the world as it begins
   pub first_net : (programs : List Program)
-      → IsFirst (net_of (ordered_of (opening ops c programs) (λ i j. [])))
+      → IsFirst (net_of (fifo_of (opening ops c programs) (λ i j. [])))
   first_net programs =
       record {
         entries = entries;
@@ -63,8 +63,8 @@ module _ {S : Type 0} (ops : Ops S) (c : Config) where
         loose = refl;
       }
     where
-      o : Ordered (Host S)
-      o = ordered_of (opening ops c programs) (λ i j. [])
+      o : FifoWorld (Host S)
+      o = fifo_of (opening ops c programs) (λ i j. [])
 
       entries : (i p : ℕ)
           → ((i ≡ 0) × ((net_of o).entry i p ≡ owned)) ⊎ ((net_of o).entry i p ≡ nothing)
@@ -82,11 +82,11 @@ module _ {S : Type 0} (ops : Ops S) (c : Config) where
 
 -- what the rows keep, and holds of the world as it begins, holds of each world that moves lead to
 module _ {S : Type 0} {ops : Ops S} {P : (ℕ → S) → Net → (ℕ → List ℕ) → Type 0} (laws : Laws ops)
-    (c : Config) (limits : IsConfig c) (kept : IsKept ops c P) (spare : S) where
+    (c : Config) (limits : IsConfig c) (kept : IsPreserved ops c P) (spare : S) where
   pub opening-led : (programs : List Program) → length programs ≡ c.nodes
       → (f : ℕ → List ℕ)
-      → P (managers_of spare (ordered_of (opening ops c programs) (λ i j. [])))
-      (net_of (ordered_of (opening ops c programs) (λ i j. []))) f
+      → P (managers_of spare (fifo_of (opening ops c programs) (λ i j. [])))
+      (net_of (fifo_of (opening ops c programs) (λ i j. []))) f
       → (moves : List Move) (w : World (Host S))
       → Leads (host_rules ops) c (opening ops c programs) moves w
       → HasOrder ops c (Holds ops c P spare) w
@@ -102,9 +102,9 @@ module _ {S : Type 0} {ops : Ops S} {P : (ℕ → S) → Net → (ℕ → List �
 module _ {S : Type 0} {ops : Ops S} (laws : Laws ops) (c : Config) (limits : IsConfig c) where
   -- an ordered world whose net is orderly is exclusive
   pub exclusive_world : (w : World (Host S)) (posted : ℕ → ℕ → List Message)
-      → IsOrderly c (net_of (ordered_of w posted)) → IsExclusive w
+      → IsOrderly c (net_of (fifo_of w posted)) → IsExclusive w
   exclusive_world w posted orderly p i j n m at_n at_m writes may_read =
-      orderly_exclusive c (net_of (ordered_of w posted)) orderly i j p
+      orderly_exclusive c (net_of (fifo_of w posted)) orderly i j p
       (ap (λ z. writable (entry_of z p)) (core_there w.nodes i n at_n) ∙ writes)
       (ap (λ z. readable (entry_of z p)) (core_there w.nodes j m at_m) ∙ may_read)
 

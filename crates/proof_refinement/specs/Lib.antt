@@ -1,4 +1,4 @@
-pub mod Errands
+pub mod HeapRequests
 pub mod Nets
 pub mod Runs
 pub use Rattle.ivy_host.specs.ivy_alloc as ivy_alloc

@@ -5,7 +5,7 @@ use Rattle.ivy_wire.specs.Data.{Message}
 use Rattle.ivy_pagetable.specs.declared.Entry.{Entry}
 use Rattle.ivy_pagetable.specs.Entries.{nothing}
 use Rattle.ivy_pagetable.specs.Tables.{entry_at, page_at}
-use Rattle.ivy_moves.specs.Ordered.{Ordered}
+use Rattle.ivy_moves.specs.FifoWorld.{FifoWorld}
 use Rattle.ivy_host.specs.ivy_heap.HeapCalls.{is_of_pages}
 use Rattle.ivy_host.specs.Hosts.{Host}
 use Rattle.proof_transitions.specs.Letters.{Letter, Net}
@@ -33,7 +33,7 @@ module _ {S : Type 0} where
   manager_of spare (Some h) = h.memory.coherence.manager
 
   -- with so many messages delivered, and these letters loose
-  abbrev pub net_with : Ordered (Host S) → (ℕ → ℕ → ℕ) → List Letter → Net
+  abbrev pub net_with : FifoWorld (Host S) → (ℕ → ℕ → ℕ) → List Letter → Net
   net_with o delivered loose = record {
     entry = λ i p. entry_of (slice_get o.cores i) p;
     page = λ i p. page_of (slice_get o.cores i) p;
@@ -44,9 +44,9 @@ module _ {S : Type 0} where
   }
 
   -- between events no letter is loose
-  abbrev pub net_of : Ordered (Host S) → Net
+  abbrev pub net_of : FifoWorld (Host S) → Net
   net_of o = net_with o o.delivered []
 
   -- the manager of each node, and a spare one beyond the nodes
-  abbrev pub managers_of : S → Ordered (Host S) → ℕ → S
+  abbrev pub managers_of : S → FifoWorld (Host S) → ℕ → S
   managers_of spare o i = manager_of spare (slice_get o.cores i)

@@ -4,29 +4,29 @@ use Rattle.ivy_model.specs.declared.Config.{Config}
 use Rattle.ivy_wire.specs.Data.{Message}
 use Rattle.ivy_pagetable.specs.Manager.{Ops}
 use Rattle.ivy_program.specs.Programs.{Program}
-use Rattle.ivy_moves.specs.Ordered.{Ordered, Steps}
+use Rattle.ivy_moves.specs.FifoWorld.{FifoWorld, Steps}
 use Rattle.ivy_moves.specs.Worlds.{World}
-use Rattle.ivy_moves.specs.Following.{Follows, ordered_of}
+use Rattle.ivy_moves.specs.Following.{Follows, fifo_of}
 use Rattle.ivy_host.specs.Hosts.{Host, host_rules}
 use Rattle.ivy_host.specs.Openings.{opening}
 use Rattle.ivy_host.specs.Sound.{IsSoundHost}
 
 module _ {S : Type 0} (ops : Ops S) (c : Config) (programs : List Program) where
   -- the ordered world of the opening, in which nothing was posted
-  abbrev pub first_ordered : Ordered (Host S)
-  first_ordered = ordered_of (opening ops c programs) (λ i j. [])
+  abbrev pub first_ordered : FifoWorld (Host S)
+  first_ordered = fifo_of (opening ops c programs) (λ i j. [])
 
   -- moves of the ordered world lead to it from the opening, by these worlds, the latest first
-  abbrev pub IsOrderedRun : List (Ordered (Host S)) → Ordered (Host S) → Type 0
-  IsOrderedRun [] end = end ≡ first_ordered
-  IsOrderedRun (last ∷ before) end = IsOrderedRun before last × Steps (host_rules ops) last end
+  abbrev pub IsFifoRun : List (FifoWorld (Host S)) → FifoWorld (Host S) → Type 0
+  IsFifoRun [] end = end ≡ first_ordered
+  IsFifoRun (last ∷ before) end = IsFifoRun before last × Steps (host_rules ops) last end
 
   -- some moves of the ordered world lead to it from the opening
-  abbrev pub IsReachedInOrder : Ordered (Host S) → Type 0
-  IsReachedInOrder o = (before : List (Ordered (Host S))) × IsOrderedRun before o
+  abbrev pub IsReachedInOrder : FifoWorld (Host S) → Type 0
+  IsReachedInOrder o = (before : List (FifoWorld (Host S))) × IsFifoRun before o
 
   -- the world follows an ordered one that is reached, in which these messages were posted
   pub record FollowsInOrder (w : World (Host S)) : Type 0 where
     pub posted : ℕ → ℕ → List Message
     pub follows : Follows c (IsSoundHost ops c) w posted
-    pub reached : IsReachedInOrder (ordered_of w posted)
+    pub reached : IsReachedInOrder (fifo_of w posted)

@@ -8,7 +8,7 @@ use Rattle.ivy_pagetable.specs.declared.PutOff.{PutOff}
 use Rattle.ivy_pagetable.specs.Entries.{with_put_off}
 use Rattle.proof_transitions.specs.Letters.{Letter, Net, Place, written}
 use Rattle.proof_transitions.specs.Orderly.{AwaitsCopy, AwaitsPage, IsOrderly}
-use Rattle.proof_transitions.proofs.Places.{written-here, written-other, same_or_other}
+use Rattle.proof_transitions.proofs.Places.{written_here, written-other, same_or_other}
 use Rattle.proof_transitions.proofs.Steps.{IsStep}
 use Rattle.proof_transitions.proofs.Parcels.{IsThe}
 use Rattle.proof_transitions.proofs.Fitting.{IsRequest}
@@ -78,7 +78,7 @@ pub written_claims : (n : Net) (x p : ℕ) (z : Entry) → claims z ≡ claims (
     → claims (written n.entry x p z y q) ≡ claims (n.entry y q)
 written_claims n x p z still y q = elim (same_or_other y q x p) [
   | inl same ↦
-      ap claims (written-here n.entry x p z y q same.0 same.1) ∙ still
+      ap claims (written_here n.entry x p z y q same.0 same.1) ∙ still
       ∙ sym (ap (λ i. claims (n.entry i q)) same.0 ∙ ap (λ j. claims (n.entry x j)) same.1)
   | inr other ↦ ap claims (written-other n.entry x p z y q other)
 ]

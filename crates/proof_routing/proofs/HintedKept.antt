@@ -17,7 +17,7 @@ use Rattle.ivy_pagetable.specs.NodeSets.{Nodes, nodes_with}
 use Rattle.ivy_pagetable.specs.Accesses.{reads}
 use Rattle.ivy_pagetable.specs.Entries.{put_offs, is_owner, with_put_off, copying, owning, sharing}
 use Rattle.proof_transitions.specs.ivy_coherence.Serving.{invalidations}
-use Rattle.proof_transitions.specs.ivy_coherence.Faults.{waiting_from}
+use Rattle.proof_transitions.specs.ivy_coherence.PageFaults.{waiting_from}
 use Rattle.proof_transitions.proofs.of_ivy_coherence.SoundEntries.{owner_put}
 use Rattle.ivy_dynamic.specs.Dynamic.{Hints, hint_of, hinted, dynamic_ops}
 use Rattle.proof_transitions.specs.Letters.{Letter, Net, Place, Loose, content_of, letter_of, goes_on, installs}

@@ -12,7 +12,7 @@ use Rattle.ivy_pagetable.specs.declared.Request.TheVariants as request
 use Rattle.ivy_pagetable.specs.Entries.{put_offs, can_put_off, with_put_off}
 use Rattle.proof_transitions.specs.Letters.{Letter, Net, Place, Underway, Aside, Loose, content_of, letter_of, IsAt, goes_on, installs}
 use Rattle.proof_transitions.specs.Rows.{letter, taken}
-use Rattle.proof_transitions.proofs.Places.{get_append, served, written-here}
+use Rattle.proof_transitions.proofs.Places.{get_append, served, written_here}
 use Rattle.proof_transitions.proofs.Parcels.{IsThe, rest_told, is_step}
 use Rattle.proof_transitions.proofs.Steps.{IsStep}
 use Rattle.proof_routing.proofs.Asked.{AreOld, part_old, asked_or_new, AreReaders, all_readers, sent_either}
@@ -70,7 +70,7 @@ put_off_there n x p r e rest room = (
   (
     r,
     ap (λ y. slice_get (put_offs y) (length (put_offs e) + 0))
-        (written-here n.entry x p (with_put_off e r) x p refl refl)
+        (written_here n.entry x p (with_put_off e r) x p refl refl)
         ∙ ap (λ v. slice_get v (length (put_offs e) + 0)) (put_last e r room)
         ∙ get_second (put_offs e) (r ∷ []) 0 (length (put_offs e) + 0) refl,
     refl,

@@ -10,7 +10,7 @@ use Rattle.proof_transitions.specs.Letters.{Letter, Net, goes_on, installs}
 use Rattle.proof_transitions.specs.Orderly.{Key, Own, Order, key_of}
 use Rattle.proof_transitions.specs.Rows.{taken}
 use Rattle.proof_transitions.proofs.Needs.{key_origin, key_page}
-use Rattle.proof_transitions.proofs.Places.{written-here, written-other, same_or_other}
+use Rattle.proof_transitions.proofs.Places.{written_here, written-other, same_or_other}
 use Rattle.proof_routing.proofs.Remaining.{HasKey, Remain, IsNothing, IsCounted, still_counted, installed_remain, taken_remain, taken_counted}
 
 -- a word that waits at this entry of the node waits for a letter with this key
@@ -109,7 +109,7 @@ module _ (n : Net) (x p : ℕ) (e z : Entry) (left : List Letter) (parcels : Lis
           let now : Wants z x p k =
           subst (λ b. Wants z x b k) same.1
           (subst (λ a. Wants z a q k) same.0
-          (subst (λ y. Wants y i q k) (written-here n.entry x p z i q same.0 same.1) w)) in
+          (subst (λ y. Wants y i q k) (written_here n.entry x p z i q same.0 same.1) w)) in
           elim (mine k now) [
             | inr there ↦ there
             | inl old ↦ spared k old.1 (o.owed x p k (subst (λ y. Wants y x p k) (sym is) old.0))

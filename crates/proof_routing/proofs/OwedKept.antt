@@ -19,10 +19,10 @@ use Rattle.ivy_pagetable.specs.States.{IdleState, WaitingState, AwaitAcksState}
 use Rattle.ivy_pagetable.specs.Entries.{put_offs, can_put_off, with_put_off, copying, owning}
 use Rattle.ivy_pagetable.specs.Manager.{Ops}
 use Rattle.proof_transitions.specs.ivy_coherence.Serving.{invalidations}
-use Rattle.proof_transitions.specs.ivy_coherence.Faults.{waiting_from}
+use Rattle.proof_transitions.specs.ivy_coherence.PageFaults.{waiting_from}
 use Rattle.proof_transitions.specs.Letters.{Letter, Net, content_of, letter_of, goes_on}
 use Rattle.proof_transitions.specs.Orderly.{Key, Order, key_of, IsOrderly}
-use Rattle.proof_transitions.specs.Rows.{letter, Served, Comes, Begins, Notice, Row, Claim, IsKept}
+use Rattle.proof_transitions.specs.Rows.{letter, Served, Comes, Begins, Notice, Row, Claim, IsPreserved}
 use Rattle.proof_transitions.proofs.Both.{both-kept}
 use Rattle.proof_transitions.proofs.Members.{without_itself, without_any}
 use Rattle.proof_transitions.proofs.Needs.{key_origin, key_page}
@@ -249,9 +249,9 @@ module _ (c : Config) (config : IsConfig c) where
 
 -- beside any claim under which nets are orderly and requests go down
 pub owed-kept : {S : Type 0} (ops : Ops S) (c : Config) → IsConfig c → (Q : Claim S)
-    → IsKept ops c Q
+    → IsPreserved ops c Q
     → ((m : ℕ → S) (n : Net) (f : ℕ → List ℕ) → Q m n f → IsOrderly c n × Descends n)
-    → IsKept ops c (λ m n f. Q m n f × IsOwed n)
+    → IsPreserved ops c (λ m n f. Q m n f × IsOwed n)
 owed-kept ops c config Q kept known = both-kept kept (record {
   by = λ row of before after owed.
       (let k = known _ _ _ before in owed_by c config row k.0 k.1 owed);

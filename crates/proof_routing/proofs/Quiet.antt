@@ -6,7 +6,7 @@ use Rattle.ivy_model.specs.Config.{IsConfig}
 use Rattle.ivy_pagetable.specs.Manager.{Ops}
 use Rattle.proof_transitions.specs.Letters.{Net}
 use Rattle.proof_transitions.specs.Orderly.{IsOrderly}
-use Rattle.proof_transitions.specs.Rows.{Notice, Row, Claim, IsNamedBy, IsKept, noticed}
+use Rattle.proof_transitions.specs.Rows.{Notice, Row, Claim, IsNamedBy, IsPreserved, noticed}
 use Rattle.proof_transitions.proofs.OrderlyKept.{orderly_by}
 use Rattle.proof_routing.specs.Descending.{Descends}
 use Rattle.proof_routing.proofs.NoBreach.{no_breach}
@@ -33,7 +33,7 @@ pub record IsRoutedBy {S : Type 0} (ops : Ops S) (c : Config)
 
 pub quiet-kept : {S : Type 0} {ops : Ops S} {c : Config} {Routed : (ℕ → S) → Net → Type 0}
     → IsConfig c → IsRoutedBy ops c Routed
-    → IsKept ops c (IsQuiet Routed c)
+    → IsPreserved ops c (IsQuiet Routed c)
 quiet-kept {c = c} config routed = record {
   by = λ row of q. (
     orderly_by c config row q.0,

@@ -20,7 +20,7 @@ use Rattle.proof_transitions.specs.ivy_coherence.Serving.{invalidations}
 use Rattle.proof_transitions.specs.Letters.{Letter, Net, Place, Underway, Aside, Loose, letter_of, IsAt, goes_on, installs}
 use Rattle.proof_transitions.specs.Orderly.{Key, Order, key_of}
 use Rattle.proof_transitions.specs.Rows.{letter, taken}
-use Rattle.proof_transitions.proofs.Places.{written-here, written-other, same_or_other}
+use Rattle.proof_transitions.proofs.Places.{written_here, written-other, same_or_other}
 
 -- a letter is there
 abbrev pub IsThere : Net → Letter → Type 0
@@ -140,7 +140,7 @@ module _ (n : Net) (x p : ℕ) (e z : Entry) (left : List Letter) (parcels : Lis
     Aside x p j,
     (
       r,
-      ap (λ y. slice_get (put_offs y) j) (written-here n.entry x p z x p refl refl)
+      ap (λ y. slice_get (put_offs y) j) (written_here n.entry x p z x p refl refl)
           ∙ same j r (ap (λ y. slice_get (put_offs y) j) (sym is) ∙ h),
       refl,
     ),
@@ -241,7 +241,7 @@ module _ (n : Net) (s x : ℕ) (m : Message)
         Underway i j b,
         (
           let now : after_taking.delivered i j ≡ n.delivered i j + 1 =
-              written-here (λ u v. n.delivered i j) s x (n.delivered i j + 1) i j same.0 same.1 in
+              written_here (λ u v. n.delivered i j) s x (n.delivered i j + 1) i j same.0 same.1 in
               let low : n.delivered i j ≤ b = at.0 in
               omega (arith, now, low, ne),
           at.1,
@@ -258,7 +258,7 @@ module _ (n : Net) (s x : ℕ) (m : Message)
         let within : n.delivered s x < length (n.posted s x) =
         slice_get_within (n.posted s x) (n.delivered s x) m first in
         let now : after_taking.delivered i j ≡ n.delivered i j + 1 =
-        written-here (λ a b. n.delivered i j) s x (n.delivered i j + 1) i j same.0 same.1 in
+        written_here (λ a b. n.delivered i j) s x (n.delivered i j + 1) i j same.0 same.1 in
         let old : n.delivered i j ≡ n.delivered s x =
         ap (λ a. n.delivered a j) same.0 ∙ ap (n.delivered s) same.1 in
         let long : length (n.posted i j) ≡ length (n.posted s x) =

@@ -12,7 +12,7 @@ use Rattle.ivy_pagetable.specs.declared.Word.{Word}
 use Rattle.ivy_pagetable.specs.States.{IdleState}
 use Rattle.ivy_pagetable.specs.Entries.{without}
 use Rattle.ivy_pagetable.specs.Accesses.{reads}
-use Rattle.proof_transitions.specs.ivy_coherence.Faults.{waiting_from}
+use Rattle.proof_transitions.specs.ivy_coherence.PageFaults.{waiting_from}
 use Rattle.ivy_fixed.specs.Fixed.{Owners, owner_kept, hop_of, fixed_ops}
 use Rattle.ivy_fixed.specs.FixedLaws.{fixed_laws}
 use Rattle.proof_transitions.specs.Letters.{Letter, Net, Place, Underway, Loose, goes_on}

@@ -17,15 +17,15 @@ use Rattle.ivy_pagetable.specs.declared.Entry.{Entry}
 use Rattle.ivy_pagetable.specs.declared.Entry.TheVariants as entry
 use Rattle.ivy_pagetable.specs.Entries.{is_locked}
 use Rattle.ivy_pagetable.specs.Manager.{Ops}
-use Rattle.ivy_moves.specs.Ordered.{Ordered}
+use Rattle.ivy_moves.specs.FifoWorld.{FifoWorld}
 use Rattle.proof_answers.specs.proof_progress.ivy_host.Hosts.{Host}
 use Rattle.proof_answers.specs.proof_progress.ivy_host.Sound.{IsSoundHost}
-use Rattle.proof_answers.specs.proof_progress.proof_refinement.ivy_heap.declared.Errand.{Errand}
-use Rattle.proof_answers.specs.proof_progress.proof_refinement.ivy_heap.declared.Errand.TheVariants as errand
+use Rattle.proof_answers.specs.proof_progress.proof_refinement.ivy_heap.declared.HeapRequest.{HeapRequest}
+use Rattle.proof_answers.specs.proof_progress.proof_refinement.ivy_heap.declared.HeapRequest.TheVariants as heap_request
 use Rattle.proof_answers.specs.proof_progress.proof_refinement.ivy_heap.HeapCalls.{is_of_pages}
 use Rattle.proof_answers.specs.proof_progress.proof_refinement.proof_transitions.Letters.{Letter, Net, Underway, IsAt}
 use Rattle.proof_answers.specs.proof_progress.proof_refinement.proof_transitions.Orderly.{Own, Order, key_as, key_of, AwaitsCopy, AwaitsPage, Collects, IsExpectedAs, IsOrderly}
-use Rattle.proof_answers.specs.proof_progress.proof_refinement.Errands.{heap_way, IsErrandAt, resting, asking, answered, AreErrands}
+use Rattle.proof_answers.specs.proof_progress.proof_refinement.HeapRequests.{heap_way, IsHeapRequestAt, resting, asking, answered, AreHeapRequests}
 use Rattle.proof_answers.specs.proof_progress.proof_refinement.Nets.{about_pages, entry_of, net_of}
 
 -- the list from where its first part ends, of which a test keeps some
@@ -194,10 +194,10 @@ page_in n l (ordering page key from waits) =
 page_in n l (answering page key to waits) =
     (page, others_lock (n.entry l.message.origin page) waits)
 
-module _ {S : Type 0} (ops : Ops S) (c : Config) (o : Ordered (Host S))
+module _ {S : Type 0} (ops : Ops S) (c : Config) (o : FifoWorld (Host S))
     (orderly : IsOrderly c (net_of o))
     (sound : (i : ℕ) (h : Host S) → slice_get o.cores i ≡ Some h → IsSoundHost ops c i h)
-    (errands : AreErrands o) where
+    (heap_requests : AreHeapRequests o) where
   abbrev n : Net
   n = net_of o
 
@@ -377,8 +377,8 @@ module _ {S : Type 0} (ops : Ops S) (c : Config) (o : Ordered (Host S))
         let b : length (heap_way o i j) ≡ 0 = ap length none in
         omega (arith, a, b, both, many)
 
-    one_heap : (x : ℕ) (h : Host S) (m : Message) (e : Errand) → x < c.nodes
-        → slice_get o.cores x ≡ Some h → h.memory.side.errand ≡ Some e → heap_way o i j ≡ m ∷ []
+    one_heap : (x : ℕ) (h : Host S) (m : Message) (e : HeapRequest) → x < c.nodes
+        → slice_get o.cores x ≡ Some h → h.memory.side.heap_request ≡ Some e → heap_way o i j ≡ m ∷ []
         → IsFew i j
     one_heap x h m e below there asked one =
         let free = ((sound x h there).memory.apart e asked).0 in
@@ -388,19 +388,19 @@ module _ {S : Type 0} (ops : Ops S) (c : Config) (o : Ordered (Host S))
 
   -- of the heap one message at most, of a node that waits at no page
   few_there : (x : ℕ) (h : Host S) → x ≢ 0 → x < c.nodes → slice_get o.cores x ≡ Some h
-      → (e : Option Errand) → h.memory.side.errand ≡ e
-      → IsErrandAt x e (heap_way o x 0) (heap_way o 0 x) → IsFew x 0 × IsFew 0 x
+      → (e : Option HeapRequest) → h.memory.side.heap_request ≡ e
+      → IsHeapRequestAt x e (heap_way o x 0) (heap_way o 0 x) → IsFew x 0 × IsFew 0 x
   few_there x h apart below there e is (resting rest go back) = (
     no_heap x 0 apart go,
     no_heap 0 x (λ z. apart (sym z)) back,
   )
   few_there x h apart below there e is (asking k number asked go back) = (
-    one_heap x 0 apart x h _ (errand.Asked k number) below there (is ∙ asked) go,
+    one_heap x 0 apart x h _ (heap_request.Asked k number) below there (is ∙ asked) go,
     no_heap 0 x (λ z. apart (sym z)) back,
   )
   few_there x h apart below there e is (answered k number body r asked go back reply can) = (
     no_heap x 0 apart go,
-    one_heap 0 x (λ z. apart (sym z)) x h _ (errand.Asked k number) below there (is ∙ asked) back,
+    one_heap 0 x (λ z. apart (sym z)) x h _ (heap_request.Asked k number) below there (is ∙ asked) back,
   )
 
   pub few_under_way : (i j : ℕ) → i ≢ j → i < c.nodes → j < c.nodes → i < length o.cores
@@ -412,8 +412,8 @@ module _ {S : Type 0} (ops : Ops S) (c : Config) (o : Ordered (Host S))
           | inl h ↦
               (let other : j ≢ 0 = λ z. apart (home ∙ sym z) in
               subst (λ z. IsFew z j) (sym home)
-              (few_there j h.0 other b h.2 h.0.memory.side.errand refl
-              (errands.each j h.0 other h.2)).1)
+              (few_there j h.0 other b h.2 h.0.memory.side.heap_request refl
+              (heap_requests.each j h.0 other h.2)).1)
         ]
     | inr away ↦
         elim (cases_eq j 0) [
@@ -422,9 +422,9 @@ module _ {S : Type 0} (ops : Ops S) (c : Config) (o : Ordered (Host S))
                 | inr past ↦ absurd (let z = past.0 in omega (arith, z, at))
                 | inl h ↦
                     subst (IsFew i) (sym home)
-                    (few_there i h.0 away a h.2 h.0.memory.side.errand refl
-                    (errands.each i h.0 away h.2)).0
+                    (few_there i h.0 away a h.2 h.0.memory.side.heap_request refl
+                    (heap_requests.each i h.0 away h.2)).0
               ]
-          | inr other ↦ no_heap i j apart (errands.apart i j away other)
+          | inr other ↦ no_heap i j apart (heap_requests.apart i j away other)
         ]
   ]

@@ -3,9 +3,9 @@ use Rattle.std.proofs.Common.{◌≡◌, ◌<◌, length, map, sym, ap, subst, a
 use Rattle.std.proofs.lemmas.List.{length-map, length-drop}
 use Rattle.std.proofs.lemmas.Option.{slice_get_within}
 use Rattle.ivy_moves.specs.ivy_link.Linked.{Linked, peer_at}
-use Rattle.ivy_moves.specs.Following.{links_of, ordered_of}
+use Rattle.ivy_moves.specs.Following.{links_of, fifo_of}
 use Rattle.ivy_moves.specs.Nodes.{Node}
-use Rattle.ivy_moves.proofs.Places.{link-of}
+use Rattle.ivy_moves.proofs.Places.{link_of}
 use Rattle.proof_answers.specs.proof_progress.ivy_host.Hosts.{Host}
 use Rattle.proof_answers.specs.proof_progress.ivy_host.Managers.{Managed, managed_ops}
 use Rattle.proof_answers.specs.proof_progress.ivy_host.ManagedLaws.{managed_laws}
@@ -20,7 +20,7 @@ pub few_are_under_way : FewAreUnderWay
 few_are_under_way c programs w of i j n m apart here there =
     let f : FollowsInOrder managed_ops c programs w =
     led_in_order managed_laws c of.limits programs of.many of.moves w of.led in
-    let waits = either_awaited c of.limits programs of.many (ordered_of w f.posted) f.reached in
+    let waits = either_awaited c of.limits programs of.many (fifo_of w f.posted) f.reached in
     let a : i < length w.nodes = slice_get_within w.nodes i n here in
     let b : j < length w.nodes = slice_get_within w.nodes j m there in
     let count = f.follows.nodes in
@@ -29,7 +29,7 @@ few_are_under_way c programs w of i j n m apart here there =
     let links : length (links_of w) ≡ length w.nodes =
     length-map w.nodes (λ (x : Node (Host Managed)). x.link) in
     let few =
-    few_under_way managed_ops c (ordered_of w f.posted) waits.0
+    few_under_way managed_ops c (fifo_of w f.posted) waits.0
     (λ x h at.
     let node = get_mapped (λ (z : Node (Host Managed)). z.core) w.nodes h x at in
     subst (IsSoundHost managed_ops c x) (sym node.2) (f.follows.sound x node.0 node.1)) waits.2 i j
@@ -37,8 +37,8 @@ few_are_under_way c programs w of i j n m apart here there =
     (omega (arith, b, cores)) in
     let sent =
     f.follows.paired.counted i j (omega (arith, a, links)) (omega (arith, b, links)) in
-    let there_sent = ap (λ (l : Linked). (peer_at l j).sent) (link-of w.nodes i n here) in
-    let there_come = ap (λ (l : Linked). (peer_at l i).delivered) (link-of w.nodes j m there) in
+    let there_sent = ap (λ (l : Linked). (peer_at l j).sent) (link_of w.nodes i n here) in
+    let there_come = ap (λ (l : Linked). (peer_at l i).delivered) (link_of w.nodes j m there) in
     let left =
-    length-drop ((ordered_of w f.posted).delivered i j) (f.posted i j) in
+    length-drop ((fifo_of w f.posted).delivered i j) (f.posted i j) in
     omega (arith, few, sent, there_sent, there_come, left)

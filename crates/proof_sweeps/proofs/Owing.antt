@@ -19,11 +19,11 @@ use Rattle.ivy_moves.specs.ivy_link.Pulsed.{owing_nothing}
 use Rattle.ivy_moves.specs.declared.Move.{Move}
 use Rattle.ivy_moves.specs.declared.Move.TheVariants.{Turn, Deliver, Pulse}
 use Rattle.ivy_moves.specs.Cores.{Core}
-use Rattle.ivy_moves.specs.Following.{links_of, IsTame, IsString, FollowsStep}
+use Rattle.ivy_moves.specs.Following.{links_of, IsWellBehaved, IsString, FollowsStep}
 use Rattle.ivy_moves.specs.Nodes.{Node, Effect, stays, turned, verdict_of, delivered, pulsing}
 use Rattle.ivy_moves.specs.Worlds.{World, early_of, gone_on, remembered, turn_of, delivery_of, Moves, GoesOnWith}
 use Rattle.ivy_moves.proofs.Following.{went, remembered-went, early-follows}
-use Rattle.ivy_moves.proofs.Places.{link-of, read-either, peer-other, set-there}
+use Rattle.ivy_moves.proofs.Places.{link_of, read-either, peer-other, set-there}
 use Rattle.ivy_moves.proofs.of_ivy_link.Holds.{pulsed-delivered}
 use Rattle.ivy_moves.proofs.of_ivy_link.Pairs.{link_at-with}
 use Rattle.proof_answers.proofs.LinkEvents.{IsTellingAll, pulse_tells}
@@ -39,12 +39,12 @@ remembered_all P early i x old new k =
     (λ e. All-push P (get_or early i []) x (old i) new) (old k)
 
 module _ {C : Type 0} (rules : Core C) (c : Config) (Sound : ℕ → C → Type 0) (config : IsConfig c)
-    (tame : IsTame rules c Sound) (i j d b : ℕ) where
+    (well_behaved : IsWellBehaved rules c Sound) (i j d b : ℕ) where
   abbrev Good : World C → Type 0
-  Good w = Stands rules c Sound config tame w
+  Good w = Stands rules c Sound config well_behaved w
 
   abbrev Goes : World C → World C → Type 0
-  Goes w v = IsAfter rules c Sound config tame w v
+  Goes w v = IsAfter rules c Sound config well_behaved w v
 
   -- of the frames of node j for node i those whose numbers are above b acknowledge d at least
   abbrev pub IsLate : List ℕ → Type 0
@@ -94,7 +94,7 @@ module _ {C : Type 0} (rules : Core C) (c : Config) (Sound : ℕ → C → Type 
     links_set = map-set (λ (m : Node C). m.link) w.nodes k e.after
 
     link_is : at k ≡ n.link
-    link_is = link-of w.nodes k n there
+    link_is = link_of w.nodes k n there
 
     linked : (P : Linked → Type 0) (x : ℕ) → (x ≡ k → P e.after.link) → (x ≢ k → P (at x))
         → P (link_at (links_of v) x)
@@ -169,8 +169,8 @@ module _ {C : Type 0} (rules : Core C) (c : Config) (Sound : ℕ → C → Type 
   turn_acts : (w : World C) (s : Good w) (k : ℕ) (n : Node C) (e : Effect C)
       → slice_get w.nodes k ≡ Some n → turned rules n ≡ Some e → Acts k n e
   turn_acts w s k n e there made =
-      let posts = turn_posts rules c Sound config tame (λ y. come w k y) k n
-      (node_at rules c Sound config tame w s k n there) e made in
+      let posts = turn_posts rules c Sound config well_behaved (λ y. come w k y) k n
+      (node_at rules c Sound config well_behaved w s k n there) e made in
       record {
         strings = posts.strings;
         owes = λ _. posts.owes i;
@@ -198,14 +198,14 @@ module _ {C : Type 0} (rules : Core C) (c : Config) (Sound : ℕ → C → Type 
     told_here mine = subst (λ y. f.ack ≤ come w y f.source) mine tells.ack
 
     is_at : n.link.me ≡ k
-    is_at = (node_at rules c Sound config tame w s k n there).me
+    is_at = (node_at rules c Sound config well_behaved w s k n there).me
 
     pub takes : f.dest ≡ n.link.me
-        → Accepts rules c Sound config tame (λ y. come w k y) k n
-        (node_at rules c Sound config tame w s k n there) f bytes tells.spells told_here e
+        → Accepts rules c Sound config well_behaved (λ y. come w k y) k n
+        (node_at rules c Sound config well_behaved w s k n there) f bytes tells.spells told_here e
     takes mine =
-        delivery_accepts rules c Sound config tame (λ y. come w k y) k n
-        (node_at rules c Sound config tame w s k n there) f bytes tells.spells told_here mine e made
+        delivery_accepts rules c Sound config well_behaved (λ y. come w k y) k n
+        (node_at rules c Sound config well_behaved w s k n there) f bytes tells.spells told_here mine e made
 
     mine_acts : IsLate bytes → f.dest ≡ n.link.me → Acts k n e
     mine_acts late mine =
@@ -231,7 +231,7 @@ module _ {C : Type 0} (rules : Core C) (c : Config) (Sound : ℕ → C → Type 
               let one = accept_most a.mid f j in
               let next = accept_counts a.mid f j (omega (arith, before, now, few, more)) in
               let drop =
-              drops rules c Sound config tame w s k n there bytes tells e made
+              drops rules c Sound config well_behaved w s k n there bytes tells e made
               (mine ∙ is_at) in
               let ack : (f.number ≤ b) ⊎ (d ≤ f.ack) =
               late f tells.spells next.1 (mine ∙ is_at ∙ here) in
@@ -252,8 +252,8 @@ module _ {C : Type 0} (rules : Core C) (c : Config) (Sound : ℕ → C → Type 
     other_acts : f.dest ≢ n.link.me → Acts k n e
     other_acts other =
         let same : e ≡ stays n =
-        delivery_other rules c Sound config tame (λ y. come w k y) k n
-        (node_at rules c Sound config tame w s k n there) f bytes tells.spells told_here other e
+        delivery_other rules c Sound config well_behaved (λ y. come w k y) k n
+        (node_at rules c Sound config well_behaved w s k n there) f bytes tells.spells told_here other e
         made
         in
         subst (Acts k n) (sym same) (record {
@@ -322,7 +322,7 @@ module _ {C : Type 0} (rules : Core C) (c : Config) (Sound : ℕ → C → Type 
         at = at;
         made = made;
         tells = tells;
-        after = (string_came rules c Sound config tame w v s k bytes tells (slice_get w.nodes k)
+        after = (string_came rules c Sound config well_behaved w v s k bytes tells (slice_get w.nodes k)
             refl
             made step).after;
       }
@@ -331,8 +331,8 @@ module _ {C : Type 0} (rules : Core C) (c : Config) (Sound : ℕ → C → Type 
       → (m : Moves rules c w (Deliver index k) v) → First w m.mid index k
   first_of w v s index k m =
       first_of_case w m.mid s index k (slice_get w.sent index) refl
-      (delivery_made rules c Sound config tame w m.mid index k m.made)
-      (step_of rules c Sound config tame w m.mid s (Deliver index k) m.made)
+      (delivery_made rules c Sound config well_behaved w m.mid index k m.made)
+      (step_of rules c Sound config well_behaved w m.mid s (Deliver index k) m.made)
 
   -- the node goes on
   pub goes_on_owing : (more : List (List ℕ)) (w v : World C) (k : ℕ) → Good w
@@ -341,9 +341,9 @@ module _ {C : Type 0} (rules : Core C) (c : Config) (Sound : ℕ → C → Type 
   goes_on_owing (bytes ∷ more) w v k s on h =
       let tells = All-contains (Tells c w) (early_of w k) bytes (s.told.early k) on.0 in
       let came =
-      string_came rules c Sound config tame w on.1.0 s k bytes tells (slice_get w.nodes k) refl
+      string_came rules c Sound config well_behaved w on.1.0 s k bytes tells (slice_get w.nodes k) refl
       on.1.1
-      (early-follows rules c Sound tame config w on.1.0 s.posted k bytes s.follows on.0 on.1.1) in
+      (early-follows rules c Sound well_behaved config w on.1.0 s.posted k bytes s.follows on.0 on.1.1) in
       goes_on_owing more on.1.0 v k came.after.stands on.1.2
       (string_owes w on.1.0 s k bytes tells
       (All-contains IsLate (early_of w k) bytes (h.early k) on.0) (slice_get w.nodes k) refl on.1.1
@@ -364,14 +364,14 @@ module _ {C : Type 0} (rules : Core C) (c : Config) (Sound : ℕ → C → Type 
       → Acts k n (pulsing n to)
   unfolding pulsing
   pulse_acts w v s k to n there apart inside other =
-      let place = node_at rules c Sound config tame w s k n there in
+      let place = node_at rules c Sound config well_behaved w s k n there in
       record {
         strings = pulse_tells c k n.link to place.me place.inside inside apart
             (place.small to inside)
             (subst (λ l. (peer_at l to).sent < 2 ^ 64)
-            (link_here rules c Sound config tame w s k n there) (s.follows.numbers k to))
-            (kept_few rules c Sound config tame w s k n there to inside)
-            (kept_fits rules c Sound config tame w s k n there to inside);
+            (link_here rules c Sound config well_behaved w s k n there) (s.follows.numbers k to))
+            (kept_few rules c Sound config well_behaved w s k n there to inside)
+            (kept_fits rules c Sound config well_behaved w s k n there to inside);
         owes = λ from owed.
             inl (ap (λ (p : Peer). p.owed)
             (peer-other n.link to i (owing_nothing (peer_at n.link to)) (λ e. other from (sym e)))
@@ -383,7 +383,7 @@ module _ {C : Type 0} (rules : Core C) (c : Config) (Sound : ℕ → C → Type 
   pulse_owes : (w v : World C) (s : Good w) (k to : ℕ) → Moves rules c w (Pulse k to) v
       → to < c.nodes → (k ≡ j → to ≡ i → ⊥) → Owes w → Owes v
   pulse_owes w v s k to m inside other h =
-      let is = pulse_is rules c Sound config tame w v s k to m in
+      let is = pulse_is rules c Sound config well_behaved w v s k to m in
       subst Owes is.2
       (owes_event w s k is.0 is.1 (pulsing is.0 to)
       (pulse_acts w v s k to is.0 is.1 is.3 inside other) w.early h.early
@@ -393,26 +393,26 @@ module _ {C : Type 0} (rules : Core C) (c : Config) (Sound : ℕ → C → Type 
   pub move_owes : (w v : World C) (s : Good w) (move : Move) → (move ≡ Pulse j i → ⊥)
       → Moves rules c w move v → Owes w → Owes v
   move_owes w v s (Turn k) other m h =
-      let made = turn_made rules c Sound config tame w m.mid k m.made in
+      let made = turn_made rules c Sound config well_behaved w m.mid k m.made in
       let after : Goes w m.mid =
-      subst (Goes w) m.goes_on.1 (move_after rules c Sound config tame w v s (Turn k) m) in
+      subst (Goes w) m.goes_on.1 (move_after rules c Sound config well_behaved w v s (Turn k) m) in
       subst Owes (sym m.goes_on.1)
       (turn_owes w m.mid s k (slice_get w.nodes k) refl made after h)
   move_owes w v s (Deliver index k) other m h = delivery_owes w v s index k m h
   move_owes w v s (Pulse k to) other m h =
-      pulse_owes w v s k to m (pulse_inside rules c Sound config tame w v s k to m)
+      pulse_owes w v s k to m (pulse_inside rules c Sound config well_behaved w v s k to m)
       (λ from at. other (ap (λ x. Pulse x to) from ∙ ap (Pulse j) at)) h
 
 -- Once a string has come that is the next one, or came before, the node owes.
 module _ {C : Type 0} (rules : Core C) (c : Config) (Sound : ℕ → C → Type 0) (config : IsConfig c)
-    (tame : IsTame rules c Sound) (i j : ℕ) where
+    (well_behaved : IsWellBehaved rules c Sound) (i j : ℕ) where
   abbrev Fine : World C → Type 0
-  Fine w = Stands rules c Sound config tame w
+  Fine w = Stands rules c Sound config well_behaved w
 
   -- a string has a number that was sent
   number_sent : (w : World C) (s : Fine w) → i < length (links_of w) → j < length (links_of w)
       → (bytes : List ℕ) → IsString c s.posted bytes
-      → IsLate rules c Sound config tame i j (come w i j) (known w j i).sent bytes
+      → IsLate rules c Sound config well_behaved i j (come w i j) (known w j i).sent bytes
   number_sent w s a b bytes is f spells source dest =
       let same : is.0 ≡ f = spelled_same c config is.0 f bytes is.1 spells in
       let made : IsMade c.nodes s.posted f = subst (IsMade c.nodes s.posted) same is.2 in
@@ -435,20 +435,20 @@ module _ {C : Type 0} (rules : Core C) (c : Config) (Sound : ℕ → C → Type 
     pub count : ℕ
     pub number : ℕ
     pub low : come w i j ≤ count
-    pub owes : Owes rules c Sound config tame i j count number v
+    pub owes : Owes rules c Sound config well_behaved i j count number v
 
   module _ (w v : World C) (s : Fine w) (index : ℕ) (m : Moves rules c w (Deliver index j) v)
       (f : Frame) (bytes : List ℕ) (there : slice_get w.sent index ≡ Some bytes)
       (spells : Spells c f bytes) (source : f.source ≡ i) (dest : f.dest ≡ j) (some : 1 ≤ f.number)
       (near : f.number ≤ come w i j + 1) (inside : i < c.nodes) where
-    begins_case : (first : First rules c Sound config tame i j 0 0 w m.mid index j)
+    begins_case : (first : First rules c Sound config well_behaved i j 0 0 w m.mid index j)
         → (o : Option (Node C)) → slice_get w.nodes j ≡ o
         → delivery_of rules c w j o (Some first.string) ≡ Some m.mid → (known m.mid j i).owed ≡ true
     begins_case first None at made = absurd (none-some m.mid made)
     begins_case first (Some n) at made =
         let x = verdict_of c n first.string in
         let e = remembered-went w j x first.string (delivered rules c n first.string) m.mid made in
-        let place = node_at rules c Sound config tame w s j n at in
+        let place = node_at rules c Sound config well_behaved w s j n at in
         let same : first.tells.frame ≡ f =
         spelled_same c config first.tells.frame f first.string first.tells.spells
         (subst (Spells c f) (same_Some bytes first.string (sym there ∙ first.at)) spells) in
@@ -457,13 +457,13 @@ module _ {C : Type 0} (rules : Core C) (c : Config) (Sound : ℕ → C → Type 
         let from : first.tells.frame.source ≡ i = ap (λ (g : Frame). g.source) same ∙ source in
         let number : first.tells.frame.number ≡ f.number = ap (λ (g : Frame). g.number) same in
         let a =
-        takes rules c Sound config tame i j 0 0 w s j n at first.string first.tells e.0 e.1 mine in
+        takes rules c Sound config well_behaved i j 0 0 w s j n at first.string first.tells e.0 e.1 mine in
         let long = place.peers in
         let peers = a.posts.peers in
         let counted = a.posts.delivered i in
         let here : come w i j ≡ (peer_at n.link i).delivered =
         ap (λ (l : Linked). (peer_at l i).delivered)
-        (link_here rules c Sound config tame w s j n at) in
+        (link_here rules c Sound config well_behaved w s j n at) in
         let alike : (peer_at a.mid first.tells.frame.source).delivered
         ≡ (peer_at a.mid i).delivered =
         ap (λ y. (peer_at a.mid y).delivered) from in
@@ -476,12 +476,12 @@ module _ {C : Type 0} (rules : Core C) (c : Config) (Sound : ℕ → C → Type 
         record (gone_on w j e.0) { early = remembered x w.early j first.string } in
         subst (λ (z : World C). (known z j i).owed ≡ true) e.2
         (ap (λ (l : Linked). (peer_at l i).owed)
-        (link-of last.nodes j e.0.after (set-there w.nodes j e.0.after n at) ∙ a.is)
+        (link_of last.nodes j e.0.after (set-there w.nodes j e.0.after n at) ∙ a.is)
         ∙ ap (λ y. (peer_at (accepted a.mid first.tells.frame) y).owed) (sym from) ∙ owed)
 
     pub begins_owing : HasBegun w v
     begins_owing =
-        let first = first_of rules c Sound config tame i j 0 0 w v s index j m in
+        let first = first_of rules c Sound config well_behaved i j 0 0 w v s index j m in
         let z = first.after.stands in
         let low = first.after.more i j in
         let count = z.follows.nodes in
@@ -498,25 +498,25 @@ module _ {C : Type 0} (rules : Core C) (c : Config) (Sound : ℕ → C → Type 
           number = (known m.mid j i).sent;
           low = low;
           owes =
-              goes_on_owing rules c Sound config tame i j (come m.mid i j) (known m.mid j i).sent
+              goes_on_owing rules c Sound config well_behaved i j (come m.mid i j) (known m.mid j i).sent
               m.more
               m.mid v j z m.goes_on (record {
                 low = omega arith;
                 counted = omega arith;
                 strings = All-weaker (IsString c z.posted)
-                    (IsLate rules c Sound config tame i j (come m.mid i j) (known m.mid j i).sent)
+                    (IsLate rules c Sound config well_behaved i j (come m.mid i j) (known m.mid j i).sent)
                     (number_sent m.mid z a at) m.mid.sent z.follows.strings;
                 early = λ k. All-weaker (IsString c z.posted)
-                    (IsLate rules c Sound config tame i j (come m.mid i j) (known m.mid j i).sent)
+                    (IsLate rules c Sound config well_behaved i j (come m.mid i j) (known m.mid j i).sent)
                     (number_sent m.mid z a at) (early_of m.mid k) (z.follows.early k);
                 heard = inl (omega (arith, paired, counted));
                 told = inl (begins_case first (slice_get w.nodes j) refl first.made);
               });
         }
       where
-        delivered_inside : (first : First rules c Sound config tame i j 0 0 w m.mid index j)
+        delivered_inside : (first : First rules c Sound config well_behaved i j 0 0 w m.mid index j)
             → (o : Option (Node C)) → slice_get w.nodes j ≡ o
             → delivery_of rules c w j o (Some first.string) ≡ Some m.mid → j < c.nodes
         delivered_inside first None at made = absurd (none-some m.mid made)
         delivered_inside first (Some n) at made =
-            (node_at rules c Sound config tame w s j n at).inside
+            (node_at rules c Sound config well_behaved w s j n at).inside

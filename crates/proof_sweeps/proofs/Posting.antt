@@ -13,7 +13,7 @@ use Rattle.ivy_moves.specs.ivy_link.declared.Verdict.TheVariants as verdict
 use Rattle.ivy_moves.specs.ivy_link.Linked.{Peer, Linked, peer_at, with_message, sent_one, after_sends, frames_of, has_numbers}
 use Rattle.ivy_moves.specs.ivy_link.Accepted.{offered, accepted, heard, verdict_on, delivered_then, is_owing}
 use Rattle.ivy_moves.specs.Cores.{Core, Outcome}
-use Rattle.ivy_moves.specs.Following.{IsTame}
+use Rattle.ivy_moves.specs.Following.{IsWellBehaved}
 use Rattle.ivy_moves.specs.Nodes.{Node, Effect, stays, posting, accepting, turned, turned_to, served_next, received, received_as, delivered}
 use Rattle.ivy_moves.proofs.of_ivy_link.Holds.{sends-delivered, offered-here}
 use Rattle.ivy_moves.proofs.of_ivy_link.Peers.{accepted-mine, accepted-other}
@@ -200,7 +200,7 @@ accept_sent k f j = elim (cases_eq f.dest k.me) [
 ]
 
 module _ {C : Type 0} (rules : Core C) (c : Config) (Sound : ℕ → C → Type 0) (config : IsConfig c)
-    (tame : IsTame rules c Sound) (there : ℕ → ℕ) (i : ℕ) (n : Node C) (at : IsAt c Sound i n) where
+    (well_behaved : IsWellBehaved rules c Sound) (there : ℕ → ℕ) (i : ℕ) (n : Node C) (at : IsAt c Sound i n) where
   posting_posts : (core : C) (ps : List Parcel) → All (FitsParcel c i) ps → (e : Effect C)
       → posting n core ps ≡ Some e → Posts c i n.link e.after.link e.sent
   posting_posts core ps fit e is =
@@ -228,7 +228,7 @@ module _ {C : Type 0} (rules : Core C) (c : Config) (Sound : ℕ → C → Type 
       → turned_to rules n o ≡ Some e → Posts c i n.link e.after.link e.sent
   turned_posts None is e eq = stays_posts e eq
   turned_posts (Some o) is e eq =
-      posting_posts o.after o.posted (tame.turn i n.core o at.sound is).1 e eq
+      posting_posts o.after o.posted (well_behaved.turn i n.core o at.sound is).1 e eq
 
   pub turn_posts : (e : Effect C) → turned rules n ≡ Some e → Posts c i n.link e.after.link e.sent
   unfolding turned
@@ -261,7 +261,7 @@ module _ {C : Type 0} (rules : Core C) (c : Config) (Sound : ℕ → C → Type 
         (posting n (rules.serve n.core f.source m).after (rules.serve n.core f.source m).posted)
         (λ d made. posting_posts (rules.serve n.core f.source m).after
         (rules.serve n.core f.source m).posted
-        (parcels_fit rules c Sound config tame there i n at f bytes spells told next m is) d made) e
+        (parcels_fit rules c Sound config well_behaved there i n at f bytes spells told next m is) d made) e
         eq
 
     received_accepts : (v : Verdict) → offered n.link f ≡ v → v ≢ verdict.NotMine → (e : Effect C)
@@ -287,7 +287,7 @@ module _ {C : Type 0} (rules : Core C) (c : Config) (Sound : ℕ → C → Type 
     unfolding received
     delivery_accepts mine e eq =
         received_accepts (offered n.link f) refl (is_mine mine) e
-        (sym (received_is rules c Sound config tame there i n at f bytes spells told) ∙ eq)
+        (sym (received_is rules c Sound config well_behaved there i n at f bytes spells told) ∙ eq)
 
     pub delivery_other : f.dest ≢ n.link.me → (e : Effect C) → delivered rules c n bytes ≡ Some e
         → e ≡ stays n
@@ -295,4 +295,4 @@ module _ {C : Type 0} (rules : Core C) (c : Config) (Sound : ℕ → C → Type 
     delivery_other other e eq =
         sym (same_Some (stays n) e
         (sym (ap (λ v. received_as rules v n f) (is_other other))
-        ∙ sym (received_is rules c Sound config tame there i n at f bytes spells told) ∙ eq))
+        ∙ sym (received_is rules c Sound config well_behaved there i n at f bytes spells told) ∙ eq))

@@ -14,7 +14,7 @@ use Rattle.ivy_moves.specs.ivy_link.Pulsed.{numbered, ack_alone, frames_of_pulse
 use Rattle.ivy_moves.specs.declared.Move.{Move}
 use Rattle.ivy_moves.specs.declared.Move.TheVariants.{Turn, Deliver, Pulse}
 use Rattle.ivy_moves.specs.Cores.{Core}
-use Rattle.ivy_moves.specs.Following.{IsTame}
+use Rattle.ivy_moves.specs.Following.{IsWellBehaved}
 use Rattle.ivy_moves.specs.Nodes.{Node, pulsing}
 use Rattle.ivy_moves.specs.Worlds.{World, gone_on, Moves, Leads}
 use Rattle.proof_answers.specs.proof_progress.ivy_host.Hosts.{Host, host_rules}
@@ -78,7 +78,7 @@ pulse_none i to p (k ∷ ks) is none = absurd (kept_none p.kept is none)
     kept_none (x ∷ xs) is e = cc
 
 module _ (c : Config) (limits : IsConfig c)
-    (tame : IsTame (host_rules managed_ops) c (IsSoundHost managed_ops c)) where
+    (well_behaved : IsWellBehaved (host_rules managed_ops) c (IsSoundHost managed_ops c)) where
   abbrev rules : Core (Host Managed)
   rules = host_rules managed_ops
 
@@ -86,10 +86,10 @@ module _ (c : Config) (limits : IsConfig c)
   Sound = IsSoundHost managed_ops c
 
   abbrev Good : World (Host Managed) → Type 0
-  Good w = Stands rules c Sound limits tame w
+  Good w = Stands rules c Sound limits well_behaved w
 
   abbrev Goes : World (Host Managed) → World (Host Managed) → Type 0
-  Goes w v = IsAfter rules c Sound limits tame w v
+  Goes w v = IsAfter rules c Sound limits well_behaved w v
 
   pub heard_leads : (moves : List Move) (w end : World (Host Managed)) → AllHeard c w moves end
       → Leads rules c w moves end
@@ -99,10 +99,10 @@ module _ (c : Config) (limits : IsConfig c)
   heard_after : (moves : List Move) (w end : World (Host Managed)) → Good w
       → AllHeard c w moves end → Goes w end
   heard_after [] w end s h =
-      subst (Goes w) (sym h) (after_none rules c Sound limits tame w s)
+      subst (Goes w) (sym h) (after_none rules c Sound limits well_behaved w s)
   heard_after (move ∷ moves) w end s h =
-      let first = move_after rules c Sound limits tame w h.1.0 s move h.1.1 in
-      after_then rules c Sound limits tame w h.1.0 end first
+      let first = move_after rules c Sound limits well_behaved w h.1.0 s move h.1.1 in
+      after_then rules c Sound limits well_behaved w h.1.0 end first
       (heard_after moves h.1.0 end first.stands h.1.2)
 
   -- where a move is made
@@ -123,18 +123,18 @@ module _ (c : Config) (limits : IsConfig c)
         before = w;
         after = h.1.0;
         rest = moves;
-        goes = after_none rules c Sound limits tame w s;
+        goes = after_none rules c Sound limits well_behaved w s;
         made = subst (λ x. Moves rules c w x h.1.0) same h.1.1;
         heard = subst (λ x. IsMoveHeard c w x moves) same h.0;
         onward = h.1.2;
       }
   find (m ∷ moves) (suc k) move at w end s h =
-      let first = move_after rules c Sound limits tame w h.1.0 s m h.1.1 in
+      let first = move_after rules c Sound limits well_behaved w h.1.0 s m h.1.1 in
       let rest : Made h.1.0 move end = find moves k move at h.1.0 end first.stands h.1.2 in record {
         before = rest.before;
         after = rest.after;
         rest = rest.rest;
-        goes = after_then rules c Sound limits tame w h.1.0 rest.before first
+        goes = after_then rules c Sound limits well_behaved w h.1.0 rest.before first
             rest.goes;
         made = rest.made;
         heard = rest.heard;
@@ -147,13 +147,13 @@ module _ (c : Config) (limits : IsConfig c)
       (heard : IsMoveHeard c w (Pulse i j) rest) (h : AllHeard c v rest end) where
     abbrev is : (n : Node (Host Managed)) × (slice_get w.nodes i ≡ Some n)
         × (gone_on w i (pulsing n j) ≡ v) × (i ≢ j) × Goes w v
-    is = pulse_is rules c Sound limits tame w v s i j m
+    is = pulse_is rules c Sound limits well_behaved w v s i j m
 
     inside : j < c.nodes
-    inside = pulse_inside rules c Sound limits tame w v s i j m
+    inside = pulse_inside rules c Sound limits well_behaved w v s i j m
 
     peer_is : known w i j ≡ peer_at is.0.link j
-    peer_is = ap (λ l. peer_at l j) (link_here rules c Sound limits tame w s i is.0 is.1)
+    peer_is = ap (λ l. peer_at l j) (link_here rules c Sound limits well_behaved w s i is.0 is.1)
 
     last : Goes v end
     last = heard_after rest v end is.4.stands h
@@ -169,11 +169,11 @@ module _ (c : Config) (limits : IsConfig c)
     pub reaches : last_again (known w i j) ≤ come end i j
     reaches =
         let n = node_there in
-        let a = pulse_reaches rules c Sound limits tame i j w v end s is.0 n.0 is.3
+        let a = pulse_reaches rules c Sound limits well_behaved i j w v end s is.0 n.0 is.3
         is.1 inside is.2 is.4 rest (heard_leads rest v end h) n.1 (heard is.0 is.1) in
         let b : come end i j ≡ (peer_at n.0.link i).delivered =
         ap (λ (l : Linked). (peer_at l i).delivered)
-        (link_here rules c Sound limits tame end last.stands j n.0 n.1) in
+        (link_here rules c Sound limits well_behaved end last.stands j n.0 n.1) in
         let e : last_again (known w i j) ≡ last_again (peer_at is.0.link j) =
         ap last_again peer_is in
         omega (arith, a, b, e)
@@ -182,7 +182,7 @@ module _ (c : Config) (limits : IsConfig c)
         → come w j i + length (known end j i).kept ≤ (known end j i).sent
     tells some =
         let n = node_there in
-        let a = pulse_acks rules c Sound limits tame i j w v end s is.0 n.0 is.3
+        let a = pulse_acks rules c Sound limits well_behaved i j w v end s is.0 n.0 is.3
         is.1 inside is.2 is.4 rest (heard_leads rest v end h) n.1 (heard is.0 is.1) some in
         let e : come w j i ≡ (peer_at is.0.link j).delivered =
         ap (λ (p : Peer). p.delivered) peer_is in
@@ -194,7 +194,7 @@ module _ (c : Config) (limits : IsConfig c)
         let n = node_there in
         let p : Peer = peer_at is.0.link j in
         let sent : (pulsing is.0 j).sent ≡ map spelling (frames_of_pulse p.kept i j p) =
-        strings rules c Sound limits tame i j w v end s is.0 n.0 is.3 is.1 inside
+        strings rules c Sound limits well_behaved i j w v end s is.0 n.0 is.3 is.1 inside
         is.2 is.4 rest (heard_leads rest v end h) n.1 (heard is.0 is.1) in
         let both = pulse_none i j p p.kept refl (sym sent ∙ none) in (
           λ owed. both.0 (ap (λ (q : Peer). q.owed) (sym peer_is) ∙ owed),
@@ -208,20 +208,20 @@ module _ (c : Config) (limits : IsConfig c)
     first_again x ks kept =
         let n = node_there in
         let p : Peer = peer_at is.0.link j in
-        let at = node_at rules c Sound limits tame w s i is.0 is.1 in
+        let at = node_at rules c Sound limits well_behaved w s i is.0 is.1 in
         let again : List Message = take most_again p.kept in
         let base : ℕ = p.sent - length p.kept in
         let within : length p.kept ≤ p.sent =
-        kept_few rules c Sound limits tame w s i is.0 is.1 j inside in
+        kept_few rules c Sound limits well_behaved w s i is.0 is.1 j inside in
         let few : p.sent < 2 ^ 64 =
         subst (λ l. (peer_at l j).sent < 2 ^ 64)
-        (link_here rules c Sound limits tame w s i is.0 is.1)
+        (link_here rules c Sound limits well_behaved w s i is.0 is.1)
         (s.follows.numbers i j) in
         let short = length-take most_again p.kept in
         let some : length p.kept ≡ suc (length ks) = ap length kept in
         let sent : (pulsing is.0 j).sent
         ≡ map spelling (numbered i j p.delivered (base + 1) again) =
-        strings rules c Sound limits tame i j w v end s is.0 n.0 is.3 is.1 inside
+        strings rules c Sound limits well_behaved i j w v end s is.0 n.0 is.3 is.1 inside
         is.2 is.4 rest (heard_leads rest v end h) n.1 (heard is.0 is.1)
         ∙ ap (λ l. map spelling (frames_of_pulse l i j p)) kept in
         let count : length (pulsing is.0 j).sent ≡ length again =
@@ -231,7 +231,7 @@ module _ (c : Config) (limits : IsConfig c)
         numbered_are c i j p.delivered at.inside inside is.3 (at.small j inside) base again
         (omega (arith, within, short, few))
         (all_taken c i most_again p.kept
-        (kept_fits rules c Sound limits tame w s i is.0 is.1 j inside)) in
+        (kept_fits rules c Sound limits well_behaved w s i is.0 is.1 j inside)) in
         let all : v.sent ≡ w.sent ++ map spelling (numbered i j p.delivered (base + 1) again) =
         ap (λ (z : World (Host Managed)). z.sent) (sym is.2) ∙ ap (λ l. w.sent ++ l) sent in
         let first =
@@ -257,7 +257,7 @@ module _ (c : Config) (limits : IsConfig c)
     mid : World (Host Managed)
     rest : List Move
     good : Good mid
-    begun : HasBegun rules c Sound limits tame i j w mid
+    begun : HasBegun rules c Sound limits well_behaved i j w mid
     onward : AllHeard c mid rest end
 
   begins : (i j : ℕ) → i ≢ j → i < c.nodes → (moves : List Move) (w end : World (Host Managed))
@@ -276,10 +276,10 @@ module _ (c : Config) (limits : IsConfig c)
               record {
                 mid = h.1.0;
                 rest = moves;
-                good = (move_after rules c Sound limits tame w h.1.0 s move
+                good = (move_after rules c Sound limits well_behaved w h.1.0 s move
                     h.1.1).stands;
                 begun =
-                    begins_owing rules c Sound limits tame i j w h.1.0 s
+                    begins_owing rules c Sound limits well_behaved i j w h.1.0 s
                     place m at.is.frame at.string at.there at.is.spells at.is.source at.is.dest
                     (let z = at.is.number in omega (arith, z, some))
                     (let z = at.is.number in omega (arith, z, near)) inside;
@@ -288,7 +288,7 @@ module _ (c : Config) (limits : IsConfig c)
             ))
         | inr rest ↦
             (let after =
-            move_after rules c Sound limits tame w h.1.0 s move h.1.1 in
+            move_after rules c Sound limits well_behaved w h.1.0 s move h.1.1 in
             let more = after.more i j in
             let found =
             begins i j apart inside moves h.1.0 end after.stands number place n some
@@ -311,16 +311,16 @@ module _ (c : Config) (limits : IsConfig c)
       let x = heard_after one w first s a in
       let y = heard_after two first second x.stands b in
       let u = heard_after three second end y.stands z in
-      after_then rules c Sound limits tame w first end x
-      (after_then rules c Sound limits tame first second end y u)
+      after_then rules c Sound limits well_behaved w first end x
+      (after_then rules c Sound limits well_behaved first second end y u)
 
   -- until node j's first pulse to node i
   module _ (i j d b : ℕ) where
     abbrev IsOwing : World (Host Managed) → Type 0
-    IsOwing w = Owes rules c Sound limits tame i j d b w
+    IsOwing w = Owes rules c Sound limits well_behaved i j d b w
 
     abbrev WasHeard : World (Host Managed) → Type 0
-    WasHeard w = HasHeard rules c Sound limits tame i j d b w
+    WasHeard w = HasHeard rules c Sound limits well_behaved i j d b w
 
     at_pulse : (w v end : World (Host Managed)) (s : Good w)
         → (m : Moves rules c w (Pulse j i) v) → (rest : List Move)
@@ -336,9 +336,9 @@ module _ (c : Config) (limits : IsConfig c)
         let none = sends_none j i w v end s m rest heard h sent in
         let here = is j i w v end s m rest heard h in
         let later : Goes w end =
-        after_then rules c Sound limits tame w v end here.4
+        after_then rules c Sound limits well_behaved w v end here.4
         (last j i w v end s m rest heard h) in
-        heard_on rules c Sound limits tame i j d b w end later
+        heard_on rules c Sound limits well_behaved i j d b w end later
         (elim owing.told [
           | inl owed ↦ absurd (none.0 owed)
           | inr others ↦
@@ -349,10 +349,10 @@ module _ (c : Config) (limits : IsConfig c)
                       | inr before ↦ before
                       | inl few ↦
                           absurd
-                          (let links = many_links rules c Sound limits tame w s j here.0
+                          (let links = many_links rules c Sound limits well_behaved w s j here.0
                           here.1 in
                           let a =
-                          link_inside rules c Sound limits tame w s j here.0 here.1
+                          link_inside rules c Sound limits well_behaved w s j here.0 here.1
                           in
                           let to = inside j i w v end s m rest heard h in
                           let kept = s.told.kept j i here.3 a (omega (arith, to, links)) in
@@ -379,10 +379,10 @@ module _ (c : Config) (limits : IsConfig c)
           (pulsing (is j i w h.1.0 end s m moves heard h.1.2).0 i).sent refl)
       | inr other ↦
           (let after =
-          move_after rules c Sound limits tame w h.1.0 s move h.1.1 in
+          move_after rules c Sound limits well_behaved w h.1.0 s move h.1.1 in
           let on =
           until_pulse moves h.1.0 end after.stands
-          (move_owes rules c Sound limits tame i j d b w h.1.0 s move other h.1.1
+          (move_owes rules c Sound limits well_behaved i j d b w h.1.0 s move other h.1.1
           owing) h.1.2 in
           elim on [
             | inl heard ↦ inl heard
@@ -436,7 +436,7 @@ module _ (c : Config) (limits : IsConfig c)
         elim (until_pulse i j d b rest u first good owing h) [
           | inl heard ↦
               by_third d low
-              (heard_on rules c Sound limits tame i j d b first second goes_two heard)
+              (heard_on rules c Sound limits well_behaved i j d b first second goes_two heard)
           | inr still ↦
               elim (until_pulse i j d b two first second goes_one.stands still.0 h_two) [
                 | inl heard ↦ by_third d low heard
@@ -455,10 +455,10 @@ module _ (c : Config) (limits : IsConfig c)
         let kept : length (known m.before i j).kept ≡ 0 =
         ap (λ (p : Peer). length p.kept) peer ∙ ap length none in
         let links =
-        many_links rules c Sound limits tame m.before m.goes.stands i here.0 here.1
+        many_links rules c Sound limits well_behaved m.before m.goes.stands i here.0 here.1
         in
         let at =
-        link_inside rules c Sound limits tame m.before m.goes.stands i here.0 here.1
+        link_inside rules c Sound limits well_behaved m.before m.goes.stands i here.0 here.1
         in
         let to = inside i j m.before m.after first m.goes.stands m.made m.rest m.heard m.onward in
         let told = m.goes.stands.told.kept i j apart at (omega (arith, to, links)) in
@@ -476,10 +476,10 @@ module _ (c : Config) (limits : IsConfig c)
         some in
         let n = again_first.1.0 in
         let links =
-        many_links rules c Sound limits tame m.before m.goes.stands i here.0 here.1
+        many_links rules c Sound limits well_behaved m.before m.goes.stands i here.0 here.1
         in
         let at =
-        link_inside rules c Sound limits tame m.before m.goes.stands i here.0 here.1
+        link_inside rules c Sound limits well_behaved m.before m.goes.stands i here.0 here.1
         in
         let to = inside i j m.before m.after first m.goes.stands m.made m.rest m.heard m.onward in
         let told = m.goes.stands.told.kept i j apart at (omega (arith, to, links)) in

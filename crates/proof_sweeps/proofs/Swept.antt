@@ -9,7 +9,7 @@ use Rattle.proof_answers.specs.proof_progress.ivy_host.Hosts.{host_rules}
 use Rattle.proof_answers.specs.proof_progress.ivy_host.Managers.{managed_ops}
 use Rattle.proof_answers.specs.proof_progress.ivy_host.Sound.{IsSoundHost}
 use Rattle.proof_answers.proofs.Told.{come, known, link_here}
-use Rattle.proof_answers.proofs.Pulsed.{led_stands, tamed}
+use Rattle.proof_answers.proofs.Pulsed.{led_stands, keeps_well_behaved}
 use Rattle.proof_sweeps.specs.Sweeps.{SweepsDeliver, SweepsAreRounds}
 use Rattle.proof_sweeps.proofs.FewWorlds.{few_are_under_way}
 use Rattle.proof_sweeps.proofs.Sweeping.{place_of, heard_leads, goes_last, all_three}
@@ -31,7 +31,7 @@ part_at (y ∷ xs) (suc k) x at =
 pub sweeps_deliver : SweepsDeliver
 sweeps_deliver c programs w end of one two three t x y n m apart here there =
     let good = led_stands c programs w of in
-    let tame = tamed c programs w of in
+    let well_behaved = keeps_well_behaved c programs w of in
     let a = t.one_is.heard in
     let b = t.two_is.heard in
     let d = t.three_is.heard in
@@ -39,7 +39,7 @@ sweeps_deliver c programs w end of one two three t x y n m apart here there =
     let below : x < c.nodes =
     (let z = slice_get_within w.nodes x n here in omega (arith, z, nodes)) in
     let last =
-    goes_last c of.limits tame w t.first t.second end good one two three a b d in
+    goes_last c of.limits well_behaved w t.first t.second end good one two three a b d in
     let many = last.stands.follows.nodes in
     let inside : y < c.nodes =
     (let z = slice_get_within end.nodes y m there in omega (arith, z, many)) in
@@ -49,20 +49,20 @@ sweeps_deliver c programs w end of one two three t x y n m apart here there =
           (let few = few_are_under_way c programs w of x y n was.0 apart here was.2 in
           let sent : known w x y ≡ peer_at n.link y =
           ap (λ l. peer_at l y)
-          (link_here (host_rules managed_ops) c (IsSoundHost managed_ops c) of.limits tame w good x
+          (link_here (host_rules managed_ops) c (IsSoundHost managed_ops c) of.limits well_behaved w good x
           n here) in
           let came : come w x y ≡ (peer_at was.0.link x).delivered =
           ap (λ (l : Linked). (peer_at l x).delivered)
-          (link_here (host_rules managed_ops) c (IsSoundHost managed_ops c) of.limits tame w good y
+          (link_here (host_rules managed_ops) c (IsSoundHost managed_ops c) of.limits well_behaved w good y
           was.0 was.2) in
           let comes : come end x y ≡ (peer_at m.link x).delivered =
           ap (λ (l : Linked). (peer_at l x).delivered)
-          (link_here (host_rules managed_ops) c (IsSoundHost managed_ops c) of.limits tame end
+          (link_here (host_rules managed_ops) c (IsSoundHost managed_ops c) of.limits well_behaved end
           last.stands y m there) in
           let count = ap (λ (p : Peer). p.sent) sent in
           let most = of.limits.nodes_to in
           let all =
-          all_three c of.limits tame x y apart below w t.first t.second end good one two three a b d
+          all_three c of.limits well_behaved x y apart below w t.first t.second end good one two three a b d
           (place_of one (Pulse x y) (t.one_is.all x y below inside apart))
           (place_of two (Pulse y x) (t.two_is.all y x inside below (λ e. apart (sym e))))
           (place_of three (Pulse x y) (t.three_is.all x y below inside apart))
@@ -77,9 +77,9 @@ sweeps_are_rounds c programs w end of one two three t i at =
     let led : Leads (host_rules managed_ops) c w (one ++ two ++ three) end =
     leads_on (host_rules managed_ops) c w t.second end (one ++ two) three
     (leads_on (host_rules managed_ops) c w t.first t.second one two
-    (heard_leads c of.limits (tamed c programs w of) one w t.first t.one_is.heard)
-    (heard_leads c of.limits (tamed c programs w of) two t.first t.second t.two_is.heard))
-    (heard_leads c of.limits (tamed c programs w of) three t.second end t.three_is.heard) in
+    (heard_leads c of.limits (keeps_well_behaved c programs w of) one w t.first t.one_is.heard)
+    (heard_leads c of.limits (keeps_well_behaved c programs w of) two t.first t.second t.two_is.heard))
+    (heard_leads c of.limits (keeps_well_behaved c programs w of) three t.second end t.three_is.heard) in
     record {
       before = parts.before;
       after = parts.after;

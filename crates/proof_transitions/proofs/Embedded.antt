@@ -5,7 +5,7 @@ use Rattle.std.proofs.Common.{◌≡◌, ◌<◌, ℕ, Bool, true, false, List, 
 use Rattle.ivy_model.specs.declared.Config.{Config}
 use Rattle.ivy_pagetable.specs.Manager.{Ops}
 use Rattle.proof_transitions.specs.Letters.{Net}
-use Rattle.proof_transitions.specs.Rows.{Notice, Silent, Asked, Forwarded, Given, Replied, Invalidated, Claim, IsNamedBy, IsKept, noticed, with_manager}
+use Rattle.proof_transitions.specs.Rows.{Notice, Silent, Asked, Forwarded, Given, Replied, Invalidated, Claim, IsNamedBy, IsPreserved, noticed, with_manager}
 
 -- the calls of a manager of the large kind, where it is one of the small kind
 pub record Embeds {S T : Type 0} (small : Ops S) (large : Ops T) (embed : S → T) : Type 0 where
@@ -77,7 +77,7 @@ pub embedded-kept : {S T : Type 0} {small : Ops S} {large : Ops T} (embed : S �
     → (s : ℕ → S) × AreWithin embed c s m × P s n f)
     → ((s : ℕ → S) (m : ℕ → T) (n : Net) (f : ℕ → List ℕ) → AreWithin embed c s m → P s n f
     → Q m n f)
-    → IsKept small c P → IsKept large c Q
+    → IsPreserved small c P → IsPreserved large c Q
 embedded-kept {small = small} {large = large} embed e c P Q says said kept = record {
   by = λ {m} {n} {f} {notice} {n'} {f'} row of q. (
       let w = says m n f q in

@@ -5,7 +5,7 @@ use Rattle.ivy_model.specs.Config.{IsConfig}
 use Rattle.ivy_pagetable.specs.Manager.{Ops}
 use Rattle.proof_transitions.specs.Letters.{Net}
 use Rattle.proof_transitions.specs.Orderly.{IsOrderly}
-use Rattle.proof_transitions.specs.Rows.{Notice, Row, IsKept}
+use Rattle.proof_transitions.specs.Rows.{Notice, Row, IsPreserved}
 use Rattle.proof_transitions.proofs.Relabelled.{installed, letter_taken, letter_dropped}
 use Rattle.proof_transitions.proofs.RowsAsked.{read_sent_on, write_sent_on, copy_ended, copy_ended_waiting, put_aside}
 use Rattle.proof_transitions.proofs.RowsGiven.{copy_given, page_given}
@@ -38,5 +38,5 @@ module _ (c : Config) (config : IsConfig c) where
   orderly_by (Row.ends_copies r owner reader unwritten low out) o = copies_ordered_back c _ r o owner reader
 
 pub orderly-kept : {S : Type 0} (ops : Ops S) (c : Config) → IsConfig c
-    → IsKept ops c (λ m n f. IsOrderly c n)
+    → IsPreserved ops c (λ m n f. IsOrderly c n)
 orderly-kept ops c config = record { by = λ row of order. orderly_by c config row order }

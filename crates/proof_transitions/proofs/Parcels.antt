@@ -17,7 +17,7 @@ use Rattle.ivy_pagetable.specs.Entries.{put_offs}
 use Rattle.ivy_coherence.specs.Serving.{invalidations}
 use Rattle.proof_transitions.specs.Letters.{Letter, Net, Place, Underway, Aside, Loose, letter_of, goes_on}
 use Rattle.proof_transitions.specs.Rows.{letter}
-use Rattle.proof_transitions.proofs.Places.{get_map, written-here, written-other, same_or_other, served, freed, IsOld, AreTold, told_letters}
+use Rattle.proof_transitions.proofs.Places.{get_map, written_here, written-other, same_or_other, served, freed, IsOld, AreTold, told_letters}
 use Rattle.proof_transitions.proofs.Steps.{IsStep}
 
 -- the place and the letter are these
@@ -160,7 +160,7 @@ module _ (n : Net) (x p : ℕ) (e z : Entry) where
       → IsStep n (goes_on n x p z left parcels) x p e z now New
   is_step left parcels now New is t = record {
     before = is;
-    after = written-here n.entry x p z x p refl refl;
+    after = written_here n.entry x p z x p refl refl;
     elsewhere =
         λ i q. elim (same_or_other i q x p) [
           | inl same ↦ inl same
@@ -242,7 +242,7 @@ module _ (n : Net) (x p : ℕ) (e z : Entry) where
             get_map (letter_of x p) put_off l k h in (
               Aside x p k,
               (f.0, ap (λ y. slice_get (put_offs y) k) is ∙ ap (λ v. slice_get v k) same ∙ f.1, f.2),
-              sym (written-here (λ a b. Aside a b k) x p (Loose k) x p refl refl),
+              sym (written_here (λ a b. Aside a b k) x p (Loose k) x p refl refl),
               λ b. cc,
             )
             );

@@ -28,9 +28,9 @@ get_map f (x ∷ xs) y zero h = (x, refl, sym (same_Some (f x) y h))
 get_map f (x ∷ xs) y (suc k) h = get_map f xs y k h
 
 -- one value of a function of two numbers is written
-pub written-here : {X : Type 0} (f : ℕ → ℕ → X) (x p : ℕ) (z : X) (i q : ℕ) → i ≡ x → q ≡ p
+pub written_here : {X : Type 0} (f : ℕ → ℕ → X) (x p : ℕ) (z : X) (i q : ℕ) → i ≡ x → q ≡ p
     → written f x p z i q ≡ z
-written-here f x p z i q a b =
+written_here f x p z i q a b =
     ap (λ (c : Bool). if c && q == p then z else f i q) (eq-eqb i x a)
     ∙ ap (λ (c : Bool). if c then z else f i q) (eq-eqb q p b)
 
@@ -126,7 +126,7 @@ module _ (n : Net) (x p : ℕ) (z : Entry) (left : List Letter) (parcels : List 
         subst (λ a. IsOld n now (Aside a q k) l ⊎ New (Aside a q k) l) (sym h.0)
         (subst (λ a. IsOld n now (Aside x a k) l ⊎ New (Aside x a k) l) (sym h.1)
         (here_told k l at.0
-        (ap (λ e. slice_get (put_offs e) k) (sym (written-here n.entry x p z i q h.0 h.1))
+        (ap (λ e. slice_get (put_offs e) k) (sym (written_here n.entry x p z i q h.0 h.1))
         ∙ at.1)
         (at.2 ∙ ap (λ a. letter_of a q at.0) h.0 ∙ ap (λ a. letter_of x a at.0) h.1)))
   ]

@@ -8,7 +8,7 @@ use Rattle.ivy_model.specs.declared.Config.{Config}
 use Rattle.ivy_wire.specs.Data.{Message}
 use Rattle.ivy_pagetable.specs.NodeSets.{Nodes}
 use Rattle.ivy_pagetable.specs.Entries.{put_offs, readable, writable, is_owner, copies_of}
-use Rattle.ivy_moves.specs.Ordered.{one_more}
+use Rattle.ivy_moves.specs.FifoWorld.{one_more}
 use Rattle.proof_transitions.specs.Letters.{Letter, Net, Place, Underway, Aside, Loose, IsAt, installs}
 use Rattle.proof_transitions.specs.Orderly.{CanWait, HasCopy, reads, comes, OwnerPlace, At, In, IsOwned, IsExpected, IsOrderly}
 use Rattle.proof_transitions.specs.Rows.{taken, dropped}
@@ -118,9 +118,9 @@ installed c n x p bytes =
     (record { entries = λ i q. refl; posted = λ i j. refl; delivered = λ i j. refl; loose = refl })
 
 -- one message more is counted for its source and destination alone
-more-here : (delivered : ℕ → ℕ → ℕ) (source dest i j : ℕ) → i ≡ source → j ≡ dest
+more_here : (delivered : ℕ → ℕ → ℕ) (source dest i j : ℕ) → i ≡ source → j ≡ dest
     → one_more delivered source dest i j ≡ delivered i j + 1
-more-here delivered source dest i j e d =
+more_here delivered source dest i j e d =
     ap (λ b. if b && j == dest then delivered i j + 1 else delivered i j) (eq-eqb i source e)
     ∙ ap (λ b. if b then delivered i j + 1 else delivered i j) (eq-eqb j dest d)
 
@@ -146,7 +146,7 @@ later d s x i j k le =
       | inl a ↦ elim (cases_eq j x) [
         | inr ne ↦ (subst (λ n. n ≤ k) (more-other_dest d s x i j ne) le, λ a b same. ne b)
         | inl b ↦
-            (let f : d i j + 1 ≤ k = subst (λ n. n ≤ k) (more-here d s x i j a b) le in
+            (let f : d i j + 1 ≤ k = subst (λ n. n ≤ k) (more_here d s x i j a b) le in
             (omega (arith, f), λ a b same. omega (arith, f, same)))
       ]
     ]

@@ -11,11 +11,11 @@ use Rattle.ivy_pagetable.specs.declared.Entry.TheVariants as entry
 use Rattle.ivy_pagetable.specs.Accesses.{reads as can_read}
 use Rattle.ivy_pagetable.specs.Entries.{put_offs, readable, writable, is_owner}
 use Rattle.ivy_coherence.specs.Serving.{invalidations}
-use Rattle.ivy_coherence.specs.Faults.{waiting_from}
+use Rattle.ivy_coherence.specs.PageFaults.{waiting_from}
 use Rattle.proof_transitions.specs.Letters.{Letter, Net, Place, Underway, goes_on}
 use Rattle.proof_transitions.specs.Orderly.{AwaitsCopy, AwaitsPage, reads, Own, key_of, IsExpected, IsOrderly}
 use Rattle.proof_transitions.specs.Rows.{letter, Begins}
-use Rattle.proof_transitions.proofs.Places.{served, written-here}
+use Rattle.proof_transitions.proofs.Places.{served, written_here}
 use Rattle.proof_transitions.proofs.Needs.{idle_needs, key_origin, key_page}
 use Rattle.proof_transitions.proofs.Steps.{IsStep, step_orderly}
 use Rattle.proof_transitions.proofs.Owners.{AreNoCopies, no_copies, accounted_still}
@@ -101,7 +101,7 @@ module _ (c : Config) (n : Net) (r : Begins c n) (order : IsOrderly c n) where
       (λ q bytes h. cc) (λ q bits bytes h. cc) (
         record { below = r.here; inside = r.inside },
         subst (λ y. AwaitsCopy y call)
-            (sym (written-here n.entry x p (entry.AwaitRead (waiting_from w call)) x p refl refl))
+            (sym (written_here n.entry x p (entry.AwaitRead (waiting_from w call)) x p refl refl))
             refl,
       )
 
@@ -118,7 +118,7 @@ module _ (c : Config) (n : Net) (r : Begins c n) (order : IsOrderly c n) where
       (λ q bytes h. cc) (λ q bits bytes h. cc) (
         record { below = r.here; inside = r.inside },
         subst (λ y. AwaitsPage y call)
-            (sym (written-here n.entry x p
+            (sym (written_here n.entry x p
             (entry.AwaitWrite
             (record { had_copy = can_read s.access; waiting = waiting_from w call })) x p refl
             refl)) refl,

@@ -20,8 +20,8 @@ use Rattle.ivy_pagetable.specs.Entries.{is_locked, is_owner, can_put_off, with_p
 use Rattle.ivy_pagetable.specs.Words.{IsWord, carried_out}
 use Rattle.ivy_pagetable.specs.Manager.{Ops}
 use Rattle.ivy_coherence.specs.Serving.{counted, invalidations}
-use Rattle.ivy_coherence.specs.Faults.{waiting_from}
-use Rattle.ivy_moves.specs.Ordered.{one_more}
+use Rattle.ivy_coherence.specs.PageFaults.{waiting_from}
+use Rattle.ivy_moves.specs.FifoWorld.{one_more}
 use Rattle.proof_transitions.specs.Letters.{Letter, Net, content_of, letter_of, goes_on, installs}
 use Rattle.proof_transitions.specs.Orderly.{AwaitsCopy, AwaitsPage, Collects}
 
@@ -329,7 +329,7 @@ abbrev pub Claim : Type 0 → Type 1
 Claim S = (ℕ → S) → Net → (ℕ → List ℕ) → Type 0
 
 -- each step keeps it: where it holds before the step, it holds after it
-pub record IsKept {S : Type 0} (ops : Ops S) (c : Config) (P : Claim S) : Type 0 where
+pub record IsPreserved {S : Type 0} (ops : Ops S) (c : Config) (P : Claim S) : Type 0 where
   pub by : {m : ℕ → S} {n : Net} {f : ℕ → List ℕ} {notice : Notice} {n' : Net}
       {f' : ℕ → List ℕ} → Row c n f notice n' f' → IsNamedBy ops c m notice → P m n f
       → P (noticed ops m notice) n' f'

@@ -14,7 +14,7 @@ use Rattle.ivy_pagetable.specs.NodeSets.{nodes_with}
 use Rattle.ivy_pagetable.specs.Entries.{put_offs, is_locked, is_owner}
 use Rattle.proof_routing.specs.proof_transitions.Letters.{Letter, Net, Place, Underway, Aside, Loose, IsAt, letter_of, goes_on, installs}
 use Rattle.proof_routing.specs.proof_transitions.Orderly.{Collects}
-use Rattle.proof_routing.proofs.of_proof_transitions.Places.{written-here, written-other, same_or_other, served, freed}
+use Rattle.proof_routing.proofs.of_proof_transitions.Places.{written_here, written-other, same_or_other, served, freed}
 use Rattle.proof_routing.proofs.of_proof_transitions.Steps.{IsStep}
 use Rattle.proof_routing.specs.Descending.{IsAsked}
 use Rattle.proof_routing.specs.Claiming.{claims}
@@ -182,7 +182,7 @@ freed_later x p (Underway i j k) ne = inl refl
 freed_later x p (Loose k) ne = inl refl
 freed_later x p (Aside i q k) ne = elim (same_or_other i q x p) [
   | inl same ↦
-      inr (subst IsArrived (sym (written-here (λ a b. Aside a b k) x p (Loose k) i q same.0 same.1))
+      inr (subst IsArrived (sym (written_here (λ a b. Aside a b k) x p (Loose k) i q same.0 same.1))
       tt)
   | inr other ↦ inl (written-other (λ a b. Aside a b k) x p (Loose k) i q other)
 ]
@@ -227,7 +227,7 @@ module _ (n : Net) (x p : ℕ) (e z : Entry) (left : List Letter) (parcels : Lis
               as_it_is next (Aside i q k) (Aside i q k) l (
                 at.0,
                 ap (λ v. slice_get (put_offs v) k)
-                    (written-here n.entry x p z i q same.0 same.1) ∙ stays k at.0 was,
+                    (written_here n.entry x p z i q same.0 same.1) ∙ stays k at.0 was,
                 at.2,
               ) (inl refl)
           | inr loose ↦

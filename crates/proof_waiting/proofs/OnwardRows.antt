@@ -22,7 +22,7 @@ use Rattle.proof_routing.specs.proof_transitions.Letters.{Letter, Net, Place, Un
 use Rattle.proof_routing.specs.proof_transitions.Orderly.{Collects, IsOrderly}
 use Rattle.proof_routing.specs.proof_transitions.Rows.{Served, Comes, Begins, PutsOff, Takes, Notice, Row, IsNamedBy, taken, letter}
 use Rattle.proof_routing.proofs.of_proof_transitions.Members.{without_itself, without_any}
-use Rattle.proof_routing.proofs.of_proof_transitions.Places.{written-here, written-other, same_or_other, served, freed}
+use Rattle.proof_routing.proofs.of_proof_transitions.Places.{written_here, written-other, same_or_other, served, freed}
 use Rattle.proof_routing.proofs.of_proof_transitions.Parcels.{IsThe, IsNone, IsOrder, answer_step, ask_step, orders_step, free_step, stay_step}
 use Rattle.proof_routing.specs.Descending.{IsAsked}
 use Rattle.proof_routing.specs.Claiming.{claims}
@@ -74,7 +74,7 @@ module _ (c : Config) (n : Net) (r : Takes n) where
       | inr ne ↦
           as_it_is after_taking (Underway i j b) (Underway i j b) l (
             let now : after_taking.delivered i j ≡ n.delivered i j + 1 =
-                written-here (λ u v. n.delivered i j) s x (n.delivered i j + 1) i j same.0 same.1 in
+                written_here (λ u v. n.delivered i j) s x (n.delivered i j + 1) i j same.0 same.1 in
                 let low : n.delivered i j ≤ b = at.0 in
                 omega (arith, now, low, ne),
             at.1,
@@ -123,7 +123,7 @@ module _ (c : Config) (n : Net) (r : Takes n) where
     subst (IsAt n (Underway s x (n.delivered s x))) (same_Some _ l at)
         (omega arith, first, refl, refl),
     (let now : after_taking.delivered s x ≡ n.delivered s x + 1 =
-        written-here (λ u v. n.delivered s x) s x (n.delivered s x + 1) s x refl refl in
+        written_here (λ u v. n.delivered s x) s x (n.delivered s x + 1) s x refl refl in
         let most = within s x in
         omega (arith, now, most)),
   )
@@ -300,7 +300,7 @@ module _ (c : Config) (n : Net) (put : PutsOff c n) where
   put_there = (
     r,
     ap (λ y. slice_get (put_offs y) (length (put_offs e) + 0))
-        (written-here n.entry x p (with_put_off e r) x p refl refl)
+        (written_here n.entry x p (with_put_off e r) x p refl refl)
         ∙ ap (λ v. slice_get v (length (put_offs e) + 0)) (put_last e room)
         ∙ get_second (put_offs e) (r ∷ []) 0 (length (put_offs e) + 0) refl,
     refl,
@@ -423,7 +423,7 @@ module _ (c : Config) (n : Net) where
               | inl h ↦ inl h
               | inr same ↦
                   inr (subst (λ (v : Letter). IsAnswered n n' v v.message.content) (sym same)
-                  (ap is_owner (written-here n.entry x p z x p refl refl)))
+                  (ap is_owner (written_here n.entry x p z x p refl refl)))
             ];
         owner = λ h. never h;
         collects = λ target k own h. never own;
@@ -470,7 +470,7 @@ module _ (c : Config) (n : Net) where
                   inr (subst (λ (v : Letter). IsAnswered n n' v v.message.content) (sym same)
                   (λ k h. both_ways (set.contains (set.remove s.left from) from)
                   (without_itself s.left from)
-                  (subst (λ v. Collects v k from) (written-here n.entry x p z x p refl refl) h).1))
+                  (subst (λ v. Collects v k from) (written_here n.entry x p z x p refl refl) h).1))
             ];
         owner = λ h. inl refl;
         collects = λ target k own h. inl (h.0, still_left target h.1);
@@ -695,18 +695,18 @@ module _ (c : Config) (config : IsConfig c) where
   onward_by {n = n} (Row.copy_comes bytes r same) of o h fair =
       installed_onward c n _ r.node r.page bytes
       (came_onward c n r copying (λ own. never own) refl (same, (bytes, refl))
-      (ap is_locked (written-here n.entry r.node r.page (entry.Idle copying) r.node r.page refl refl)))
+      (ap is_locked (written_here n.entry r.node r.page (entry.Idle copying) r.node r.page refl refl)))
   onward_by {n = n} (Row.page_comes copies bytes r same none) of o h fair =
       installed_onward c n _ r.node r.page bytes
       (came_onward c n r owning (λ own. refl) refl (same, (copies, bytes, refl, none))
-      (ap is_owner (written-here n.entry r.node r.page (entry.Idle owning) r.node r.page refl refl)))
+      (ap is_owner (written_here n.entry r.node r.page (entry.Idle owning) r.node r.page refl refl)))
   onward_by {n = n} (Row.page_comes_shared copies bytes r same some out low) of o h fair =
       installed_onward c n _ r.node r.page bytes (ordering_onward c n copies bytes r)
   onward_by {n = n} (Row.acknowledges r same left more) of o h fair = fewer_onward c n r
   onward_by {n = n} (Row.acknowledges_last r same left last) of o h fair =
       came_onward c n r owning (λ own. refl) refl (same, refl, left, last)
       (λ k g. subst (λ v. Collects v k r.from)
-      (written-here n.entry r.node r.page (entry.Idle owning) r.node r.page refl refl) g)
+      (written_here n.entry r.node r.page (entry.Idle owning) r.node r.page refl refl) g)
   onward_by {n = n} (Row.asks_copy r hop plain unread away) of o h fair =
       begun_onward c n h.counted r _ hop (content.ReadReq r.page) plain refl (λ target k g. g)
       (λ q bytes e. cc)

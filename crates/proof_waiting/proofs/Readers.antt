@@ -7,7 +7,7 @@ use Rattle.ivy_wire.specs.Data.{Content, Message}
 use Rattle.ivy_pagetable.specs.declared.Entry.{Entry}
 use Rattle.proof_routing.specs.proof_transitions.Letters.{Letter, Net, Place, Underway, Aside, Loose, IsAt, installs}
 use Rattle.proof_routing.specs.proof_transitions.Rows.{taken}
-use Rattle.proof_routing.proofs.of_proof_transitions.Places.{written-here, written-other, same_or_other, served, freed}
+use Rattle.proof_routing.proofs.of_proof_transitions.Places.{written_here, written-other, same_or_other, served, freed}
 use Rattle.proof_routing.proofs.of_proof_transitions.Steps.{IsStep}
 use Rattle.proof_routing.proofs.Old.{taken_letters}
 use Rattle.proof_routing.specs.Descending.{IsAsked}
@@ -48,9 +48,9 @@ module _ (n : Net) (x p : ℕ) (old : Letter) (loose : n.loose ≡ old ∷ []) w
   freed_asides i q k j less = elim (same_or_other i q x p) [
     | inl same ↦
         subst (λ a. IsBefore a (freed x p (Aside i q j)))
-        (sym (written-here (λ a b. Aside a b k) x p (Loose k) i q same.0 same.1))
+        (sym (written_here (λ a b. Aside a b k) x p (Loose k) i q same.0 same.1))
         (subst (IsBefore (Loose k))
-        (sym (written-here (λ a b. Aside a b j) x p (Loose j) i q same.0 same.1)) less)
+        (sym (written_here (λ a b. Aside a b j) x p (Loose j) i q same.0 same.1)) less)
     | inr other ↦
         subst (λ a. IsBefore a (freed x p (Aside i q j)))
         (sym (written-other (λ a b. Aside a b k) x p (Loose k) i q other))
@@ -62,7 +62,7 @@ module _ (n : Net) (x p : ℕ) (old : Letter) (loose : n.loose ≡ old ∷ []) w
   freed_aside_under i q k g y j = elim (same_or_other i q x p) [
     | inl same ↦
         subst (λ a. IsBefore a (Underway g y j))
-        (sym (written-here (λ a b. Aside a b k) x p (Loose k) i q same.0 same.1)) tt
+        (sym (written_here (λ a b. Aside a b k) x p (Loose k) i q same.0 same.1)) tt
     | inr other ↦
         subst (λ a. IsBefore a (Underway g y j))
         (sym (written-other (λ a b. Aside a b k) x p (Loose k) i q other)) tt
@@ -86,7 +86,7 @@ module _ (n : Net) (x p : ℕ) (old : Letter) (loose : n.loose ≡ old ∷ []) w
   freed_under (Aside g q j) l i y k at ne h = elim (same_or_other g q x p) [
     | inl same ↦ absurd (
         let e : Underway i y k ≡ Loose j =
-        h ∙ written-here (λ a b. Aside a b j) x p (Loose j) g q same.0 same.1 in
+        h ∙ written_here (λ a b. Aside a b j) x p (Loose j) g q same.0 same.1 in
         cc
         )
     | inr other ↦ absurd (

@@ -22,7 +22,7 @@ use Rattle.proof_routing.specs.proof_transitions.Letters.{Letter, Net, Place, Un
 use Rattle.proof_routing.specs.proof_transitions.Orderly.{IsOrderly}
 use Rattle.proof_routing.specs.proof_transitions.Rows.{Served, Comes, PutsOff, Notice, Row, IsNamedBy, letter}
 use Rattle.proof_routing.proofs.of_proof_transitions.Needs.{page_of}
-use Rattle.proof_routing.proofs.of_proof_transitions.Places.{written-here, written-other, same_or_other, served, freed}
+use Rattle.proof_routing.proofs.of_proof_transitions.Places.{written_here, written-other, same_or_other, served, freed}
 use Rattle.proof_routing.proofs.of_proof_transitions.Steps.{IsStep}
 use Rattle.proof_routing.proofs.of_proof_transitions.Parcels.{IsThe, IsNone, IsOrder, answer_step, ask_step, orders_step, free_step, stay_step}
 use Rattle.proof_routing.proofs.of_proof_transitions.Fitting.{IsRequest}
@@ -541,7 +541,7 @@ at_manager c m n managed r plain = elim (cases_eq r.node (r.page % c.nodes)) [
 claims_on : (n : Net) (x p : ℕ) (z : Entry) → claims z ≡ true → (y : ℕ)
     → claims (n.entry y p) ≡ true → claims (written n.entry x p z y p) ≡ true
 claims_on n x p z sure y h = elim (same_or_other y p x p) [
-  | inl same ↦ ap claims (written-here n.entry x p z y p same.0 same.1) ∙ sure
+  | inl same ↦ ap claims (written_here n.entry x p z y p same.0 same.1) ∙ sure
   | inr other ↦ ap claims (written-other n.entry x p z y p other) ∙ h
 ]
 

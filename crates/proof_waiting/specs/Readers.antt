@@ -7,7 +7,7 @@ use Rattle.ivy_model.specs.Config.{IsConfig}
 use Rattle.ivy_wire.specs.declared.Content.TheVariants as content
 use Rattle.proof_routing.specs.proof_transitions.Letters.{Letter, Net, Place, Underway, Aside, Loose, IsAt}
 use Rattle.proof_routing.specs.proof_transitions.Orderly.{IsOrderly}
-use Rattle.proof_routing.specs.proof_transitions.Rows.{IsKept}
+use Rattle.proof_routing.specs.proof_transitions.Rows.{IsPreserved}
 use Rattle.proof_routing.specs.ivy_fixed.Fixed.{fixed_ops}
 use Rattle.proof_routing.specs.Descending.{IsAsked}
 use Rattle.proof_routing.specs.Claiming.{claims}
@@ -51,4 +51,4 @@ IsFair c n = (page : ℕ) → AreReadersFirst n page (page % c.nodes)
 -- The law: each step of the table leaves it so, of nets that are orderly and managed.
 abbrev pub ReadersComeFirst : Type 0
 ReadersComeFirst = (c : Config) → IsConfig c
-    → IsKept fixed_ops c (λ m n f. IsOrderly c n × IsManaged c m n × IsFair c n)
+    → IsPreserved fixed_ops c (λ m n f. IsOrderly c n × IsManaged c m n × IsFair c n)

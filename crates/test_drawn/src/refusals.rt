@@ -1,6 +1,6 @@
 //! Why a play gives nothing, and that its moves are written as a schedule.
 use crate::common::{ENOUGH, config};
-use failing_alloc::Refusing;
+use failing_alloc::Failing;
 use ivy_model::{Config, Fault, Kind};
 use ivy_programs::AddsUp;
 use ivy_seeds::ivy_drawn::{Move, Outcome, PlayReport, Schedule, play_drawn, play_listed};
@@ -67,7 +67,7 @@ fn a_schedule_as_text(rt: HostRuntime) -> Result<(), Fail> {
 }
 
 /// Whether the play gave up for want of memory, or passed, where the n-th growth is refused.
-fn is_met<R>(rt: &R, memory: &Refusing<Global>, n: u64) -> bool
+fn is_met<R>(rt: &R, memory: &Failing<Global>, n: u64) -> bool
 where
     R: Threads + Wait + Sync + Abort,
 {
@@ -83,7 +83,7 @@ const GROWTHS: u64 = 60;
 
 #[test]
 fn each_growth_is_refused(rt: HostRuntime) {
-    let memory = Refusing::new(rt.alloc());
+    let memory = Failing::new(rt.alloc());
     for n in 1..=GROWTHS {
         assert!(&rt; is_met(&rt, &memory, n));
     }

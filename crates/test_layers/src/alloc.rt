@@ -1,7 +1,7 @@
 //! The heap: least addresses, blocks that end and join, drawn calls beside a plain list of blocks, and
 //! each growth refused in turn.
 use crate::common::{expect_same, expect_same_at};
-use failing_alloc::Refusing;
+use failing_alloc::Failing;
 use ivy_host::ivy_alloc::Heap;
 use ivy_model::{Config, Fault, Kind};
 use rand_core::utils::NextWord;
@@ -193,21 +193,21 @@ fn drawn_calls(rt: HostRuntime) {
 }
 
 /// Whether the n-th growth of a call was asked for; then the fault is want of memory.
-fn is_met(rt: &impl Abort, memory: &Refusing<Global>, n: u64, fault: Option<Fault>) -> bool {
+fn is_met(rt: &impl Abort, memory: &Failing<Global>, n: u64, fault: Option<Fault>) -> bool {
     let met = memory.asked(n) >= n;
     memory.refuse(0);
     expect_same_at(rt, n, fault, if met { Some(Fault::Memory) } else { None });
     met
 }
 
-fn new_at(rt: &impl Abort, memory: &Refusing<Global>, n: u64) -> bool {
+fn new_at(rt: &impl Abort, memory: &Failing<Global>, n: u64) -> bool {
     memory.refuse(n);
     let fault = Heap::new(memory, &SMALL).err();
     is_met(rt, memory, n, fault)
 }
 
 /// The first block is taken with the n-th growth refused; then the heap is as it was.
-fn alloc_at(rt: &impl Abort, memory: &Refusing<Global>, n: u64) -> bool {
+fn alloc_at(rt: &impl Abort, memory: &Failing<Global>, n: u64) -> bool {
     let mut heap = small_heap(rt, memory);
     memory.refuse(n);
     let fault = take(&mut heap, 8).err();
@@ -222,7 +222,7 @@ fn alloc_at(rt: &impl Abort, memory: &Refusing<Global>, n: u64) -> bool {
 /// Blocks that fill the heap end, and each second one leaves an extent more, with no growth.
 #[test]
 fn ending_a_block_takes_no_memory(rt: HostRuntime) {
-    let memory = Refusing::new(rt.alloc());
+    let memory = Failing::new(rt.alloc());
     let mut heap = small_heap(&rt, &memory);
     take_blocks(&rt, &mut heap, &[8; 8]);
     memory.refuse(1);
@@ -234,7 +234,7 @@ fn ending_a_block_takes_no_memory(rt: HostRuntime) {
 
 #[test]
 fn growths_of_a_heap(rt: HostRuntime) {
-    let memory = Refusing::new(rt.alloc());
+    let memory = Failing::new(rt.alloc());
     assert!(rt; new_at(&rt, &memory, 1));
     assert!(rt; !new_at(&rt, &memory, 2));
     let mut refused = 0;

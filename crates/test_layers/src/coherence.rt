@@ -3,7 +3,7 @@ ghost use Rattle.ivy_pagetable.specs.Words.{IsWord};
 
 use crate::letters::{Bytes, Letter, Said, message, received};
 use crate::posted::Posted;
-use failing_alloc::Refusing;
+use failing_alloc::Failing;
 use ivy_host::ivy_coherence::{Coherence, Need};
 use ivy_host::ivy_fixed::FixedManager;
 use ivy_model::{Config, Fault, Kind};
@@ -451,7 +451,7 @@ const MANY: u64 = 20;
 /// The step goes with the n-th growth refused. Whether that was asked for: the step is refused then, and only then.
 fn refused_of<A: Allocator + Copy>(
     rt: &impl Abort,
-    (memory, n): (&Refusing<Global>, u64),
+    (memory, n): (&Failing<Global>, u64),
     node: &mut Node<A>,
     growing: &Growing,
 ) -> Result<bool, Fail> {
@@ -471,7 +471,7 @@ fn refused_of<A: Allocator + Copy>(
 
 fn refused_at(
     rt: &impl Abort,
-    memory: &Refusing<Global>,
+    memory: &Failing<Global>,
     n: u64,
     growing: &Growing,
 ) -> Result<bool, Fail> {
@@ -481,7 +481,7 @@ fn refused_at(
 
 /// Refuses each growth in turn, until one is not asked for.
 fn refuse_each<R: Abort + AllocGlobal>(rt: &R, growing: &Growing) -> Result<(), Fail> {
-    let memory = Refusing::new(rt.alloc());
+    let memory = Failing::new(rt.alloc());
     for n in 1..MANY {
         if !refused_at(rt, &memory, n, growing)? {
             assert!(rt; n > 1);

@@ -3,7 +3,7 @@
 
 use crate::letters::{Bytes, Said};
 use crate::memory::{Node, Scene, Step, check_node};
-use failing_alloc::Refusing;
+use failing_alloc::Failing;
 use ivy_host::ivy_memory::Answer;
 use ivy_model::{Call, Fault, Reply};
 use std::alloc::{Allocator, Global};
@@ -23,7 +23,7 @@ const MANY: u64 = 20;
 /// The n-th growth is refused to a node. Whether it was asked for: the step is refused then, and only then.
 fn refused_of<A: Allocator + Copy>(
     rt: &impl Abort,
-    (memory, n): (&Refusing<Global>, u64),
+    (memory, n): (&Failing<Global>, u64),
     node: &mut Node<A>,
     growing: &Growing,
 ) -> Result<bool, Fail> {
@@ -44,7 +44,7 @@ fn refused_of<A: Allocator + Copy>(
 /// The same of a new node.
 fn refused_at(
     rt: &impl Abort,
-    memory: &Refusing<Global>,
+    memory: &Failing<Global>,
     n: u64,
     growing: &Growing,
 ) -> Result<bool, Fail> {
@@ -54,7 +54,7 @@ fn refused_at(
 
 /// Refuses each growth in turn, until one is not asked for.
 pub(crate) fn refuse_each<R: Abort + AllocGlobal>(rt: &R, growing: &Growing) -> Result<(), Fail> {
-    let memory = Refusing::new(rt.alloc());
+    let memory = Failing::new(rt.alloc());
     for n in 1..MANY {
         if !refused_at(rt, &memory, n, growing)? {
             assert!(rt; n > 1);

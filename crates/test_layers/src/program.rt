@@ -2,7 +2,7 @@
 ghost use Rattle.ivy_program.specs.Programs.{IsWritten};
 
 use crate::common::{expect_items, expect_same, expect_same_at};
-use failing_alloc::Refusing;
+use failing_alloc::Failing;
 use ivy_model::{Call, Fault, Reply};
 use ivy_program::{
     Instruction, Machine, Next, Operation, Program, Register, Width, parse, parse_number, words_of,
@@ -318,7 +318,7 @@ fn limits_of_a_text(rt: HostRuntime) {
 }
 
 /// The fault of a text with its n-th growth refused, and whether it comes to so many growths.
-fn fault_at(memory: &Refusing<Global>, n: u64, text: &str) -> (Option<Fault>, bool) {
+fn fault_at(memory: &Failing<Global>, n: u64, text: &str) -> (Option<Fault>, bool) {
     memory.refuse(n);
     let fault = parse(memory, text).err();
     let met = memory.asked(n) >= n;
@@ -328,7 +328,7 @@ fn fault_at(memory: &Refusing<Global>, n: u64, text: &str) -> (Option<Fault>, bo
 
 /// That each refused growth of a text is want of memory, or leaves the fault that the text has of its own.
 fn check_growths(rt: &(impl Abort + AllocGlobal), text: &str, own: Option<Fault>) {
-    let memory = Refusing::new(rt.alloc());
+    let memory = Failing::new(rt.alloc());
     let (mut refused, mut last) = (0, 0);
     for n in 1..100 {
         let (fault, met) = fault_at(&memory, n, text);

@@ -3,7 +3,7 @@ ghost use Rattle.std.specs.Prelude.{◌≡◌, length};
 ghost use Rattle.ivy_pagetable.specs.Words.{IsWord};
 
 use crate::common::expect_same;
-use failing_alloc::Refusing;
+use failing_alloc::Failing;
 use ivy_model::{Config, Kind};
 use ivy_pagetable::{NodeTable, Out, Word};
 use std::alloc::{Allocator, Global};
@@ -30,7 +30,7 @@ const STORE: Word = Word::Store {
 };
 
 /// The table of node 0 at first. That it has 257 pages of 64 bytes is proved here once.
-fn first_table<'a>(rt: &impl Abort, memory: &'a Refusing<Global>) -> NodeTable<&'a Refusing<Global>>
+fn first_table<'a>(rt: &impl Abort, memory: &'a Failing<Global>) -> NodeTable<&'a Failing<Global>>
     ensures pages { length result.entries ≡ 257 }
     ensures sized { result.page_size ≡ 64 }
 {
@@ -60,7 +60,7 @@ fn stores<A: Allocator>(table: &mut NodeTable<A>) -> usize
 
 #[test]
 fn pages_are_made_when_written(rt: HostRuntime) {
-    let memory = Refusing::new(rt.alloc());
+    let memory = Failing::new(rt.alloc());
     let mut table = first_table(&rt, &memory);
     memory.refuse(1);
     expect_same(&rt, gives(&mut table, LOAD), Some(Out::Value(0)));

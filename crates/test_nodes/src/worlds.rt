@@ -105,8 +105,10 @@ macro_rules! string {
 }
 
 mod ahead;
+mod blocks;
 mod common;
 mod counts;
+mod drawn_blocks;
 mod dynamic;
 mod eight_nodes;
 mod exchanges;

@@ -1,6 +1,6 @@
 //! Why a session of own code gives nothing, and what is refused in it.
 use crate::common::{ROOMY, config, meeting, run};
-use failing_alloc::Refusing;
+use failing_alloc::Failing;
 use ivy_calls::load;
 use ivy_model::{Fault, Kind};
 use ivy_own::{Limits, OpenGate, OwnFault, SharedMemory, Work, run_with};
@@ -161,7 +161,7 @@ fn turns_are_spent(rt: HostRuntime) {
 }
 
 /// Whether the session gave up for want of memory, or passed, where the n-th growth is refused.
-fn is_met<R: Threads + Wait + Sync + Abort>(rt: &R, memory: &Refusing<Global>, n: u64) -> bool {
+fn is_met<R: Threads + Wait + Sync + Abort>(rt: &R, memory: &Failing<Global>, n: u64) -> bool {
     memory.refuse(n);
     match run(rt, memory, 2, &Loads { addr: 256 }) {
         Ok(_) => memory.asked(n) < n,
@@ -176,7 +176,7 @@ const GROWTHS: u64 = 24;
 
 #[test]
 fn each_growth_is_refused(rt: HostRuntime) {
-    let memory = Refusing::new(rt.alloc());
+    let memory = Failing::new(rt.alloc());
     for n in 1..=GROWTHS {
         assert!(&rt; is_met(&rt, &memory, n));
     }

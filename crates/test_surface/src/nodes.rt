@@ -1,6 +1,8 @@
 //! `ivy_node`: a site, and a world.
+ghost use Rattle.ivy_model.specs.Legal.{HasWidth};
+
 use crate::common::{LOADS, PAIR, expect_same};
-use ivy_model::Fault;
+use ivy_model::{Call, Fault, Reply, Row};
 use ivy_node::{Move, Rest, Site, Turn, Verdict, World, parse};
 use std::alloc::Global;
 use std::process::Abort;
@@ -94,4 +96,59 @@ fn a_world(rt: HostRuntime) {
     expect_same(&rt, settle(&mut world), Ok(Rest::Still));
     expect_same(&rt, world.sent().len(), 3);
     expect_loaded(&rt, &world, node_of(MOVES[0]));
+}
+
+/// Own code at a node makes a call.
+fn hand(rt: &impl Abort, world: &mut World<Global>, node: u64, call: Call)
+    requires { HasWidth call }
+{
+    assert!(rt; node < world.nodes());
+    assert!(rt; world.is_free(node));
+    expect_same(rt, world.hand(node, call), Ok(()));
+}
+
+/// It makes the calls on some words together. Of all that is promised of it, callers need nothing.
+fn hand_block(
+    rt: &impl Abort,
+    world: &mut World<Global>,
+    node: u64,
+    (kind, addr): (Row, u64),
+    words: usize,
+    bytes: &[u8],
+) -> Result<usize, Fault> {
+    assert!(rt; node < world.nodes());
+    world.hand_block(node, kind, addr, words, bytes)
+}
+
+/// That a node waits for the reply to this call, and others were made along with it.
+fn expect_waiting(rt: &impl Abort, world: &World<Global>, node: u64, call: Call) {
+    assert!(rt; node < world.nodes());
+    expect_same(rt, world.asked(node), Some(call));
+    expect_same(rt, world.waits(node), None);
+    assert!(rt; !world.is_alone(node));
+}
+
+/// The reply to the last call of a node.
+fn last_reply(rt: &impl Abort, world: &World<Global>, node: u64) -> Option<Reply> {
+    assert!(rt; node < world.nodes());
+    let record = world.history(node).last()?;
+    Some(record.reply)
+}
+
+/// Node 1 stores the second of two words, which node 0 loads.
+#[test]
+fn a_world_of_own_code(rt: HostRuntime) {
+    let mut world = World::open(rt.alloc(), PAIR).expect(&rt, "a world");
+    let store = Call::Store {
+        width: 8,
+        addr: 72,
+        value: 7,
+    };
+    hand(&rt, &mut world, 1, store);
+    expect_same(&rt, settle(&mut world), Ok(Rest::Still));
+    let begun = hand_block(&rt, &mut world, 0, (Row::Loads, 64), 2, &[0; 16]);
+    expect_same(&rt, begun, Ok(2));
+    expect_waiting(&rt, &world, 0, Call::Load { width: 8, addr: 64 });
+    expect_same(&rt, settle(&mut world), Ok(Rest::Still));
+    expect_same(&rt, last_reply(&rt, &world, 0), Some(Reply::Value(7)));
 }

@@ -1,6 +1,6 @@
 //! Single calls, by each type of words, and a program over them.
 use crate::common::{SMALL, expect_same, small};
-use failing_alloc::Refusing;
+use failing_alloc::Failing;
 use ivy_calls::{
     Alone, Answer, CallError, SharedMemory, Word, Work, advance, alloc, await_, cas, fetch_add,
     free, load, read, store, swap,
@@ -137,7 +137,7 @@ fn texts_of_errors(rt: HostRuntime) {
 }
 
 /// An alloc where the n-th growth is refused: it is answered nothing, and then the same as if it were the first.
-fn check_refused<A: Allocator>(rt: &impl Abort, memory: &Refusing<A>, n: u64) {
+fn check_refused<A: Allocator>(rt: &impl Abort, memory: &Failing<A>, n: u64) {
     let mut alone = small(rt, memory);
     memory.refuse(n);
     let refused = CallError::Fault {
@@ -151,7 +151,7 @@ fn check_refused<A: Allocator>(rt: &impl Abort, memory: &Refusing<A>, n: u64) {
 
 #[test]
 fn refused_growths(rt: HostRuntime) {
-    let memory = Refusing::new(rt.alloc());
+    let memory = Failing::new(rt.alloc());
     for n in 1..3 {
         memory.refuse(n);
         assert!(rt; Alone::new(&memory, SMALL).is_err());

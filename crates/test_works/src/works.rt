@@ -18,18 +18,28 @@ const ROOMY: Limits = Limits {
     pulse_every: 64,
 };
 
+/// Four nodes over half a megabyte in large pages.
+const FEW: Config = Config {
+    nodes: 4,
+    pages: 128,
+    page_size: 4_096,
+    manager: Kind::Dynamic,
+};
+
+/// The same memory in small pages, of which there are more than a narrow configuration has.
+const MANY: Config = Config {
+    nodes: 4,
+    pages: 2_048,
+    page_size: 256,
+    manager: Kind::Fixed,
+};
+
 /// What each node gives.
-fn given<W, R>(rt: &R, nodes: u8, manager: Kind, work: &W) -> Vec<W::Out>
+fn given<W, R>(rt: &R, config: Config, work: &W) -> Vec<W::Out>
 where
     W: Work + Sync,
     R: Threads + Wait + Sync + AllocGlobal + Abort,
 {
-    let config = Config {
-        nodes,
-        pages: 128,
-        page_size: 4_096,
-        manager,
-    };
     run_with(rt, rt.alloc(), config, work, ROOMY, &OpenGate)
         .expect(rt, "a report")
         .outs
@@ -82,7 +92,7 @@ fn squares_are_summed(rt: HostRuntime) {
         workers: 3,
     };
     // 1 * 1 + 2 * 2 + .. + 100 * 100 = 100 * 101 * 201 / 6
-    assert_eq!(&rt; sum(&given(&rt, 4, Kind::Dynamic, &work)), 338_350);
+    assert_eq!(&rt; sum(&given(&rt, FEW, &work)), 338_350);
 }
 
 #[test]
@@ -96,7 +106,7 @@ fn a_product_of_128_rows(rt: HostRuntime) {
         alloc: rt.alloc(),
     };
     // row i and column j have 128 * i * j, and 0 + 1 + .. + 127 = 8,128
-    let outs = given(&rt, 4, Kind::Fixed, &work);
+    let outs = given(&rt, MANY, &work);
     assert_eq!(&rt; sum(&outs), 128 * 8_128 * 8_128);
     // node 0 has rows 0 to 31, whose numbers add up to 496
     assert_eq!(&rt; outs.first().copied(), Some(128 * 496 * 8_128));
@@ -110,7 +120,7 @@ fn readers_see_both_words(rt: HostRuntime) {
         times: 40,
         barrier: meeting(4),
     };
-    let outs = given(&rt, 4, Kind::Dynamic, &work);
+    let outs = given(&rt, FEW, &work);
     assert_eq!(&rt; outs.as_slice(), [80, 0, 80, 0].as_slice());
 }
 

@@ -208,7 +208,7 @@ where
     ensures fault { IfErr result IsSessionFault }
 {
     config.check()?;
-    if programs.len() != usize::from(config.nodes) || !limits.are_fair() {
+    if programs.len() != usize::from(config.nodes) || !limits.are_valid() {
         return Err(Fault::BadConfig);
     }
     are_written(&programs);

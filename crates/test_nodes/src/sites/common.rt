@@ -1,5 +1,5 @@
 //! What the tests share: configurations, nodes, and the strings that come to them and that they send.
-use failing_alloc::Refusing;
+use failing_alloc::Failing;
 use ivy_model::{Config, Fault, Kind};
 use ivy_wire::{Bytes, FrameKind, read};
 use ivy_world::ivy_site::{Program, Site, Turn, Verdict, parse};
@@ -171,7 +171,7 @@ pub(crate) fn ends_of(config: &Config, bytes: &[u8]) -> Result<(FrameKind, u8, u
 /// other fault.
 pub(crate) fn is_met(
     rt: &impl Abort,
-    memory: &Refusing<Global>,
+    memory: &Failing<Global>,
     n: u64,
     fault: Option<Fault>,
 ) -> bool {

@@ -8,7 +8,7 @@ use crate::sites::common::{
     take_turn, take_turns,
 };
 use crate::sites::steps::{Step, expect_silent, make_all};
-use failing_alloc::Refusing;
+use failing_alloc::Failing;
 use ivy_model::{Call, Fault, Record, Reply};
 use ivy_world::ivy_site::{Site, Verdict};
 use std::alloc::{Allocator, Global};
@@ -68,7 +68,7 @@ fn go_on<A: Allocator + Copy>(site: &mut Site<A>, comes: Option<&[u8]>) -> Resul
 /// Both go on, the first with the n-th growth refused, and once more where it was asked for. Whether it was.
 fn go_on_at<A: Allocator + Copy>(
     rt: &impl Abort,
-    memory: &Refusing<Global>,
+    memory: &Failing<Global>,
     n: u64,
     comes: Option<&[u8]>,
     site: &mut Site<A>,
@@ -120,7 +120,7 @@ fn check_both<A: Allocator + Copy>(
 /// they cost less proof.
 fn refused_at<A: Allocator + Copy>(
     rt: &impl Abort,
-    (memory, alloc): (&Refusing<Global>, A),
+    (memory, alloc): (&Failing<Global>, A),
     n: u64,
     growing: &Growing,
     comes: Option<&[u8]>,
@@ -133,7 +133,7 @@ fn refused_at<A: Allocator + Copy>(
 /// proof than one.
 fn refused_beside_twin<A: Allocator + Copy>(
     rt: &impl Abort,
-    (memory, alloc): (&Refusing<Global>, A),
+    (memory, alloc): (&Failing<Global>, A),
     n: u64,
     growing: &Growing,
     comes: Option<&[u8]>,
@@ -146,7 +146,7 @@ fn refused_beside_twin<A: Allocator + Copy>(
 /// The same of two nodes that have begun.
 fn refused_in_one<A: Allocator + Copy>(
     rt: &impl Abort,
-    (memory, alloc): (&Refusing<Global>, A),
+    (memory, alloc): (&Failing<Global>, A),
     n: u64,
     growing: &Growing,
     comes: Option<&[u8]>,
@@ -159,12 +159,7 @@ fn refused_in_one<A: Allocator + Copy>(
 }
 
 /// Refuses each growth in turn, until one is not asked for.
-fn refuse_each(
-    rt: &impl Abort,
-    memory: &Refusing<Global>,
-    growing: &Growing,
-    comes: Option<&[u8]>,
-) {
+fn refuse_each(rt: &impl Abort, memory: &Failing<Global>, growing: &Growing, comes: Option<&[u8]>) {
     for n in 1..MANY {
         if !refused_at(rt, (memory, memory), n, growing, comes) {
             assert!(rt; n > 1);
@@ -175,7 +170,7 @@ fn refuse_each(
 }
 
 fn growths_of(rt: &impl Abort, alloc: Global, growing: &Growing) {
-    let memory = Refusing::new(alloc);
+    let memory = Failing::new(alloc);
     let given = growing.comes.map(|written| string(rt, alloc, written));
     refuse_each(rt, &memory, growing, given.as_deref());
 }
@@ -228,7 +223,7 @@ const HOLDING: [Step; 4] = [
 /// The copy comes with the n-th growth refused. Whether that growth was asked for.
 fn copy_comes<A: Allocator + Copy>(
     rt: &impl Abort,
-    memory: &Refusing<Global>,
+    memory: &Failing<Global>,
     n: u64,
     site: &mut Site<A>,
     copy: &[u8],
@@ -247,7 +242,7 @@ fn copy_comes<A: Allocator + Copy>(
 /// The node gives the copy up, at once or once what was refused comes again, and its load is answered.
 fn goes_on<A: Allocator + Copy>(
     rt: &impl Abort,
-    (memory, alloc): (&Refusing<Global>, A),
+    (memory, alloc): (&Failing<Global>, A),
     n: u64,
     strings: (&[u8], &[u8]),
     site: &mut Site<A>,
@@ -270,7 +265,7 @@ fn goes_on<A: Allocator + Copy>(
 /// The same of a node that holds the order.
 fn goes_on_at<A: Allocator + Copy>(
     rt: &impl Abort,
-    (memory, alloc): (&Refusing<Global>, A),
+    (memory, alloc): (&Failing<Global>, A),
     n: u64,
     strings: (&[u8], &[u8]),
 ) -> bool {
@@ -283,7 +278,7 @@ fn goes_on_at<A: Allocator + Copy>(
 fn growths_while_a_string_is_held(rt: HostRuntime) {
     let copy = string(&rt, rt.alloc(), (REPLY, Some(0)));
     let ends = string(&rt, rt.alloc(), (ENDS, None));
-    let memory = Refusing::new(rt.alloc());
+    let memory = Failing::new(rt.alloc());
     for n in 1..MANY {
         if !goes_on_at(&rt, (&memory, &memory), n, (&copy, &ends)) {
             assert!(&rt; n > 1);
@@ -519,7 +514,7 @@ fn shown<A: Allocator + Copy>(site: &Site<A>) -> (usize, usize) {
 /// The request goes to the owner once more, and nothing else does.
 fn pulse_of<A: Allocator + Copy>(
     rt: &impl Abort,
-    memory: &Refusing<Global>,
+    memory: &Failing<Global>,
     alloc: A,
     n: u64,
     site: &mut Site<A>,
@@ -540,7 +535,7 @@ fn pulse_of<A: Allocator + Copy>(
 /// The same where node 1 pulses, which sends its request again.
 fn pulse_at<A: Allocator + Copy>(
     rt: &impl Abort,
-    memory: &Refusing<Global>,
+    memory: &Failing<Global>,
     alloc: A,
     n: u64,
 ) -> bool {
@@ -550,7 +545,7 @@ fn pulse_at<A: Allocator + Copy>(
 
 #[test]
 fn growths_of_a_pulse(rt: HostRuntime) {
-    let memory = Refusing::new(rt.alloc());
+    let memory = Failing::new(rt.alloc());
     for n in 1..MANY {
         if !pulse_at(&rt, &memory, &memory, n) {
             assert!(&rt; n > 1);

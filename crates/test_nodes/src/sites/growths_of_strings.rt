@@ -1,7 +1,7 @@
 //! Each growth refused in turn where frames are written, read, sent and sent again, in the order checker
 //! and in a page table.
 use crate::sites::common::{MANY, PAIR, REPLY, is_met, string};
-use failing_alloc::Refusing;
+use failing_alloc::Failing;
 use ivy_model::{Call, Fault, Record, Reply, check_order};
 use ivy_pagetable::PageTable;
 use ivy_wire::{Content, Frame, Message, Parcel, decode, encode};
@@ -39,7 +39,7 @@ fn same_frames(one: &[Frame<&[u8]>], other: &[Frame<&[u8]>]) -> bool {
     one == other
 }
 
-fn encode_at(rt: &impl Abort, memory: &Refusing<Global>, n: u64) -> bool {
+fn encode_at(rt: &impl Abort, memory: &Failing<Global>, n: u64) -> bool {
     let frame = Frame {
         source: 0,
         dest: 1,
@@ -54,7 +54,7 @@ fn encode_at(rt: &impl Abort, memory: &Refusing<Global>, n: u64) -> bool {
     is_met(rt, memory, n, fault)
 }
 
-fn decode_at(rt: &impl Abort, memory: &Refusing<Global>, n: u64) -> bool {
+fn decode_at(rt: &impl Abort, memory: &Failing<Global>, n: u64) -> bool {
     let string = string(rt, memory, (REPLY, Some(0)));
     PAIR.check().expect(rt, "a configuration");
     memory.refuse(n);
@@ -63,7 +63,7 @@ fn decode_at(rt: &impl Abort, memory: &Refusing<Global>, n: u64) -> bool {
 }
 
 /// A refused message is sent later, under the number that it would have had.
-fn send_at(rt: &impl Abort, memory: &Refusing<Global>, n: u64) -> bool {
+fn send_at(rt: &impl Abort, memory: &Failing<Global>, n: u64) -> bool {
     let parcels = [Parcel {
         source: 0,
         dest: 1,
@@ -83,7 +83,7 @@ fn send_at(rt: &impl Abort, memory: &Refusing<Global>, n: u64) -> bool {
 }
 
 /// A refused pulse leaves all that is kept.
-fn pulse_at(rt: &impl Abort, memory: &Refusing<Global>, n: u64) -> bool {
+fn pulse_at(rt: &impl Abort, memory: &Failing<Global>, n: u64) -> bool {
     let mut link = Link::new(memory, 0, 2).expect(rt, "memory");
     let parcels = [Parcel {
         source: 0,
@@ -105,7 +105,7 @@ const BLOCK: Record = Record {
     reply: Reply::Value(64),
 };
 
-fn check_order_at(rt: &impl Abort, memory: &Refusing<Global>, n: u64) -> bool {
+fn check_order_at(rt: &impl Abort, memory: &Failing<Global>, n: u64) -> bool {
     PAIR.check().expect(rt, "a configuration");
     memory.refuse(n);
     let answer = check_order(memory, &PAIR, &[BLOCK]);
@@ -114,7 +114,7 @@ fn check_order_at(rt: &impl Abort, memory: &Refusing<Global>, n: u64) -> bool {
     met
 }
 
-fn page_table_at(rt: &impl Abort, memory: &Refusing<Global>, n: u64) -> bool {
+fn page_table_at(rt: &impl Abort, memory: &Failing<Global>, n: u64) -> bool {
     PAIR.check().expect(rt, "a configuration");
     memory.refuse(n);
     let fault = PageTable::new(memory, &PAIR, 0).err();
@@ -122,7 +122,7 @@ fn page_table_at(rt: &impl Abort, memory: &Refusing<Global>, n: u64) -> bool {
 }
 
 /// The call with the n-th growth refused. Whether that growth was asked for.
-fn refused_at(rt: &impl Abort, memory: &Refusing<Global>, n: u64, growing: Growing) -> bool {
+fn refused_at(rt: &impl Abort, memory: &Failing<Global>, n: u64, growing: Growing) -> bool {
     match growing {
         Growing::Encode => encode_at(rt, memory, n),
         Growing::Decode => decode_at(rt, memory, n),
@@ -135,7 +135,7 @@ fn refused_at(rt: &impl Abort, memory: &Refusing<Global>, n: u64, growing: Growi
 
 /// Refuses each growth in turn, until one is not asked for.
 fn growths_of(rt: &impl Abort, alloc: Global, growing: Growing) {
-    let memory = Refusing::new(alloc);
+    let memory = Failing::new(alloc);
     for n in 1..MANY {
         if !refused_at(rt, &memory, n, growing) {
             assert!(rt; n > 1);

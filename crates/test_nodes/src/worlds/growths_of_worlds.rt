@@ -18,7 +18,7 @@ use crate::worlds::stores::{
     LATE, LATE_MOVES, UPGRADE_OF_THREE, UPGRADE_OF_THREE_MOVES, UPGRADE_OF_TWO,
     UPGRADE_OF_TWO_MOVES,
 };
-use failing_alloc::Refusing;
+use failing_alloc::Failing;
 use ivy_model::{Config, Fault};
 use ivy_wire::FrameKind;
 use ivy_world::{Move, World};
@@ -84,7 +84,7 @@ struct Growing<'a> {
 /// for.
 fn refused_of<A: Allocator + Copy>(
     rt: &impl Abort,
-    memory: &Refusing<Global>,
+    memory: &Failing<Global>,
     n: u64,
     moves: &[Move],
     refused: &mut World<A>,
@@ -119,7 +119,7 @@ fn check_rest<A: Allocator + Copy>(
 
 fn refused_at(
     rt: &impl Abort,
-    memory: &Refusing<Global>,
+    memory: &Failing<Global>,
     n: u64,
     growing: &Growing,
 ) -> Result<bool, Fail> {
@@ -129,7 +129,7 @@ fn refused_at(
 }
 
 /// Refuses each growth of a run in turn, until one is not asked for.
-fn growths_of(rt: &impl Abort, memory: &Refusing<Global>, growing: &Growing) -> Result<(), Fail> {
+fn growths_of(rt: &impl Abort, memory: &Failing<Global>, growing: &Growing) -> Result<(), Fail> {
     for n in 1..MANY_IN_A_RUN {
         if !refused_at(rt, memory, n, growing)? {
             assert!(rt; n > 1);
@@ -169,7 +169,7 @@ static RUNS: [Growing<'static>; 5] = [
 
 #[test]
 fn growths_of_runs(rt: HostRuntime) -> Result<(), Fail> {
-    let memory = Refusing::new(rt.alloc());
+    let memory = Failing::new(rt.alloc());
     for growing in &RUNS {
         growths_of(&rt, &memory, growing)?;
     }
@@ -183,7 +183,7 @@ fn growths_of_moves<R: Abort + AllocGlobal>(
     text: &str,
     moves: Vec<Move, Global>,
 ) -> Result<(), Fail> {
-    let memory = Refusing::new(rt.alloc());
+    let memory = Failing::new(rt.alloc());
     let growing = Growing {
         config,
         text,
@@ -299,7 +299,7 @@ fn check_replaced<A: Allocator + Copy>(
 /// Delivers the request with the n-th growth refused. Whether that growth was asked for.
 fn replaced_of<A: Allocator + Copy>(
     rt: &impl Abort,
-    (memory, alloc): (&Refusing<Global>, A),
+    (memory, alloc): (&Failing<Global>, A),
     n: u64,
     replaced: &Replaced,
     world: &mut World<A>,
@@ -320,7 +320,7 @@ fn replaced_of<A: Allocator + Copy>(
 
 fn replaced_at(
     rt: &impl Abort,
-    memory: &Refusing<Global>,
+    memory: &Failing<Global>,
     n: u64,
     replaced: &Replaced,
 ) -> Result<bool, Fail> {
@@ -330,7 +330,7 @@ fn replaced_at(
 
 fn replace_each(
     rt: &impl Abort,
-    memory: &Refusing<Global>,
+    memory: &Failing<Global>,
     replaced: &Replaced,
 ) -> Result<(), Fail> {
     for n in 1..MANY {
@@ -345,7 +345,7 @@ fn replace_each(
 /// A pulse and a delivery replace the delivery that was refused, and the programs go on to the same end.
 #[test]
 fn refused_delivery_replaced(rt: HostRuntime) -> Result<(), Fail> {
-    let memory = Refusing::new(rt.alloc());
+    let memory = Failing::new(rt.alloc());
     for replaced in &REPLACED {
         replace_each(&rt, &memory, replaced)?;
     }

@@ -5,7 +5,7 @@ use crate::worlds::common::{
 };
 use crate::worlds::counts::{GIVEN_NOTICE, NOTICE, NOTICED};
 use crate::worlds::growths_of_worlds::same_worlds;
-use failing_alloc::Refusing;
+use failing_alloc::Failing;
 use ivy_model::{Config, Fault, Kind};
 use ivy_world::{Move, Rest, World};
 use std::alloc::{Allocator, Global};
@@ -261,7 +261,7 @@ fn check_same<A: Allocator + Copy>(
 /// Settles a world with the n-th growth refused, and one without. Whether that growth was asked for.
 fn refused_of<A: Allocator + Copy>(
     rt: &impl Abort,
-    memory: &Refusing<Global>,
+    memory: &Failing<Global>,
     n: u64,
     refused: &mut World<A>,
     twin: &mut World<A>,
@@ -282,7 +282,7 @@ fn refused_of<A: Allocator + Copy>(
     true
 }
 
-fn refused_at(rt: &impl Abort, memory: &Refusing<Global>, n: u64) -> Result<bool, Fail> {
+fn refused_at(rt: &impl Abort, memory: &Failing<Global>, n: u64) -> Result<bool, Fail> {
     let mut refused = world(memory, PAIR, NOTICE)?;
     let mut twin = world(memory, PAIR, NOTICE)?;
     Ok(refused_of(rt, memory, n, &mut refused, &mut twin))
@@ -290,7 +290,7 @@ fn refused_at(rt: &impl Abort, memory: &Refusing<Global>, n: u64) -> Result<bool
 
 #[test]
 fn growths_of_settling(rt: HostRuntime) -> Result<(), Fail> {
-    let memory = Refusing::new(rt.alloc());
+    let memory = Failing::new(rt.alloc());
     for n in 1..ENOUGH {
         if !refused_at(&rt, &memory, n)? {
             assert!(rt; n > 1);

@@ -1,7 +1,7 @@
 //! Each growth of a session refused in turn: every worker ends, and no report is given. One exception: where a string
 //! that came early could not be gone on with for that growth, it is gone on with later, and the report may be given.
 use crate::sessions::common::{LIMITS, LOADS, NOTICE, PAIR, expect_same, expect_same_at, shown_of};
-use failing_alloc::Refusing;
+use failing_alloc::Failing;
 use ivy_commands::ivy_session::{OpenGate, Session};
 use ivy_model::Fault;
 use ivy_program::parse;
@@ -17,7 +17,7 @@ const MANY: u64 = 20_000;
 /// they asked for fewer growths.
 fn asks_for_fewer<R: Abort + AllocGlobal + Threads + Wait + Sync>(
     rt: &R,
-    (memory, n): (&Refusing<Global>, u64),
+    (memory, n): (&Failing<Global>, u64),
     text: &str,
     printed: &[u64],
 ) -> bool {
@@ -39,7 +39,7 @@ fn refuse_each<R: Abort + AllocGlobal + Threads + Wait + Sync>(
     text: &str,
     printed: &[u64],
 ) -> u64 {
-    let memory = Refusing::new(rt.alloc());
+    let memory = Failing::new(rt.alloc());
     for n in 1..MANY {
         if asks_for_fewer(rt, (&memory, n), text, printed) {
             return n - 1;

@@ -6,7 +6,7 @@ ghost use Rattle.ivy_commands.specs.ivy_ether.Views.{with_issued};
 ghost use Rattle.ivy_commands.specs.ivy_ether.Words.{IsNewcomer};
 
 use crate::sessions::common::{TRIO, expect_same};
-use failing_alloc::Refusing;
+use failing_alloc::Failing;
 use ivy_commands::ivy_ether::{Ether, Pass, Setup, Wired};
 use ivy_commands::ivy_session::{Seated, WireTurn};
 use ivy_commands::ivy_site::{Site, Turn};
@@ -93,7 +93,7 @@ fn expect_turn<S: Setup, A: Allocator + Copy, R: Wait + Abort>(
 /// then, the node is as it was, and it serves the request that a pulse of node 2 brings again.
 fn serve<S: Setup, A: Allocator + Copy, R: Wait + Abort>(
     rt: &R,
-    (memory, n): (&Refusing<Global>, u64),
+    (memory, n): (&Failing<Global>, u64),
     one: &mut Seated<'_, S, A>,
     two: &mut Seated<'_, S, A>,
 ) -> bool {
@@ -118,7 +118,7 @@ fn serve<S: Setup, A: Allocator + Copy, R: Wait + Abort>(
 /// that growth was asked for.
 fn turn_by_turn<S: Setup, A: Allocator + Copy, R: Wait + Abort>(
     rt: &R,
-    refused: (&Refusing<Global>, u64),
+    refused: (&Failing<Global>, u64),
     one: &mut Seated<'_, S, A>,
     two: &mut Seated<'_, S, A>,
 ) -> bool {
@@ -140,7 +140,7 @@ fn turn_by_turn<S: Setup, A: Allocator + Copy, R: Wait + Abort>(
 fn play<S: Setup, A: Allocator + Copy, R: Wait + Abort>(
     rt: &R,
     alloc: A,
-    refused: (&Refusing<Global>, u64),
+    refused: (&Failing<Global>, u64),
     config: &Config,
     programs: Vec<Program<A>, A>,
 ) -> Result<bool, Fail>
@@ -165,17 +165,17 @@ fn play<S: Setup, A: Allocator + Copy, R: Wait + Abort>(
 }
 
 /// Makes the turns with the n-th growth refused.
-fn play_at<R: Wait + Abort>(rt: &R, memory: &Refusing<Global>, n: u64) -> Result<bool, Fail> {
+fn play_at<R: Wait + Abort>(rt: &R, memory: &Failing<Global>, n: u64) -> Result<bool, Fail> {
     let programs = parse(memory, ASKS)?;
     FIXED_TRIO.check()?;
     assert!(rt; programs.len() == 3);
-    play::<Brand, &Refusing<Global>, R>(rt, memory, (memory, n), &FIXED_TRIO, programs)
+    play::<Brand, &Failing<Global>, R>(rt, memory, (memory, n), &FIXED_TRIO, programs)
 }
 
 /// Each growth of the turn that serves is refused in turn, and in the last of these runs none.
 #[test]
 fn wire_turns_at_capacity_one(rt: HostRuntime) -> Result<(), Fail> {
-    let memory = Refusing::new(rt.alloc());
+    let memory = Failing::new(rt.alloc());
     for n in 1..MANY {
         if !play_at(&rt, &memory, n)? {
             assert!(&rt; n > 1);

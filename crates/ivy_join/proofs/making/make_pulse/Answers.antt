@@ -1,5 +1,5 @@
 use Rattle.std.proofs.Common.{rules, ◌≡◌, ◌≢◌, ◌<◌, false}
-use Rattle.ivy_join.proofs.Steps.{pulsed, pulsed-listed, none-waits}
+use Rattle.ivy_join.proofs.Steps.{pulsed, pulsed-listed, none_waits}
 use Rattle.ivy_join.proofs.making.make_pulse.Goals as goal
 
 pub returns-clause-on : goal.returns-clause-on
@@ -13,5 +13,5 @@ pub returns-clause-made : goal.returns-clause-made
 returns-clause-made g c =
     let off : c.has_frame.result ≡ false = search rules in
     λ happens. pulsed-listed c.args.to c.args.site.now c.pulse.new.self (search rules)
-    (none-waits c.args.site.now.waiting c.has_frame.result c.has_frame.ensures off)
+    (none_waits c.args.site.now.waiting c.has_frame.result c.has_frame.ensures off)
     (c.has_frame-2.ensures.0 happens)

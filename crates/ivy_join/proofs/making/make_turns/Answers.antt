@@ -5,12 +5,12 @@ use Rattle.ivy_site.specs.declared.turn.Turn.TheVariants.{Moved}
 use Rattle.ivy_site.specs.Sites.{AfterTurn}
 use Rattle.ivy_join.specs.Exact.{Makes}
 use Rattle.ivy_join.proofs.Exactly.{never-turns, no-turn-by, one-more-makes}
-use Rattle.ivy_join.proofs.Steps.{goes-further, turned, one-more}
+use Rattle.ivy_join.proofs.Steps.{goes_further, turned, one_more}
 use Rattle.ivy_join.proofs.making.make_turns.Goals as goal
 
 pub returns-in-Err : goal.returns-in-Err
 returns-in-Err g c = record {
-  on = λ sent. goes-further sent c.args.site.now c.loop-made.site c.program_turn.new.self
+  on = λ sent. goes_further sent c.args.site.now c.loop-made.site c.program_turn.new.self
       (c.loop-made.invariant.on sent)
       (turned sent c.program_turn.result c.loop-made.site c.program_turn.new.self
       c.program_turn.ensures.done);
@@ -20,14 +20,14 @@ returns-in-Err g c = record {
 
 pub returns-in-Ok-clause-on : goal.returns-in-Ok-clause-on
 returns-in-Ok-clause-on g c =
-    λ sent. goes-further sent c.args.site.now c.loop-made.site c.program_turn.new.self
+    λ sent. goes_further sent c.args.site.now c.loop-made.site c.program_turn.new.self
     (c.loop-made.invariant.on sent)
     (turned sent c.program_turn.result c.loop-made.site c.program_turn.new.self
     c.program_turn.ensures.done)
 
 pub returns-in-Ok-2-clause-on : goal.returns-in-Ok-2-clause-on
 returns-in-Ok-2-clause-on g c =
-    λ sent. goes-further sent c.args.site.now c.loop-made.site c.program_turn.new.self
+    λ sent. goes_further sent c.args.site.now c.loop-made.site c.program_turn.new.self
     (c.loop-made.invariant.on sent)
     (turned sent c.program_turn.result c.loop-made.site c.program_turn.new.self
     c.program_turn.ensures.done)
@@ -35,12 +35,12 @@ returns-in-Ok-2-clause-on g c =
 pub loop-made-preserved : goal.loop-made-preserved
 loop-made-preserved g c =
     let moved : AfterTurn Moved c.loop-made.site c.program_turn.new.self = search rules in record {
-      on = λ sent. goes-further sent c.args.site.now c.loop-made.site c.program_turn.new.self
+      on = λ sent. goes_further sent c.args.site.now c.loop-made.site c.program_turn.new.self
           (c.loop-made.invariant.on sent)
           (turned sent c.program_turn.result c.loop-made.site c.program_turn.new.self
           c.program_turn.ensures.done);
       within = omega arith;
-      made = one-more c.args.site.now.events c.loop-made.made c.loop-made.site c.program_turn.new.self
+      made = one_more c.args.site.now.events c.loop-made.made c.loop-made.site c.program_turn.new.self
           c.loop-made.invariant.made moved;
       exact = one-more-makes c.args.site.now c.loop-made.site c.program_turn.new.self c.loop-made.made
           (c.loop-made.invariant.on []).config c.loop-made.invariant.exact moved;

@@ -7,7 +7,7 @@ use Rattle.ivy_moves.specs.Marks.{marks}
 use Rattle.ivy_join.specs.Exact.{HaveSent}
 use Rattle.ivy_join.specs.Joining.{ArePlayed}
 use Rattle.ivy_join.specs.Joined.{AreJoined, AreNoParts, SaysNoParts}
-use Rattle.ivy_join.proofs.Ended.{first-played, first-programs, first-sent, joined, are-kept, nothing}
+use Rattle.ivy_join.proofs.Ended.{first-played, first_programs, first-sent, joined, are-kept, nothing}
 use Rattle.ivy_join.proofs.merging.join.Goals as goal
 
 pub play-requires-clause-played : goal.play-requires-clause-played
@@ -48,7 +48,7 @@ returns-in_err-play-clause-refused g c =
     rw p.1
     (λ told. subst (λ ps. AreNoParts c.args.config ps
     (map (λ (x : Log g.row.A.Denot). marks x.events.items) c.args.logs.now))
-    (first-programs c.args.config c.args.programs.items c.in_ok-sites.sites.items limits each
+    (first_programs c.args.config c.args.programs.items c.in_ok-sites.sites.items limits each
     c.in_ok-sites.ensures.first)
     (c.in_err-play.ensures.refused (subst SaysNoParts p.2 told)))
 
@@ -65,7 +65,7 @@ returns-clause-joined g c =
     (joined c.args.config c.args.programs.items c.play.new.sites.items c.play.new.sent _
     c.in_ok-play.ensures.played
     (c.in_ok-play.ensures.programs
-    ∙ first-programs c.args.config c.args.programs.items c.in_ok-sites.sites.items limits each first)
+    ∙ first_programs c.args.config c.args.programs.items c.in_ok-sites.sites.items limits each first)
     (length-map c.args.logs.now _ ∙ c.in_ok-check_heads.ensures.count ∙ sym began.count
     ∙ sym c.in_ok-play.ensures.count)
     c.in_ok-play.ensures.lists)

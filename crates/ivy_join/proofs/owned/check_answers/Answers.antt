@@ -2,7 +2,7 @@ use Rattle.std.proofs.Common.{rules, ◌≡◌, below_more, length, ap, refl, su
 use Rattle.std.proofs.lemmas.Option.{slice_get_read}
 use Rattle.ivy_moves.specs.Keeping.{keeps_history, read_of}
 use Rattle.ivy_join.specs.Owned.{Tells}
-use Rattle.ivy_join.proofs.Told.{told-at, told-all}
+use Rattle.ivy_join.proofs.Told.{told_at, told-all}
 use Rattle.ivy_join.proofs.owned.check_answers.Goals as goal
 
 pub loop-node-preserved : goal.loop-node-preserved
@@ -17,7 +17,7 @@ loop-node-preserved g c =
     ∙ ap (λ k. read_of (keeps_history k) c.index-sites-node.result.node.core.history)
     (c.requires.kept c.loop-node.node c.index-sites-node.result site) in
     below_more _ _ c.loop-node.invariant
-    (told-at _ c.args.logs.now c.args.sites.now c.loop-node.node c.index-logs-node.result
+    (told_at _ c.args.logs.now c.args.sites.now c.loop-node.node c.index-logs-node.result
     c.index-sites-node.result log site
     (subst (λ es. Tells es c.index-sites-node.result.node.core.history) same
     (subst (Tells c.deref.result.now) history (c.are_told.ensures (search rules)))))

@@ -4,7 +4,7 @@ use Rattle.ivy_lines.specs.Own.{events_in}
 use Rattle.ivy_moves.specs.Keeping.{keeps_events, read_of}
 use Rattle.ivy_moves.specs.Marks.{marks}
 use Rattle.ivy_join.specs.Joining.{listed}
-use Rattle.ivy_join.proofs.Ended.{part-at, lists-all}
+use Rattle.ivy_join.proofs.Ended.{part_at, lists-all}
 use Rattle.ivy_join.proofs.owned.check_events.Goals as goal
 
 pub loop-node-preserved : goal.loop-node-preserved
@@ -20,7 +20,7 @@ loop-node-preserved g c =
     (sym (c.requires.kept c.loop-node.node c.index-sites-node.result site))
     ∙ sym c.events.ensures.is ∙ c.are_listed.ensures (search rules)
     ∙ ap (λ l. marks (events_in l)) same
-    ∙ sym (part-at _ c.args.logs.now c.loop-node.node c.index-logs-node.result log))
+    ∙ sym (part_at _ c.args.logs.now c.loop-node.node c.index-logs-node.result log))
 
 pub returns : goal.returns
 returns g c =

@@ -5,7 +5,7 @@ use Rattle.ivy_program.specs.Programs.{Called}
 use Rattle.ivy_world.specs.Handed.{own_code}
 use Rattle.ivy_join.specs.Joining.{events_at, ArePlayed, AreKept}
 use Rattle.ivy_join.specs.Owned.{AreOwnJoined, AreTold}
-use Rattle.ivy_join.proofs.Ended.{first-played, first-programs, are-kept}
+use Rattle.ivy_join.proofs.Ended.{first-played, first_programs, are-kept}
 use Rattle.ivy_join.proofs.Ordered.{own-answered, own-joined}
 use Rattle.ivy_join.proofs.owned.join_own.Goals as goal
 
@@ -26,7 +26,7 @@ play_own-requires-clause-logs g c =
 pub play_own-requires-clause-own : goal.play_own-requires-clause-own
 play_own-requires-clause-own g c =
     let limits : IsConfig c.args.config = c.in_ok-check_wide.ensures.accepted.0 (search rules) in
-    first-programs c.args.config (own_code c.args.config.nodes) c.in_ok-sites.sites.items limits
+    first_programs c.args.config (own_code c.args.config.nodes) c.in_ok-sites.sites.items limits
     (length-replicate c.args.config.nodes (Called [])) c.in_ok-sites.ensures.first
     ∙ ap own_code (sym c.in_ok-check_heads.ensures.count)
 

@@ -1,6 +1,6 @@
 use Rattle.std.proofs.Common.{rules, ◌≡◌, ◌<◌, ◌≤◌, length, subst, refl, ◌∙◌, arith}
 use Rattle.ivy_join.specs.Exact.{CameTo, IsMadeAt, IsNeverAt, IsWaiting}
-use Rattle.ivy_join.proofs.Went.{plays-waits, plays-never, plays-more, plays-elsewhere}
+use Rattle.ivy_join.proofs.Went.{plays-waits, plays-never, plays_more, plays-elsewhere}
 use Rattle.ivy_join.proofs.playing.play_log.Goals as goal
 
 pub returns-in-Waits-clause-exact : goal.returns-in-Waits-clause-exact
@@ -49,7 +49,7 @@ loop-place-preserved g c =
       count = c.play_event.ensures.count ∙ inv.count;
       at = refl;
       have = made.have;
-      here = plays-more c.args.node c.args.log.now.events.items c.args.made.now at.place c.args.sites.now.items
+      here = plays_more c.args.node c.args.log.now.events.items c.args.made.now at.place c.args.sites.now.items
           at.sites.items c.args.sent.now at.sent from inv.have inv.here inv.elsewhere inv.sites inv.strings
           c.index-event.result.now c.play_event.new.sites.items c.play_event.new.sent below c.index-event.ensures
           made;

@@ -4,7 +4,7 @@ use Rattle.std.proofs.lemmas.Result.{err_from_is_err_and}
 use Rattle.std.proofs.lemmas.Option.{slice_get-get_or, slice_get_read}
 use Rattle.ivy_join.specs.Joined.{SaysNoParts}
 use Rattle.ivy_join.proofs.Counted.{each-on, made-at-map, stuck-all}
-use Rattle.ivy_join.proofs.Rounds.{few-on, less-on, none-of, stuck-on}
+use Rattle.ivy_join.proofs.Rounds.{few-on, less-on, none_of, stuck-on}
 use Rattle.ivy_lines.specs.declared.log.Log.{Log}
 use Rattle.ivy_join.proofs.playing.play_round.Goals as goal
 use Rattle.ivy_join.proofs.playing.play_round.Goals.{then-branch, else-branch}
@@ -24,7 +24,7 @@ returns-in_err-play_log-clause-refused g c =
     c.index-logs-node.result refl (search rules) c.index-logs-node.is in
     let inv = c.loop-node.invariant in
     rw p.1
-    (λ told. none-of (λ x. x.events.items) c.args.config.now c.loop-node.sites.items c.loop-node.sent _
+    (λ told. none_of (λ x. x.events.items) c.args.config.now c.loop-node.sites.items c.loop-node.sent _
     c.args.logs.now c.loop-node.node c.index-logs-node.result inv.played inv.programs
     (c.requires.logs ∙ sym inv.count) log (c.in_err-play_log.ensures.refused (subst SaysNoParts p.2 told)))
 

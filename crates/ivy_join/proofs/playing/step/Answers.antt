@@ -1,7 +1,7 @@
 use Rattle.std.proofs.Common.{◌≡◌, slice_get, Some, length, refl}
 use Rattle.std.proofs.lemmas.Option.{slice_get_read}
 use Rattle.ivy_join.specs.Joining.{GoesOnBy}
-use Rattle.ivy_join.proofs.Played.{took-old, limits-old, programs-same, played-on}
+use Rattle.ivy_join.proofs.Played.{took-old, limits-old, programs-same, played_on}
 use Rattle.ivy_join.proofs.Sent.{step-says}
 use Rattle.ivy_join.proofs.playing.step.Goals as goal
 
@@ -16,7 +16,7 @@ returns-clause-played g c =
     c.make.ensures.on c.args.sent.now
     (limits-old c.args.config.now c.args.sent.now c.args.node old c.requires.played.limits own)
     (took-old c.args.config.now c.args.sent.now c.args.node old own) c.requires.there in
-    played-on c.args.config.now c.args.sites.now.items c.args.sent.now c.collect.new.sent c.args.node old
+    played_on c.args.config.now c.args.sites.now.items c.args.sent.now c.collect.new.sent c.args.node old
     c.make.new.site c.collect.new.site c.requires.played there on c.event_list.ensures.made
     c.event_list-2.ensures.made c.collect.ensures.site c.collect.ensures.kept c.collect.ensures.added
 

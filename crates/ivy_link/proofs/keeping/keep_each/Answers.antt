@@ -1,8 +1,8 @@
 use Rattle.std.proofs.Common.{rules, ◌<◌, length, ◌+◌, ◌^◌, ap, ◌∙◌, arith}
 use Rattle.ivy_link.specs.Linked.{with_message}
 use Rattle.ivy_link.specs.Sides.{held_of}
-use Rattle.ivy_link.proofs.Peers.{stays-same}
-use Rattle.ivy_link.proofs.Sending.{kept-inside, kept-here, kept-more, copy-here}
+use Rattle.ivy_link.proofs.Peers.{stays_same}
+use Rattle.ivy_link.proofs.Sending.{kept-inside, kept-here, kept_more, copy-here}
 use Rattle.ivy_link.proofs.keeping.keep_each.Goals as goal
 
 pub index_mut-requires : goal.index_mut-requires
@@ -40,13 +40,13 @@ loop-parcel-preserved g c =
     c.loop-parcel.invariant.keeping in
     record {
       keeping =
-          kept-more c.args.sides.now.items c.args.parcels.now c.loop-parcel.sides.items
+          kept_more c.args.sides.now.items c.args.parcels.now c.loop-parcel.sides.items
           c.loop-parcel.parcel-index c.from.result c.loop-parcel-test.true c.from.ensures
           c.index_mut.result.now c.keep.new.self c.loop-parcel.invariant.keeping
           c.index_mut.ensures.value
           (c.keep.ensures.peer ∙ ap (with_message c.index_mut.result.now.peer) facts.0)
           c.keep.ensures.room;
-      held = stays-same held_of c.args.sides.now.items c.loop-parcel.sides.items c.from.result
+      held = stays_same held_of c.args.sides.now.items c.loop-parcel.sides.items c.from.result
           c.index_mut.result.now c.keep.new.self c.loop-parcel.invariant.held at
           c.index_mut.ensures.value c.keep.ensures.held;
       copies = facts.1;

@@ -2,7 +2,7 @@ use Rattle.std.proofs.Common.{◌≡◌, ◌<◌, ◌≤◌, length, map, take, 
 use Rattle.std.proofs.lemmas.List.{length-map, take_all}
 use Rattle.ivy_wire.specs.Lent.{owned_parcel}
 use Rattle.ivy_link.specs.Sides.{peer_of, held_of, side_at, count_to}
-use Rattle.ivy_link.proofs.Peers.{stays-same}
+use Rattle.ivy_link.proofs.Peers.{stays_same}
 use Rattle.ivy_link.proofs.Counting.{counted_few, room-more, room-none}
 use Rattle.ivy_link.proofs.Sending.{ready-within, parcel_at, parcel-here, parcel-inside}
 use Rattle.ivy_link.proofs.keeping.reserve.Goals as goal
@@ -21,7 +21,7 @@ returns-in_err-reserve-clause-peers g c =
     ready-within c.args.sides.now.items c.loop-parcel.sides.items c.args.parcels.now
     c.loop-parcel.parcel-index c.from.result c.loop-parcel.invariant.peers c.requires.within
     c.loop-parcel-test.true c.from.ensures in
-    stays-same peer_of c.args.sides.now.items c.loop-parcel.sides.items c.from.result
+    stays_same peer_of c.args.sides.now.items c.loop-parcel.sides.items c.from.result
     c.index_mut.result.now c.reserve.new.self c.loop-parcel.invariant.peers at
     c.index_mut.ensures.value c.reserve.ensures.peer
 
@@ -31,7 +31,7 @@ returns-in_err-reserve-clause-held g c =
     ready-within c.args.sides.now.items c.loop-parcel.sides.items c.args.parcels.now
     c.loop-parcel.parcel-index c.from.result c.loop-parcel.invariant.peers c.requires.within
     c.loop-parcel-test.true c.from.ensures in
-    stays-same held_of c.args.sides.now.items c.loop-parcel.sides.items c.from.result
+    stays_same held_of c.args.sides.now.items c.loop-parcel.sides.items c.from.result
     c.index_mut.result.now c.reserve.new.self c.loop-parcel.invariant.held at
     c.index_mut.ensures.value c.reserve.ensures.held
 
@@ -51,10 +51,10 @@ loop-parcel-preserved g c =
     ) in
     let room : length c.args.parcels.now ≤ c.reserve.new.self.room = c.in_ok-reserve.ensures.room in
     record {
-      peers = stays-same peer_of c.args.sides.now.items c.loop-parcel.sides.items c.from.result
+      peers = stays_same peer_of c.args.sides.now.items c.loop-parcel.sides.items c.from.result
           c.index_mut.result.now c.reserve.new.self c.loop-parcel.invariant.peers at
           c.index_mut.ensures.value c.reserve.ensures.peer;
-      held = stays-same held_of c.args.sides.now.items c.loop-parcel.sides.items c.from.result
+      held = stays_same held_of c.args.sides.now.items c.loop-parcel.sides.items c.from.result
           c.index_mut.result.now c.reserve.new.self c.loop-parcel.invariant.held at
           c.index_mut.ensures.value c.reserve.ensures.held;
       room = room-more c.loop-parcel.sides.items (map owned_parcel c.args.parcels.now)

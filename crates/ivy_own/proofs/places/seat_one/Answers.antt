@@ -5,7 +5,7 @@ use Rattle.ivy_model.specs.Config.{IsConfig}
 use Rattle.ivy_program.specs.Programs.{Called}
 use Rattle.ivy_seating.specs.ivy_ether.Held.{Held}
 use Rattle.ivy_seating.specs.ivy_ether.Views.{newcomer, with_seat}
-use Rattle.ivy_seating.specs.ivy_site.Shown.{Shown}
+use Rattle.ivy_seating.specs.ivy_site.SiteView.{SiteView}
 use Rattle.ivy_seating.specs.ivy_site.Sites.{first_keeping}
 use Rattle.ivy_own.proofs.Each.{get_replicate}
 use Rattle.ivy_own.proofs.places.seat_one.Goals as goal
@@ -23,8 +23,8 @@ new-requires g c =
     let first : c.in_ok-site.site
     ≡ first_keeping c.args.keep c.args.config.now c.args.node (Called []) =
     c.in_ok-site.ensures.first in
-    let me : c.in_ok-site.site.me ≡ c.args.node = ap (λ (x : Shown). x.me) first in
-    let keep = ap (λ (x : Shown). x.keep) first in
+    let me : c.in_ok-site.site.me ≡ c.args.node = ap (λ (x : SiteView). x.me) first in
+    let keep = ap (λ (x : SiteView). x.keep) first in
     let inside : c.args.node < g.S.Setup.config.nodes =
     subst (λ (k : Config). c.args.node < k.nodes) c.requires.config c.requires.node in
     record {

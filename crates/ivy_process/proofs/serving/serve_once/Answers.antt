@@ -1,12 +1,12 @@
-use Rattle.ivy_process.specs.Logging.{GoesOn, Streams}
-use Rattle.ivy_process.proofs.Logged.{goes-further, streams-begin, streams-on, streams-logged}
+use Rattle.ivy_process.specs.Logging.{AddsEvents, Streams}
+use Rattle.ivy_process.proofs.Logged.{goes_further, streams-begin, streams-on, streams-logged}
 use Rattle.ivy_process.proofs.serving.serve_once.Goals as goal
 
 pub returns-then-heard : goal.returns-then-heard
 returns-then-heard g c =
     let L = g.L.Write.contents in
-    let went : GoesOn c.args.node.now c.make_turns.new.self =
-    goes-further c.args.node.now c.hear.new.node c.make_turns.new.self c.in_ok-heard.ensures
+    let went : AddsEvents c.args.node.now c.make_turns.new.self =
+    goes_further c.args.node.now c.hear.new.node c.make_turns.new.self c.in_ok-heard.ensures
     c.in_ok-made.ensures in
     streams-logged c.args.node.now c.make_turns.new.self c.speak.new.self (L c.args.log.now)
     (L c.args.log.now) (L c.speak.new.log)
@@ -15,8 +15,8 @@ returns-then-heard g c =
 pub returns-else-saturating_sub-every : goal.returns-else-saturating_sub-every
 returns-else-saturating_sub-every g c =
     let L = g.L.Write.contents in
-    let went : GoesOn c.args.node.now c.make_turns.new.self =
-    goes-further c.args.node.now c.hear.new.node c.make_turns.new.self c.in_ok-heard.ensures
+    let went : AddsEvents c.args.node.now c.make_turns.new.self =
+    goes_further c.args.node.now c.hear.new.node c.make_turns.new.self c.in_ok-heard.ensures
     c.in_ok-made.ensures in
     streams-logged c.args.node.now c.make_turns.new.self c.speak.new.self (L c.args.log.now)
     (L c.args.log.now) (L c.speak.new.log)
@@ -25,8 +25,8 @@ returns-else-saturating_sub-every g c =
 pub returns-in_ok-speak-2 : goal.returns-in_ok-speak-2
 returns-in_ok-speak-2 g c =
     let L = g.L.Write.contents in
-    let went : GoesOn c.args.node.now c.make_turns.new.self =
-    goes-further c.args.node.now c.hear.new.node c.make_turns.new.self c.in_ok-heard.ensures
+    let went : AddsEvents c.args.node.now c.make_turns.new.self =
+    goes_further c.args.node.now c.hear.new.node c.make_turns.new.self c.in_ok-heard.ensures
     c.in_ok-made.ensures in
     let first : Streams c.args.node.now c.speak.new.self (g.L.Write.contents c.args.log.now)
     (g.L.Write.contents c.speak.new.log) =

@@ -1,13 +1,13 @@
 use Rattle.std.proofs.Common.{rules, arith}
 use Rattle.ivy_join.specs.ivy_site.declared.turn.Turn.TheVariants.{Moved}
 use Rattle.ivy_join.specs.ivy_site.Sites.{AfterTurn}
-use Rattle.ivy_join.proofs.Steps.{one-more}
+use Rattle.ivy_join.proofs.Steps.{one_more}
 use Rattle.ivy_process.proofs.sites.make_turns.Goals as goal
 
 pub loop-made-preserved : goal.loop-made-preserved
 loop-made-preserved c =
     let moved : AfterTurn Moved c.loop-made.site c.program_turn.new.self = search rules in record {
       within = omega arith;
-      made = one-more c.args.site.now.events c.loop-made.made c.loop-made.site c.program_turn.new.self
+      made = one_more c.args.site.now.events c.loop-made.made c.loop-made.site c.program_turn.new.self
           c.loop-made.invariant.made moved;
     }

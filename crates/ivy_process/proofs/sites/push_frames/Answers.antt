@@ -1,7 +1,7 @@
 use Rattle.std.proofs.Common.{◌∙◌, ap, []}
-use Rattle.ivy_join.specs.ivy_site.Shown.{Shown}
+use Rattle.ivy_join.specs.ivy_site.SiteView.{SiteView}
 use Rattle.ivy_process.proofs.sites.push_frames.Goals as goal
 
 pub loop-string-preserved : goal.loop-string-preserved
 loop-string-preserved c =
-    ap (λ (x : Shown). record x { waiting = [] }) c.in-Some.ensures.taken.1 ∙ c.loop-string.invariant
+    ap (λ (x : SiteView). record x { waiting = [] }) c.in-Some.ensures.taken.1 ∙ c.loop-string.invariant

@@ -3,7 +3,7 @@ use Rattle.ivy_model.specs.declared.Config.{Config}
 use Rattle.ivy_model.specs.Config.{IsConfig}
 use Rattle.ivy_ether.specs.Held.{Held}
 use Rattle.ivy_ether.specs.Views.{View, newcomer, with_seat}
-use Rattle.ivy_site.specs.Shown.{Shown}
+use Rattle.ivy_site.specs.SiteView.{SiteView}
 use Rattle.ivy_site.specs.Sites.{first_keeping}
 use Rattle.ivy_seating.proofs.seating.seat_one.Goals as goal
 
@@ -13,8 +13,8 @@ new-requires g c =
     let first : c.in_ok-site.site
     ≡ first_keeping c.args.keep c.args.config.now c.args.node c.args.program =
     c.in_ok-site.ensures.first in
-    let me : c.in_ok-site.site.me ≡ c.args.node = ap (λ (x : Shown). x.me) first in
-    let keep = ap (λ (x : Shown). x.keep) first in
+    let me : c.in_ok-site.site.me ≡ c.args.node = ap (λ (x : SiteView). x.me) first in
+    let keep = ap (λ (x : SiteView). x.keep) first in
     record {
       fresh = record {
         limits = subst IsConfig c.requires.config c.requires.limits;

@@ -4,7 +4,7 @@ use Rattle.ivy_world.specs.proof_headline.Reached.{IsLedTo}
 use Rattle.ivy_texts.specs.Drawn.{seeded, drawn}
 use Rattle.ivy_simulation.specs.Simulated.{DrawnTo}
 use Rattle.ivy_texts.proofs.Drawing.{long_strings}
-use Rattle.ivy_simulation.proofs.Simulating.{drawn-on}
+use Rattle.ivy_simulation.proofs.Simulating.{drawn_on}
 use Rattle.ivy_simulation.proofs.simulation.run_drawn.Goals as goal
 
 pub draw-step-requires-clause-strings : goal.draw-step-requires-clause-strings
@@ -29,7 +29,7 @@ loop-made-preserved g c =
     record {
       config = c.make.ensures.config ∙ c.loop-made.invariant.config;
       spelled = c.make.ensures.spelled;
-      drawn = drawn-on c.args.config.now (seeded c.args.seed) c.loop-made.generator
+      drawn = drawn_on c.args.config.now (seeded c.args.seed) c.loop-made.generator
           c.draw-step.new.generator c.args.world.now.world c.loop-made.world.world
           c.make.new.world.world c.loop-made._made c.draw-step.result c.loop-made.invariant.drawn
           draws led;

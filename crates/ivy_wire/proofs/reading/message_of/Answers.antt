@@ -1,7 +1,7 @@
 use Rattle.std.proofs.Common.{◌≡◌, ◌∙◌, None, Some, Option, ap, sym, refl, arith}
 use Rattle.ivy_wire.specs.declared.frame.FrameKind.{FrameKind}
 use Rattle.ivy_wire.specs.Reading.{message_at}
-use Rattle.ivy_wire.specs.Faults.{text_at}
+use Rattle.ivy_wire.specs.DecodeErrors.{text_at}
 use Rattle.ivy_wire.specs.Data.{Frame}
 use Rattle.ivy_wire.specs.Spelling.{frame_kind, text_len, Spells}
 use Rattle.ivy_wire.proofs.Frames.{spelled_long, spelled_sound, kind_spelled, message_spelled_in}

@@ -2,7 +2,7 @@ use Rattle.std.proofs.Common.{rules, ◌≡◌, Some, slice_get, sym, ap, subst,
 use Rattle.ivy_model.specs.declared.Config.{Config}
 use Rattle.ivy_model.specs.Config.{IsConfig}
 use Rattle.ivy_node.specs.ivy_session.ivy_seating.ivy_moves.declared.keep.Keep.TheVariants.{All}
-use Rattle.ivy_node.specs.ivy_session.ivy_seating.ivy_site.Shown.{Shown}
+use Rattle.ivy_node.specs.ivy_session.ivy_seating.ivy_site.SiteView.{SiteView}
 use Rattle.ivy_node.specs.ivy_session.ivy_seating.ivy_site.Sites.{first_keeping}
 use Rattle.test_surface.proofs.ether.seat.Goals as goal
 
@@ -10,8 +10,8 @@ pub new-requires-2 : goal.new-requires-2
 new-requires-2 g c =
     let first : c.in-Ok.site ≡ first_keeping All c.args.config.now c.args.node c.args.program =
     c.in-Ok.ensures.first in
-    let me : c.in-Ok.site.me ≡ c.args.node = ap (λ (x : Shown). x.me) first in
-    let keep = ap (λ (x : Shown). x.keep) first in
+    let me : c.in-Ok.site.me ≡ c.args.node = ap (λ (x : SiteView). x.me) first in
+    let keep = ap (λ (x : SiteView). x.keep) first in
     record {
       fresh = record {
         limits = subst IsConfig c.requires.config c.requires.limits;

@@ -7,7 +7,7 @@ use Rattle.ivy_ether.specs.Held.{Held}
 use Rattle.ivy_ether.specs.Programs.{beginning}
 use Rattle.std.proofs.Common.{true, ◌≡◌, ◌<◌}
 use Rattle.ivy_ether.specs.Rule.{times}
-use Rattle.ivy_host.proofs.Tame.{first_length}
+use Rattle.ivy_host.proofs.WellBehaved.{first_length}
 use Rattle.ivy_ether.proofs.Keeps.{issues}
 use Rattle.ivy_ether.proofs.ether.Ether.issue_seat.Goals as goal
 

@@ -3,7 +3,7 @@ use Rattle.std.specs.BTreeMap.{get}
 use Rattle.std.specs.Ordering.{nat_cmp}
 use Rattle.std.proofs.lemmas.List.Elements.{Contains-push}
 use Rattle.ivy_join.specs.Latest.{hash_of, AreChained}
-use Rattle.ivy_join.proofs.Latest.{chained-more, last-more}
+use Rattle.ivy_join.proofs.Latest.{chained-more, last_more}
 use Rattle.ivy_join.proofs.strings.Strings.add.Goals as goal
 
 pub invariant_of-self-2 : goal.invariant_of-self-2
@@ -22,7 +22,7 @@ invariant_of-self-2 g c =
     (chained-more strings earlier (get nat_cmp c.self.inside.last) (get nat_cmp c.insert.new.self) c.args.string
     c.in_ok-earlier.earlier c.self.invariant
     (c.in_ok-earlier.ensures.old ∙ ap (get nat_cmp c.self.inside.last) hash)
-    (last-more c.hash_of.result c.len-place.result (get nat_cmp c.self.inside.last) (get nat_cmp c.insert.new.self)
+    (last_more c.hash_of.result c.len-place.result (get nat_cmp c.self.inside.last) (get nat_cmp c.insert.new.self)
     c.args.string (length strings) hash place c.in_ok-earlier.ensures.updates.0)))
 
 pub returns-clause-there : goal.returns-clause-there

@@ -1,6 +1,6 @@
 -- None with the hash was passed over, and one that was looked at is another one.
 use Rattle.std.proofs.Common.{rules, ◌≡◌, ◌<◌, length, Contains, None, refl, sym, subst}
-use Rattle.ivy_join.proofs.Latest.{LooksFrom, looks-first, looks-found, looks-inside, looks-none, looks-on, rank-falls}
+use Rattle.ivy_join.proofs.Latest.{LooksFrom, looks-first, looks-found, looks-inside, looks-none, looks-on, rank_falls}
 use Rattle.ivy_join.proofs.strings.Strings.contains.Goals as goal
 
 pub loop-next-init : goal.loop-next-init
@@ -38,7 +38,7 @@ index-next-requires g c =
 
 pub loop-next-smaller : goal.loop-next-smaller
 loop-next-smaller g c =
-    rank-falls c.loop-next.next c.index-next.result.now c.self.inside.strings.items c.args.bytes.now c.in-Some.place
+    rank_falls c.loop-next.next c.index-next.result.now c.self.inside.strings.items c.args.bytes.now c.in-Some.place
     c.in-Some.is
     (looks-on c.self.inside.strings.items c.self.inside.earlier.items _ c.args.bytes.now c.self.invariant
     c.loop-next.next c.in-Some.place c.in-Some.is c.loop-next.invariant c.index.result.now c.index-next.result.now

@@ -3,14 +3,14 @@ use Rattle.std.proofs.lemmas.Option.{slice_get-get_or}
 use Rattle.ivy_wire.specs.Lent.{owned_parcel}
 use Rattle.ivy_link.specs.Sides.{count_to, IsCountOf}
 use Rattle.ivy_link.proofs.Sending.{nobody}
-use Rattle.ivy_link.proofs.Passed.{passed-few, passed-counted}
+use Rattle.ivy_link.proofs.Passed.{passed_few, passed-counted}
 use Rattle.ivy_link.proofs.counts.Counts.pass.Goals as goal
 
 pub overflow_add-self : goal.overflow_add-self
 overflow_add-self c =
     let before = subst (λ counts. IsCountOf counts (map owned_parcel (take c.args.index
     c.args.parcels.now))) (sym c.self.view_is) c.requires.before in
-    let few = passed-few c.args.parcels.now c.args.index c.from-to.result c.self.inside.counts
+    let few = passed_few c.args.parcels.now c.args.index c.from-to.result c.self.inside.counts
     c.requires.inside c.from-to.ensures before (omega (arith, c.if-to-ge32.false)) in
     search (rules, few)
 

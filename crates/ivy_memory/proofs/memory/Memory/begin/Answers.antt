@@ -7,7 +7,7 @@ use Rattle.ivy_memory.specs.Asking.{MakesPages}
 use Rattle.ivy_memory.specs.Memories.{NodeMemory}
 use Rattle.ivy_memory.proofs.Beginning.{few_posted, err_refuses, call_asks, heap_memory}
 use Rattle.ivy_memory.specs.Memories.{asked_after, number_after}
-use Rattle.ivy_memory.proofs.Tame.{below}
+use Rattle.ivy_memory.proofs.WellBehaved.{below}
 use Rattle.ivy_memory.proofs.Same.{begun_size}
 use Rattle.ivy_memory.proofs.memory.Memory.begin.Goals as goal
 

@@ -2,8 +2,8 @@ use Rattle.std.proofs.Common.{rules, ◌≡◌, ◌∙◌, refl, sym, ap, subst,
 use Rattle.std.specs.Prelude.{string_bytes}
 use Rattle.ivy_moves.specs.declared.event.Event.TheVariants.{Delivered}
 use Rattle.ivy_join.specs.ivy_site.Inside.{AfterOnce}
-use Rattle.ivy_process.specs.Logging.{Served, served, GoesOn}
-use Rattle.ivy_process.proofs.Logged.{stays, goes-further, noted-one, once-listed}
+use Rattle.ivy_process.specs.Logging.{Served, served, AddsEvents}
+use Rattle.ivy_process.proofs.Logged.{stays, goes_further, noted-one, once-listed}
 use Rattle.ivy_process.proofs.node.Node.go_on.Goals as goal
 
 pub loop-init : goal.loop-init
@@ -16,11 +16,11 @@ loop-preserved c =
     let was : c.loop.self ≡ served c.self.inside.site (string_bytes c.self.inside.lines) = search rules in
     let once : AfterOnce (Some c.in-Some.string) c.args.from c.self.inside.site c.go_on_with.new.self =
     subst (λ o. AfterOnce o c.args.from s s') c.in-Some.is c.in_ok-string.ensures.done in
-    let one : GoesOn c.loop.self c.note.new.self =
+    let one : AddsEvents c.loop.self c.note.new.self =
     noted-one (Delivered c.in-Some.string) c.loop.self c.note.new.self s s'
     (string_bytes c.self.inside.lines) was (once-listed c.args.from c.in-Some.string s s' once)
     c.in_ok-note.ensures in record {
-      on = goes-further _ _ _ c.loop.invariant.on one;
+      on = goes_further _ _ _ c.loop.invariant.on one;
       config = ap (λ (x : Served). x.site.config) c.in_ok-note.ensures ∙ c.in_ok-string.ensures.same.0
           ∙ ap (λ (x : Served). x.site.config) (sym was) ∙ c.loop.invariant.config;
     }

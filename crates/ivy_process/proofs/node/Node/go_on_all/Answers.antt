@@ -1,6 +1,6 @@
 use Rattle.std.proofs.Common.{refl, sym, subst}
-use Rattle.ivy_process.specs.Logging.{GoesOn}
-use Rattle.ivy_process.proofs.Logged.{stays, goes-further}
+use Rattle.ivy_process.specs.Logging.{AddsEvents}
+use Rattle.ivy_process.proofs.Logged.{stays, goes_further}
 use Rattle.ivy_process.proofs.node.Node.go_on_all.Goals as goal
 use Rattle.ivy_process.proofs.node.Node.go_on_all.Goals.{then-from-config+in_ok-go_on, else-from-config}
 
@@ -11,8 +11,8 @@ pub loop-from-preserved : goal.loop-from-preserved
 loop-from-preserved c =
     elim c.if-from-config.branch [
       | then-from-config+in_ok-go_on w ↦
-          subst (GoesOn c.args.self.now) (sym w.self-is)
-          (goes-further c.args.self.now c.loop-from.self w.go_on.new.self c.loop-from.invariant
+          subst (AddsEvents c.args.self.now) (sym w.self-is)
+          (goes_further c.args.self.now c.loop-from.self w.go_on.new.self c.loop-from.invariant
           w.in_ok-go_on.ensures)
-      | else-from-config w ↦ subst (GoesOn c.args.self.now) (sym w.self-is) c.loop-from.invariant
+      | else-from-config w ↦ subst (AddsEvents c.args.self.now) (sym w.self-is) c.loop-from.invariant
     ]

@@ -1,5 +1,5 @@
-use Rattle.ivy_process.specs.Logging.{GoesOn}
+use Rattle.ivy_process.specs.Logging.{AddsEvents}
 use Rattle.ivy_process.proofs.node.Node.pulse.Given as goal
 
 abbrev pub invariant-loop-to : goal.invariant-loop-to
-invariant-loop-to l = GoesOn l.initial.self l.self
+invariant-loop-to l = AddsEvents l.initial.self l.self

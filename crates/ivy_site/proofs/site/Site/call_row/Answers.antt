@@ -4,7 +4,7 @@ use Rattle.ivy_model.specs.Rows.{calls_of, numbers_in, row}
 use Rattle.ivy_host.proofs.of_ivy_memory.Beginning.{err_there}
 use Rattle.ivy_program.specs.Owned.{process_handed}
 use Rattle.ivy_site.specs.Handed.{site_handed}
-use Rattle.ivy_site.specs.Shown.{Shown}
+use Rattle.ivy_site.specs.SiteView.{SiteView}
 use Rattle.ivy_site.specs.Sites.{IsSpentTurn}
 use Rattle.ivy_site.proofs.Handed.{handed_site}
 use Rattle.ivy_site.proofs.Together.{begins_row, together_is}
@@ -34,12 +34,12 @@ invariant_of-self-2 g c =
     calls_of (row a.kind 0 a.addr (numbers_in c.words_together-words.result a.bytes.now)) in (
       called_site _ (process_handed (calls ∷ []) c.self.inside.machine) c.reserve.new.self.records _
           c.begin_row.new.outbox _ _
-          (handed_site (calls ∷ []) _ c.self.invariant.0 (c.takes_row.ensures.takes.0 (search rules)).free)
+          (handed_site (calls ∷ []) _ c.self.invariant.0 (c.takes_together.ensures.takes.0 (search rules)).free)
           (record { process = refl; history = c.in_ok-reserve.ensures.records })
-          c.in_ok-begin_row.ensures.ok refl c.push_turns.ensures.marks,
+          c.in_ok-begin_row.ensures.ok c.in_ok-reserve-2.ensures.same c.push_turn.ensures.marks,
       (
         c.in_ok-begin_row.ensures.kept ∙ c.in_ok-reserve.ensures.kept ∙ c.self.invariant.1.0,
-        c.push_turns.ensures.kept ∙ c.self.invariant.1.1,
+        c.push_turn.ensures.kept ∙ c.in_ok-reserve-2.ensures.kept ∙ c.self.invariant.1.1,
       ),
     )
 
@@ -53,7 +53,7 @@ returns-clause-done g c =
     (process_handed (calls ∷ []) c.self.inside.machine) c.reserve.new.self.records _
     c.begin_row.new.outbox _ _
     (record { process = refl; history = c.in_ok-reserve.ensures.records })
-    c.in_ok-begin_row.ensures.ok refl c.push_turns.ensures.marks)
+    c.in_ok-begin_row.ensures.ok c.in_ok-reserve-2.ensures.same c.push_turn.ensures.marks)
     (c.in_ok-begin_row.ensures.history ∙ c.in_ok-reserve.ensures.records
-    ∙ ap (λ (s : Shown). s.node.core.history) c.self.view_is)
+    ∙ ap (λ (s : SiteView). s.node.core.history) c.self.view_is)
     c.in_ok-begin_row.ensures.asked c.in_ok-begin_row.ensures.along

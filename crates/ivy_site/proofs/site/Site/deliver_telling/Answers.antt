@@ -2,7 +2,7 @@ use Rattle.std.proofs.Common.{ap, subst, ◌∙◌}
 use Rattle.ivy_model.specs.Config.{IsConfig}
 use Rattle.ivy_wire.specs.Lent.{owned_frame}
 use Rattle.ivy_host.proofs.of_ivy_memory.Beginning.{err_there}
-use Rattle.ivy_site.specs.Shown.{Shown}
+use Rattle.ivy_site.specs.SiteView.{SiteView}
 use Rattle.ivy_site.specs.Sites.{IsSpentDelivery}
 use Rattle.ivy_site.proofs.Delivering.{spent_reading}
 use Rattle.ivy_site.proofs.Heads.{reads_frame, refused_none}
@@ -26,7 +26,7 @@ returns-in_err-read-clause-spent g c =
 
 pub returns-clause-refused : goal.returns-clause-refused
 returns-clause-refused g c =
-    let config = c.config-config.ensures.is ∙ ap (λ (x : Shown). x.config) c.self.view_is in
+    let config = c.config-config.ensures.is ∙ ap (λ (x : SiteView). x.config) c.self.view_is in
     refused_none c.args.self.now.config (subst IsConfig config c.config-config.ensures.limits)
     c.args.string.now
     (reads_frame c.args.self.now _ c.self.view_is c.config-config.result

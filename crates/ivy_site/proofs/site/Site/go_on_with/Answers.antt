@@ -1,5 +1,5 @@
 use Rattle.std.proofs.Common.{Contains, subst, sym, ◌∙◌}
-use Rattle.ivy_site.specs.Shown.{Shown}
+use Rattle.ivy_site.specs.SiteView.{SiteView}
 use Rattle.ivy_site.specs.Sites.{SpellsFrame, early_at}
 use Rattle.ivy_site.specs.Inside.{Receives}
 use Rattle.ivy_site.proofs.Receiving.{went_once, held_again}
@@ -8,7 +8,7 @@ use Rattle.ivy_site.proofs.site.Site.go_on_with.Goals as goal
 pub receive-requires : goal.receive-requires
 receive-requires g c = record {
   spelled =
-      subst (λ (x : Shown). SpellsFrame x.config c.in-Some.string) (sym c.in-Some.ensures.after)
+      subst (λ (x : SiteView). SpellsFrame x.config c.in-Some.string) (sym c.in-Some.ensures.after)
       (c.in-Some.ensures.held.frame, c.in-Some.ensures.held.spelled);
 }
 
@@ -16,11 +16,11 @@ pub hold-requires : goal.hold-requires
 hold-requires g c =
     record {
       spelled =
-          subst (λ (x : Shown). SpellsFrame x.config c.in-Some.string)
+          subst (λ (x : SiteView). SpellsFrame x.config c.in-Some.string)
           (sym (c.in-Err.ensures.done ∙ c.in-Some.ensures.after))
           (c.in-Some.ensures.held.frame, c.in-Some.ensures.held.spelled);
       early =
-          subst (λ (x : Shown). Contains (early_at x) c.in-Some.string)
+          subst (λ (x : SiteView). Contains (early_at x) c.in-Some.string)
           (sym (c.in-Err.ensures.done ∙ c.in-Some.ensures.after)) c.in-Some.ensures.held.early;
     }
 
@@ -28,7 +28,7 @@ pub returns-in-Ok-clause-done : goal.returns-in-Ok-clause-done
 returns-in-Ok-clause-done g c =
     went_once c.args.self.now c.receive.new.self c.args.from _ c.in-Some.string _
     c.in-Some.ensures.limits c.in-Some.ensures.ready c.in-Some.ensures.held
-    (subst (λ (x : Shown). Receives c.in-Some.string c.in-Ok.field-0.0 c.in-Ok.field-0.1 x
+    (subst (λ (x : SiteView). Receives c.in-Some.string c.in-Ok.field-0.0 c.in-Ok.field-0.1 x
     c.receive.new.self) c.in-Some.ensures.after c.in-Ok.ensures.done)
 
 pub returns-in-Err-clause-done : goal.returns-in-Err-clause-done

@@ -10,7 +10,7 @@ use Rattle.ivy_moves.specs.ivy_link.declared.Verdict.TheVariants as verdict
 use Rattle.ivy_moves.specs.ivy_link.Holding.{accepted_at}
 use Rattle.ivy_moves.specs.Marks.{Mark, Delivery}
 use Rattle.ivy_outbox.specs.Outboxes.{Outbox, holding_of, with_holding}
-use Rattle.ivy_site.specs.Shown.{Shown, shown_of}
+use Rattle.ivy_site.specs.SiteView.{SiteView, shown_of}
 use Rattle.ivy_site.specs.Sites.{IsSite, IsSpentDelivery}
 use Rattle.ivy_moves.specs.Keeping.{keeps_history, keeps_events}
 use Rattle.ivy_site.specs.Inside.{CameEarlyAs, Hears, host_of}
@@ -132,7 +132,7 @@ module _ (g : Over) (c : After-accept g) where
 pub returns-then-eq-clause-done : goal.returns-then-eq-clause-done
 returns-then-eq-clause-done g c =
     let not : c.offer-verdict.result ≡ verdict.NotMine = search rules in
-    let config = c.config-config.ensures.is ∙ ap (λ (x : Shown). x.config) c.self.view_is in
+    let config = c.config-config.ensures.is ∙ ap (λ (x : SiteView). x.config) c.self.view_is in
     hears c.args.string.now c.offer-verdict.result c.head_of-head.result.source None _ _
     (subst IsConfig config c.config-config.ensures.limits) c.requires.spelled.0
     c.requires.spelled.1
@@ -201,7 +201,7 @@ invariant_of-self-2 g c =
 pub returns-clause-done : goal.returns-clause-done
 returns-clause-done g c =
     let after = (goal.at.returns-clause-done g c).After-accept in
-    let config = c.config-config.ensures.is ∙ ap (λ (x : Shown). x.config) c.self.view_is in
+    let config = c.config-config.ensures.is ∙ ap (λ (x : SiteView). x.config) c.self.view_is in
     let events =
     listed g after c.push_delivery.new.self.marks c.in_ok-listed.listed c.args.string.now
     c.in_ok-reserve.ensures.same c.push_delivery.ensures.marks c.in_ok-listed.ensures in
@@ -245,7 +245,7 @@ returns-clause-few g c =
 pub offer-verdict-requires : goal.offer-verdict-requires
 offer-verdict-requires g c = record {
   source =
-      subst (λ (x : Shown). c.head_of-head.result.source < x.config.nodes) (sym c.self.view_is)
+      subst (λ (x : SiteView). c.head_of-head.result.source < x.config.nodes) (sym c.self.view_is)
       (source_there c.args.self.now c.args.string.now c.bytes-bytes.result.now c.bytes-bytes.ensures
       c.requires.spelled c.head_of-head.result c.head_of-head.ensures);
 }
@@ -262,7 +262,7 @@ accept-requires g c =
     record {
       source =
           subst (λ (k : Config). c.head_of-head.result.source < k.nodes) (sym config)
-          (subst (λ (x : Shown). c.head_of-head.result.source < x.config.nodes)
+          (subst (λ (x : SiteView). c.head_of-head.result.source < x.config.nodes)
           (sym c.self.view_is)
           (source_there c.args.self.now c.args.string.now c.bytes-bytes.result.now c.bytes-bytes.ensures
           c.requires.spelled c.head_of-head.result c.head_of-head.ensures));
@@ -281,7 +281,7 @@ handle-requires g c =
       from =
           subst (λ (k : Config). c.head_of-head.result.source < k.nodes)
           (sym c.self.invariant.0.config)
-          (subst (λ (x : Shown). c.head_of-head.result.source < x.config.nodes)
+          (subst (λ (x : SiteView). c.head_of-head.result.source < x.config.nodes)
           (sym c.self.view_is)
           (source_there c.args.self.now c.args.string.now c.bytes-bytes.result.now c.bytes-bytes.ensures
           c.requires.spelled c.head_of-head.result c.head_of-head.ensures));
@@ -295,7 +295,7 @@ handle-requires g c =
           message_fits c.args.self.now c.args.string.now c.bytes-bytes.result.now c.bytes-bytes.ensures
           c.requires.spelled c.head_of-head.result c.head_of-head.ensures
           c.self.inside.memory.coherence.config
-          (c.self.invariant.0.config ∙ ap (λ (x : Shown). x.config) c.self.view_is)
+          (c.self.invariant.0.config ∙ ap (λ (x : SiteView). x.config) c.self.view_is)
           (owned_message c.in-Some.message)
           (sym (c.message_of.ensures c.requires.spelled.0
           (subst (Spells c.config-config.result c.requires.spelled.0)

@@ -1,6 +1,6 @@
 use Rattle.std.proofs.Common.{ℕ, ◌<◌, ◌≤◌, List, length, sym, subst}
 use Rattle.proof_headline.specs.RunState.{Run}
-use Rattle.ivy_site.specs.Shown.{Shown}
+use Rattle.ivy_site.specs.SiteView.{SiteView}
 use Rattle.ivy_world.specs.Rounds.{IsNextMove, HasNoneUnderWay}
 use Rattle.ivy_world.proofs.Coming.{passed_on, round_move}
 use Rattle.ivy_world.proofs.Rounds.{named_next}
@@ -13,7 +13,7 @@ is_next : (g : Over) (c : After-next_move g)
     → IsNextMove c.self.inside.sites.items c.self.inside.sent.items c.self.inside.passed
     c.args.round.turn c.next_move.result
 is_next g c =
-    subst (λ (l : List Shown). IsNextMove l c.self.inside.sent.items c.self.inside.passed
+    subst (λ (l : List SiteView). IsNextMove l c.self.inside.sent.items c.self.inside.passed
     c.args.round.turn c.next_move.result) c.deref.ensures.value
     (subst (λ (l : List (List ℕ)). IsNextMove c.deref.result.now l c.self.inside.passed
     c.args.round.turn c.next_move.result) c.deref-2.ensures.value c.next_move.ensures.next)
@@ -46,7 +46,7 @@ invariant_of-self g c = (
       c.self.invariant.0.nodes c.self.inside.passed c.next_move.new.passed c.self.invariant.1
       (subst (λ (l : List (List ℕ)). c.next_move.new.passed ≤ length l) c.deref-2.ensures.value
       c.next_move.ensures.within)
-      (subst (λ (l : List Shown). HasNoneUnderWay l c.self.inside.sent.items c.self.inside.passed
+      (subst (λ (l : List SiteView). HasNoneUnderWay l c.self.inside.sent.items c.self.inside.passed
       c.next_move.new.passed) c.deref.ensures.value
       (subst (λ (l : List (List ℕ)). HasNoneUnderWay c.deref.result.now l c.self.inside.passed
       c.next_move.new.passed) c.deref-2.ensures.value c.next_move.ensures.passed)),

@@ -3,7 +3,7 @@ use mir.Syntax.{Dict}
 use denote.RattleType.{RattleType}
 use denote.Param.Send.{Frees}
 use Rattle.std.specs.declared.alloc.Allocator.{Ghosts}
-use Rattle.failing_alloc.specs.contracts.RefusingAllocator.TheImpl.{ghosts}
+use Rattle.failing_alloc.specs.contracts.FailingAllocator.TheImpl.{ghosts}
 
 module _ (B : RattleType) (g : Ghosts B.Denot) where
   pub frees : (d e : Dict) → Frees g g.dealloc_token

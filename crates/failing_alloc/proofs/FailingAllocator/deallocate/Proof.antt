@@ -32,10 +32,10 @@ use denote.Triple.Statement.{Triple}
 use denote.Triple.Walked.{Stays, stay_dropped, walk_of, Goes-dropped}
 use Rattle.std.proofs.alloc.Calls.{Al, seen, token, gives_key, Gives, at_gives, Gives-goes, Gives-Gives}
 use Rattle.failing_alloc.proofs.Counting.{Refuser, args, self, number, Place, inner_at, left_at, left_shared, both_shared}
-use Rattle.failing_alloc.specs.contracts.RefusingAllocator.deallocate as F
-use Rattle.failing_alloc.specs.contracts.RefusingAllocator.deallocate.Key as key
-use Rattle.failing_alloc.proofs.RefusingAllocator.deallocate.Statement.{statement}
-use Rattle.failing_alloc.proofs.RefusingAllocator.deallocate.Code as code
+use Rattle.failing_alloc.specs.contracts.FailingAllocator.deallocate as F
+use Rattle.failing_alloc.specs.contracts.FailingAllocator.deallocate.Key as key
+use Rattle.failing_alloc.proofs.FailingAllocator.deallocate.Statement.{statement}
+use Rattle.failing_alloc.proofs.FailingAllocator.deallocate.Code as code
 
 module _ (Z : Al) where
   abbrev here : Fn

@@ -23,7 +23,7 @@ use Rattle.ivy_program.proofs.Along.{asks_along, along_wide}
 use Rattle.ivy_program.proofs.Running.{asked_legal}
 use Rattle.ivy_moves.specs.Cores.{Outcome}
 use Rattle.ivy_moves.specs.Nodes.{Node}
-use Rattle.ivy_moves.specs.Following.{IsTame, IsOpening}
+use Rattle.ivy_moves.specs.Following.{IsWellBehaved, IsOpening}
 use Rattle.ivy_memory.specs.ivy_heap.declared.Answer.{Answer}
 use Rattle.ivy_memory.specs.ivy_heap.declared.Answer.TheVariants.{Given, Awaited, Unserved}
 use Rattle.ivy_memory.specs.Memories.{NodeMemory, CallBegun, call_begun, polled}
@@ -31,7 +31,8 @@ use Rattle.ivy_memory.specs.Sound.{IsSoundMemory}
 use Rattle.ivy_host.specs.Sound.{IsSoundHost}
 use Rattle.ivy_host.specs.Hosts.{Host, recorded, quietly, begins_with, begins_as, begins, steps, turned_at, turn_of, serving, host_rules, first_host}
 use Rattle.ivy_host.specs.Openings.{first_node, first_nodes, opening}
-use Rattle.ivy_memory.proofs.Tame.{SameNode, KeepsMemory, GoesOn, IsBegunAs, IsBegun, first_sound-memory, told-sound, call-sound, call-begun}
+use Rattle.ivy_memory.proofs.WellBehaved.{SameNode, KeepsMemory, first_sound-memory, told-sound, call-sound}
+use Rattle.ivy_memory.proofs.Begun.{GoesOn, IsBegunAs, IsBegun, call-begun}
 use Rattle.ivy_memory.proofs.Polling.{polled-keeps, polled-begun}
 use Rattle.ivy_memory.proofs.Same.{told-same, told-asked, told-along, told-number}
 
@@ -130,15 +131,15 @@ module _ {S : Type 0} (ops : Ops S) where
 
 module _ {S : Type 0} {ops : Ops S} (laws : Laws ops) where
   -- what an event of node i has to keep
-  abbrev Tamed : Config → ℕ → Outcome (Host S) → Type 0
-  Tamed c i o = IsSoundHost ops c i o.after × All (FitsParcel c i) o.posted
+  abbrev KeepsWellBehaved : Config → ℕ → Outcome (Host S) → Type 0
+  KeepsWellBehaved c i o = IsSoundHost ops c i o.after × All (FitsParcel c i) o.posted
 
-  tamed : (c : Config) (i : ℕ) (n : Host S) (o : Outcome (Host S)) → IsSoundHost ops c i n
+  keeps_well_behaved : (c : Config) (i : ℕ) (n : Host S) (o : Outcome (Host S)) → IsSoundHost ops c i n
       → IsSoundMemory ops o.after.memory → SameNode n.memory.coherence o.after.memory.coherence
       → All (FitsParcel n.memory.coherence.config n.memory.coherence.me) o.posted
       → ((k : Call) → o.after.memory.asked ≡ Some k
-      → o.after.memory.number ≡ length o.after.history + 1) → IsAskingHost o.after → Tamed c i o
-  tamed c i n o s good same fits numbered asking = (
+      → o.after.memory.number ≡ length o.after.history + 1) → IsAskingHost o.after → KeepsWellBehaved c i o
+  keeps_well_behaved c i n o s good same fits numbered asking = (
     record {
       memory = good;
       config = same.config ∙ s.config;
@@ -150,99 +151,99 @@ module _ {S : Type 0} {ops : Ops S} (laws : Laws ops) where
         (subst (λ j. All (FitsParcel n.memory.coherence.config j) o.posted) s.me fits),
   )
 
-  begins_with-tame : (c : Config) (i : ℕ) (n : Host S) (k : Call) (calls later : List Call)
+  begins_with-well_behaved : (c : Config) (i : ℕ) (n : Host S) (k : Call) (calls later : List Call)
       (a : CallBegun S) (r : Answer) (o : Outcome (Host S)) → IsSoundHost ops c i n
       → KeepsMemory ops n.memory a → IsBegunAs k calls later (length n.history + 1) a.after r
-      → IsAskingHost o.after → begins_with n k a r ≡ Some o → Tamed c i o
-  begins_with-tame c i n k calls later a (Given r) o s h begun asking is =
+      → IsAskingHost o.after → begins_with n k a r ≡ Some o → KeepsWellBehaved c i o
+  begins_with-well_behaved c i n k calls later a (Given r) o s h begun asking is =
       let same : record { after = recorded n a.after k r; posted = a.posted } ≡ o =
       same_Some _ o is in
-      subst (Tamed c i) same
-      (tamed c i n (record { after = recorded n a.after k r; posted = a.posted }) s h.0 h.2 h.1
+      subst (KeepsWellBehaved c i) same
+      (keeps_well_behaved c i n (record { after = recorded n a.after k r; posted = a.posted }) s h.0 h.2 h.1
       (λ j asked. begun.numbered j asked
       ∙ ap (λ m. m + 1) (sym (length-append n.history _)))
       (subst (λ (x : Outcome (Host S)). IsAskingHost x.after) (sym same) asking))
-  begins_with-tame c i n k calls later a Awaited o s h begun asking is =
+  begins_with-well_behaved c i n k calls later a Awaited o s h begun asking is =
       let same : record { after = record n { memory = a.after }; posted = a.posted } ≡ o =
       same_Some _ o is in
-      subst (Tamed c i) same
-      (tamed c i n (record { after = record n { memory = a.after }; posted = a.posted }) s h.0
+      subst (KeepsWellBehaved c i) same
+      (keeps_well_behaved c i n (record { after = record n { memory = a.after }; posted = a.posted }) s h.0
       h.2 h.1 begun.numbered
       (subst (λ (x : Outcome (Host S)). IsAskingHost x.after) (sym same) asking))
-  begins_with-tame c i n k calls later a Unserved o s h begun asking is = absurd (none-some o is)
+  begins_with-well_behaved c i n k calls later a Unserved o s h begun asking is = absurd (none-some o is)
 
-  begins_if-tame : (c : Config) (i : ℕ) (n : Host S) (k : Call) (b : Bool) (o : Outcome (Host S))
+  begins_if-well_behaved : (c : Config) (i : ℕ) (n : Host S) (k : Call) (b : Bool) (o : Outcome (Host S))
       → IsSoundHost ops c i n → n.memory.asked ≡ None → HasWidth k
       → nat_lt (length n.history + 1) (2 ^ 64) ≡ b → IsAskingHost o.after
       → (if b
       then begins_as n k (call_begun ops n.memory k (along_of n.process) (length n.history + 1))
-      else None) ≡ Some o → Tamed c i o
-  begins_if-tame c i n k false o s idle w small asking is = absurd (none-some o is)
-  begins_if-tame c i n k true o s idle w small asking is =
+      else None) ≡ Some o → KeepsWellBehaved c i o
+  begins_if-well_behaved c i n k false o s idle w small asking is = absurd (none-some o is)
+  begins_if-well_behaved c i n k true o s idle w small asking is =
       let number : ℕ = length n.history + 1 in
       let calls : List Call = along_of n.process in
       let a : CallBegun S = call_begun ops n.memory k calls number in
       let below : number < 2 ^ 64 = ltb-true number (2 ^ 64) small in
-      begins_with-tame c i n k calls [] a a.answer o s
+      begins_with-well_behaved c i n k calls [] a a.answer o s
       (call-sound laws n.memory k calls number s.memory idle w (along_wide n.process) (omega arith)
       below)
       (call-begun ops n.memory k calls number idle) asking is
 
-  begins-tame : (c : Config) (i : ℕ) (n : Host S) (k : Call) (o : Outcome (Host S))
+  begins-well_behaved : (c : Config) (i : ℕ) (n : Host S) (k : Call) (o : Outcome (Host S))
       → IsSoundHost ops c i n → n.memory.asked ≡ None → step_of n.process ≡ Asks k
-      → begins ops n k ≡ Some o → Tamed c i o
-  begins-tame c i n k o s idle asks is =
-      begins_if-tame c i n k (nat_lt (length n.history + 1) (2 ^ 64)) o s idle
+      → begins ops n k ≡ Some o → KeepsWellBehaved c i o
+  begins-well_behaved c i n k o s idle asks is =
+      begins_if-well_behaved c i n k (nat_lt (length n.history + 1) (2 ^ 64)) o s idle
       (asked_legal n.process.program n.process.state k asks) refl
       (begins-asking ops n k o idle asks is) is
 
-  steps-tame : (c : Config) (i : ℕ) (n : Host S) (t : Step) (o : Outcome (Host S))
+  steps-well_behaved : (c : Config) (i : ℕ) (n : Host S) (t : Step) (o : Outcome (Host S))
       → IsSoundHost ops c i n → n.memory.asked ≡ None → step_of n.process ≡ t
-      → steps ops n t ≡ Some o → Tamed c i o
-  steps-tame c i n (Local t) o s idle at is =
-      subst (Tamed c i) (same_Some _ o is)
-      (tamed c i n (quietly (record n { process = at_state n.process t })) s s.memory
+      → steps ops n t ≡ Some o → KeepsWellBehaved c i o
+  steps-well_behaved c i n (Local t) o s idle at is =
+      subst (KeepsWellBehaved c i) (same_Some _ o is)
+      (keeps_well_behaved c i n (quietly (record n { process = at_state n.process t })) s s.memory
       (record { config = refl; me = refl })
       (all_none (FitsParcel n.memory.coherence.config n.memory.coherence.me))
       (λ j h. absurd (none-some j (sym idle ∙ h))) (λ j h. absurd (none-some j (sym idle ∙ h))))
-  steps-tame c i n (Asks k) o s idle at is = begins-tame c i n k o s idle at is
-  steps-tame c i n Ends o s idle at is = absurd (none-some o is)
+  steps-well_behaved c i n (Asks k) o s idle at is = begins-well_behaved c i n k o s idle at is
+  steps-well_behaved c i n Ends o s idle at is = absurd (none-some o is)
 
-  at-tame : (c : Config) (i : ℕ) (n : Host S) (a : Option Call) (o : Outcome (Host S))
-      → IsSoundHost ops c i n → n.memory.asked ≡ a → turned_at ops n a ≡ Some o → Tamed c i o
-  at-tame c i n (Some k) o s at is =
+  at-well_behaved : (c : Config) (i : ℕ) (n : Host S) (a : Option Call) (o : Outcome (Host S))
+      → IsSoundHost ops c i n → n.memory.asked ≡ a → turned_at ops n a ≡ Some o → KeepsWellBehaved c i o
+  at-well_behaved c i n (Some k) o s at is =
       let a : CallBegun S = polled ops n.memory in
       let calls : List Call = n.memory.along in
-      begins_with-tame c i n k calls calls a a.answer o s (polled-keeps laws n.memory k s.memory at)
+      begins_with-well_behaved c i n k calls calls a a.answer o s (polled-keeps laws n.memory k s.memory at)
       (subst (λ number. IsBegun k calls calls number a) (s.numbered k at)
       (polled-begun ops n.memory k at))
       (at-asking ops n (Some k) o s.asking at is) is
-  at-tame c i n None o s at is = steps-tame c i n _ o s at refl is
+  at-well_behaved c i n None o s at is = steps-well_behaved c i n _ o s at refl is
 
-  turn-tame : (c : Config) (i : ℕ) (n : Host S) (o : Outcome (Host S)) → IsSoundHost ops c i n
-      → turn_of ops n ≡ Some o → Tamed c i o
+  turn-well_behaved : (c : Config) (i : ℕ) (n : Host S) (o : Outcome (Host S)) → IsSoundHost ops c i n
+      → turn_of ops n ≡ Some o → KeepsWellBehaved c i o
   unfolding turn_of
-  turn-tame c i n o s is = at-tame c i n _ o s refl is
+  turn-well_behaved c i n o s is = at-well_behaved c i n _ o s refl is
 
-  serve-tame : (c : Config) (i source : ℕ) (n : Host S) (m : Message) → IsSoundHost ops c i n
-      → source < c.nodes → source ≢ i → FitsMessage c m → Tamed c i (serving ops n source m)
+  serve-well_behaved : (c : Config) (i source : ℕ) (n : Host S) (m : Message) → IsSoundHost ops c i n
+      → source < c.nodes → source ≢ i → FitsMessage c m → KeepsWellBehaved c i (serving ops n source m)
   unfolding serving
-  serve-tame c i source n m s below foreign fits =
+  serve-well_behaved c i source n m s below foreign fits =
       let told =
       told-sound laws n.memory source m s.memory
       (subst (λ k. source < k.nodes) (sym s.config) below)
       (subst (λ j. source ≢ j) (sym s.me) foreign)
       (subst (λ k. FitsMessage k m) (sym s.config) fits) in
-      tamed c i n _ s told.0 (told-same ops n.memory source m) told.1
+      keeps_well_behaved c i n _ s told.0 (told-same ops n.memory source m) told.1
       (λ k asked. told-number ops n.memory source m
       ∙ s.numbered k (sym (told-asked ops n.memory source m) ∙ asked))
       (serve-asking ops n source m s.asking)
 
   -- turns and messages keep what holds of a node, and post only what can be sent
-  pub tame : (c : Config) → IsTame (host_rules ops) c (IsSoundHost ops c)
-  tame c = record {
-    turn = λ i n o s is. turn-tame c i n o s is;
-    serve = λ i source n m s below foreign fits. serve-tame c i source n m s below foreign fits;
+  pub well_behaved : (c : Config) → IsWellBehaved (host_rules ops) c (IsSoundHost ops c)
+  well_behaved c = record {
+    turn = λ i n o s is. turn-well_behaved c i n o s is;
+    serve = λ i source n m s below foreign fits. serve-well_behaved c i source n m s below foreign fits;
   }
 
 pub first_length : {S : Type 0} (ops : Ops S) (c : Config) (me : ℕ) (ps : List Program)

@@ -37,10 +37,10 @@ use Rattle.std.specs.Allocator.{block_if_ok}
 use Rattle.failing_alloc.proofs.Counting.{Refuser, args, self, number, Place, inner_at, left_at, left_shared, both_shared, Asks, at_asks, may_ask, asked}
 use Rattle.failing_alloc.proofs.is_refused.Symbol as asks_symbol
 use Rattle.failing_alloc.proofs.is_refused.Met as asks_met
-use Rattle.failing_alloc.specs.contracts.RefusingAllocator.allocate as F
-use Rattle.failing_alloc.specs.contracts.RefusingAllocator.allocate.Key as key
-use Rattle.failing_alloc.proofs.RefusingAllocator.allocate.Statement.{statement}
-use Rattle.failing_alloc.proofs.RefusingAllocator.allocate.Code as code
+use Rattle.failing_alloc.specs.contracts.FailingAllocator.allocate as F
+use Rattle.failing_alloc.specs.contracts.FailingAllocator.allocate.Key as key
+use Rattle.failing_alloc.proofs.FailingAllocator.allocate.Statement.{statement}
+use Rattle.failing_alloc.proofs.FailingAllocator.allocate.Code as code
 
 module _ (Z : Al) where
   abbrev here : Fn

@@ -6,9 +6,9 @@ use Rattle.ivy_wire.specs.Data.{Message}
 use Rattle.ivy_pagetable.specs.Manager.{Ops}
 use Rattle.ivy_heap.specs.ivy_alloc.Heap.{HeapState}
 use Rattle.ivy_heap.specs.declared.HeapCall.{HeapCall}
-use Rattle.ivy_heap.specs.declared.Errand.TheVariants as errand
+use Rattle.ivy_heap.specs.declared.HeapRequest.TheVariants as heap_request
 use Rattle.ivy_heap.specs.HeapCalls.{request, reply_in, served_at, learned}
-use Rattle.ivy_heap.proofs.Errands.{heap_served, heap_learned}
+use Rattle.ivy_heap.proofs.HeapRequests.{heap_served, heap_learned}
 use Rattle.ivy_memory.specs.Memories.{NodeMemory, by_side, memory_handled_as, memory_handled}
 
 module _ {S : Type 0} (ops : Ops S) (m : NodeMemory S) where
@@ -21,7 +21,7 @@ module _ {S : Type 0} (ops : Ops S) (m : NodeMemory S) where
       (heap_served m.coherence.me m.side from number k h there)
 
   pub answer_handled : (message : Message) (k : HeapCall) (r : Reply)
-      → message.origin ≡ m.coherence.me → m.side.errand ≡ Some (errand.Asked k message.call)
+      → message.origin ≡ m.coherence.me → m.side.heap_request ≡ Some (heap_request.Asked k message.call)
       → reply_in k message.content ≡ Some r
       → memory_handled ops m 0 message ≡ by_side m (learned m.side (Some r))
   answer_handled message k r mine asks is =

@@ -12,8 +12,8 @@ use Rattle.ivy_alloc.specs.Laws.{IsAllocReply, IsFreeReply}
 use Rattle.ivy_alloc.proofs.Answered.{has_replies}
 use Rattle.ivy_heap.specs.declared.heap_side.HeapCall.{HeapCall}
 use Rattle.ivy_heap.specs.declared.heap_side.HeapCall.TheVariants.{Alloc, Free}
-use Rattle.ivy_heap.specs.declared.heap_side.Errand.TheVariants as errand
-use Rattle.ivy_heap.specs.HeapCalls.{HeapSide, is_of_pages, told_of, request, answer_to, block_told, end_told, reply_in, misfit, served_at, errand_served, learned, learns, told_answer, heap_told_as}
+use Rattle.ivy_heap.specs.declared.heap_side.HeapRequest.TheVariants as heap_request
+use Rattle.ivy_heap.specs.HeapCalls.{HeapSide, is_of_pages, told_of, request, answer_to, block_told, end_told, reply_in, misfit, served_at, heap_request_served, learned, learns, told_answer, heap_told_as}
 use Rattle.ivy_heap.specs.HeapCalls.{heap_told}
 
 -- neither the request nor the answer is about a page
@@ -88,7 +88,7 @@ answer-told me s from m (Alloc size) r is = alloc-answer me s from m size m.cont
 answer-told me s from m (Free addr) r is = free-answer me s from m addr m.content r is
 
 request-told : (me : ℕ) (s : HeapSide) (from : ℕ) (m : Message) (k : HeapCall)
-    → heap_told_as me s from m (request k) ≡ errand_served me s from m k
+    → heap_told_as me s from m (request k) ≡ heap_request_served me s from m k
 request-told me s from m (Alloc size) = refl
 request-told me s from m (Free addr) = refl
 
@@ -105,12 +105,12 @@ heap_served me s from number k h there =
 
 -- the node that asked learns the reply
 pub heap_learned : (me : ℕ) (s : HeapSide) (m : Message) (k : HeapCall) (r : Reply) → m.origin ≡ me
-    → s.errand ≡ Some (errand.Asked k m.call) → reply_in k m.content ≡ Some r
+    → s.heap_request ≡ Some (heap_request.Asked k m.call) → reply_in k m.content ≡ Some r
     → heap_told me s 0 m ≡ learned s (Some r)
 unfolding heap_told
 heap_learned me s m k r mine asks is =
     answer-told me s 0 m k r is
-    ∙ ap (λ b. if b then learns s m.call m.content s.errand else misfit s) (eq-eqb m.origin me mine)
+    ∙ ap (λ b. if b then learns s m.call m.content s.heap_request else misfit s) (eq-eqb m.origin me mine)
     ∙ ap (learns s m.call m.content) asks
     ∙ ap (λ b. if b then learned s (reply_in k m.content) else misfit s) (eq-eqb m.call m.call refl)
     ∙ ap (learned s) is

@@ -7,12 +7,12 @@ use Rattle.ivy_model.specs.declared.Reply.{Reply}
 use Rattle.ivy_model.specs.declared.Reply.TheVariants.{Value, Done, Refused}
 use Rattle.ivy_model.specs.Numbers.{fault_number}
 use Rattle.ivy_wire.specs.Data.{Content, Message}
-use Rattle.ivy_moves.specs.Ordered.{Ordered}
+use Rattle.ivy_moves.specs.FifoWorld.{FifoWorld}
 use Rattle.ivy_host.specs.ivy_alloc.Laws.{IsFreeReply}
 use Rattle.ivy_host.specs.ivy_heap.declared.HeapCall.{HeapCall}
 use Rattle.ivy_host.specs.ivy_heap.declared.HeapCall.TheVariants.{Alloc, Free}
-use Rattle.ivy_host.specs.ivy_heap.declared.Errand.{Errand}
-use Rattle.ivy_host.specs.ivy_heap.declared.Errand.TheVariants as errand
+use Rattle.ivy_host.specs.ivy_heap.declared.HeapRequest.{HeapRequest}
+use Rattle.ivy_host.specs.ivy_heap.declared.HeapRequest.TheVariants as heap_request
 use Rattle.ivy_host.specs.ivy_heap.HeapCalls.{is_of_pages, request, reply_in}
 use Rattle.ivy_host.specs.ivy_memory.Sound.{IsInProgress}
 use Rattle.ivy_host.specs.Hosts.{Host}
@@ -22,7 +22,7 @@ abbrev pub about_heap : List Message → List Message
 about_heap ms = filter (λ m. not (is_of_pages m.content)) ms
 
 -- those under way from one node to another
-abbrev pub heap_way : {C : Type 0} → Ordered C → ℕ → ℕ → List Message
+abbrev pub heap_way : {C : Type 0} → FifoWorld C → ℕ → ℕ → List Message
 heap_way o i j = about_heap (drop (o.delivered i j) (o.posted i j))
 
 -- a message of the call of this number of a node
@@ -30,10 +30,10 @@ abbrev pub call_message : ℕ → ℕ → Content → Message
 call_message node number body = record { origin = node; call = number; content = body }
 
 -- node 0 owes no answer
-abbrev pub IsAtRest : Option Errand → Type 0
+abbrev pub IsAtRest : Option HeapRequest → Type 0
 IsAtRest None = Unit {0}
-IsAtRest (Some (errand.Asked k number)) = ⊥
-IsAtRest (Some (errand.Told r)) = Unit {0}
+IsAtRest (Some (heap_request.Asked k number)) = ⊥
+IsAtRest (Some (heap_request.Told r)) = Unit {0}
 
 -- a reply that a call of the heap can have: of some bytes an address, or 9; of none 8; of a block's
 -- end done, or 10
@@ -47,40 +47,40 @@ CanHave (Free addr) r = IsFreeReply r
 -- The messages of the heap under way from a node to node 0 and back, by the call that node 0 was
 -- asked for: none where no answer is owed; else the request alone, or the answer alone, which tells
 -- a reply that the call can have.
-pub data IsErrandAt (node : ℕ) (e : Option Errand) (there back : List Message) : Type 0 where
-  resting : IsAtRest e → there ≡ [] → back ≡ [] → IsErrandAt node e there back
-  asking : (k : HeapCall) (number : ℕ) → e ≡ Some (errand.Asked k number)
+pub data IsHeapRequestAt (node : ℕ) (e : Option HeapRequest) (there back : List Message) : Type 0 where
+  resting : IsAtRest e → there ≡ [] → back ≡ [] → IsHeapRequestAt node e there back
+  asking : (k : HeapCall) (number : ℕ) → e ≡ Some (heap_request.Asked k number)
       → there ≡ call_message node number (request k) ∷ [] → back ≡ []
-      → IsErrandAt node e there back
+      → IsHeapRequestAt node e there back
   answered : (k : HeapCall) (number : ℕ) (body : Content) (r : Reply)
-      → e ≡ Some (errand.Asked k number) → there ≡ []
+      → e ≡ Some (heap_request.Asked k number) → there ≡ []
       → back ≡ call_message node number body ∷ [] → reply_in k body ≡ Some r → CanHave k r
-      → IsErrandAt node e there back
+      → IsHeapRequestAt node e there back
 
 -- messages of the heap go between node 0 and the others alone, by the calls that it was asked for
-pub record AreErrands {S : Type 0} (o : Ordered (Host S)) : Type 0 where
+pub record AreHeapRequests {S : Type 0} (o : FifoWorld (Host S)) : Type 0 where
   pub apart : (i j : ℕ) → i ≢ 0 → j ≢ 0 → heap_way o i j ≡ []
   pub home : heap_way o 0 0 ≡ []
   pub each : (i : ℕ) (h : Host S) → i ≢ 0 → slice_get o.cores i ≡ Some h
-      → IsErrandAt i h.memory.side.errand (heap_way o i 0) (heap_way o 0 i)
+      → IsHeapRequestAt i h.memory.side.heap_request (heap_way o i 0) (heap_way o 0 i)
 
 -- the reply of the call that node 0 was asked for: told, or in the message on its way back
-abbrev pub replied_by : Option Errand → List Message → Option Reply
-replied_by (Some (errand.Asked k number)) (m ∷ ms) = reply_in k m.content
-replied_by (Some (errand.Asked k number)) [] = None
-replied_by (Some (errand.Told r)) ms = Some r
+abbrev pub replied_by : Option HeapRequest → List Message → Option Reply
+replied_by (Some (heap_request.Asked k number)) (m ∷ ms) = reply_in k m.content
+replied_by (Some (heap_request.Asked k number)) [] = None
+replied_by (Some (heap_request.Told r)) ms = Some r
 replied_by None ms = None
 
 -- node 0 was asked for this call under this number, or has answered
-abbrev pub IsErrandFor : HeapCall → ℕ → Option Errand → Type 0
-IsErrandFor k number None = ⊥
-IsErrandFor k number (Some (errand.Asked j n)) = (j ≡ k) × (n ≡ number)
-IsErrandFor k number (Some (errand.Told r)) = Unit {0}
+abbrev pub IsHeapRequestFor : HeapCall → ℕ → Option HeapRequest → Type 0
+IsHeapRequestFor k number None = ⊥
+IsHeapRequestFor k number (Some (heap_request.Asked j n)) = (j ≡ k) × (n ≡ number)
+IsHeapRequestFor k number (Some (heap_request.Told r)) = Unit {0}
 
 -- for each call of the heap that is in progress at a node, node 0 was asked, under the number of
 -- the call, or has answered; node 0 asks for none
-pub record HaveErrands {S : Type 0} (o : Ordered (Host S)) : Type 0 where
+pub record HaveHeapRequests {S : Type 0} (o : FifoWorld (Host S)) : Type 0 where
   pub each : (i : ℕ) (h : Host S) (k : HeapCall) → slice_get o.cores i ≡ Some h
       → IsInProgress h.memory.coherence.config h.memory.asked k
-      → IsErrandFor k (length h.history + 1) h.memory.side.errand
-  pub none : (h : Host S) → slice_get o.cores 0 ≡ Some h → h.memory.side.errand ≡ None
+      → IsHeapRequestFor k (length h.history + 1) h.memory.side.heap_request
+  pub none : (h : Host S) → slice_get o.cores 0 ≡ Some h → h.memory.side.heap_request ≡ None

@@ -2,7 +2,7 @@
 -- manager that keeps the laws.
 use Rattle.std.proofs.Common.{◌≡◌, ◌≢◌, ℕ, ◌^◌, ◌<◌, ◌≤◌, ◌⊎◌, inl, inr, Bool, true, false}
 use Rattle.std.proofs.Common.{List, [], ◌∷◌, length, nat_lt, Option, Some, None, refl, sym, ap, ◌∙◌}
-use Rattle.std.proofs.Common.{◌+◌, ◌++◌, append-nil, subst, arith, if◌then◌else◌}
+use Rattle.std.proofs.Common.{subst, arith, if◌then◌else◌}
 use Rattle.std.specs.Prelude.{All, slice_set}
 use Rattle.std.proofs.lemmas.List.{set-get_or}
 use Rattle.std.proofs.lemmas.List.Elements.{All-nil, All-head, All-tail}
@@ -10,7 +10,6 @@ use Rattle.std.proofs.lemmas.Option.{same_Some, none-some}
 use Rattle.ivy_model.specs.declared.Config.{Config}
 use Rattle.ivy_model.specs.declared.Call.{Call}
 use Rattle.ivy_model.specs.declared.Reply.{Reply}
-use Rattle.ivy_model.specs.declared.Reply.TheVariants as reply
 use Rattle.ivy_model.specs.Config.{IsConfig}
 use Rattle.ivy_model.specs.Legal.{HasWidth}
 use Rattle.ivy_wire.specs.Data.{Message, Parcel}
@@ -34,7 +33,7 @@ use Rattle.ivy_coherence.specs.declared.Need.TheVariants as need
 use Rattle.ivy_coherence.specs.Coherent.{Coherent}
 use Rattle.ivy_coherence.specs.Several.{first_out, later_outs}
 use Rattle.ivy_coherence.specs.Steps.{unlocked, handled}
-use Rattle.ivy_coherence.specs.Faults.{Begun, along, started, hit, begun}
+use Rattle.ivy_coherence.specs.PageFaults.{Begun, along, started, hit, begun}
 use Rattle.ivy_coherence.specs.Sound.{IsSound}
 use Rattle.ivy_coherence.proofs.SoundEntries.{first-sound}
 use Rattle.ivy_coherence.proofs.Keeping.{handled-keeps, begun-keeps}
@@ -43,27 +42,26 @@ use Rattle.ivy_heap.specs.ivy_alloc.Heap.{HeapState}
 use Rattle.ivy_coherence.proofs.IdleServing.{all_none, all_one}
 use Rattle.ivy_coherence.proofs.Rows.{Rows, AccessRows, handled-by_rows, begun-by_rows}
 use Rattle.ivy_coherence.proofs.Few.{begun-few, handled-few}
-use Rattle.ivy_heap.specs.declared.Answer.{Answer}
-use Rattle.ivy_heap.specs.declared.Answer.TheVariants.{Given, Awaited, Unserved}
+use Rattle.ivy_heap.specs.declared.Answer.TheVariants.{Awaited, Unserved}
 use Rattle.ivy_memory.specs.declared.asked.Asked.{Asked}
 use Rattle.ivy_memory.specs.declared.asked.Asked.TheVariants as asked
 use Rattle.ivy_heap.specs.declared.HeapCall.{HeapCall}
-use Rattle.ivy_heap.specs.declared.Errand.{Errand}
-use Rattle.ivy_heap.specs.declared.Errand.TheVariants as errand
+use Rattle.ivy_heap.specs.declared.HeapRequest.{HeapRequest}
+use Rattle.ivy_heap.specs.declared.HeapRequest.TheVariants as heap_request
 use Rattle.ivy_memory.specs.Asking.{CanAsk, asked_of}
-use Rattle.ivy_heap.specs.HeapCalls.{HeapBegun, HeapTold, closed, number_in, request, heap_begun_at, heap_begun, heap_told, reply_told}
+use Rattle.ivy_heap.specs.HeapCalls.{HeapTold, closed, number_in, request, heap_begun_at, heap_told, reply_told}
 use Rattle.ivy_heap.proofs.Rows.{either}
 use Rattle.ivy_memory.specs.Memories.{NodeMemory, CallBegun, MemoryEffect, first_memory, reply_of}
 use Rattle.ivy_memory.specs.Memories.{reply_there, first_reply, reply_at, without_call}
-use Rattle.ivy_memory.specs.Memories.{taken_with, taken_out, answered, waiting}
-use Rattle.ivy_memory.specs.Memories.{unserved, needed, again_unless, again, asked_after}
-use Rattle.ivy_memory.specs.Memories.{along_after, number_after, heap_answered, begun_as, call_begun, by_side}
+use Rattle.ivy_memory.specs.Memories.{taken_with, taken_out, answered}
+use Rattle.ivy_memory.specs.Memories.{needed, again_unless, again}
+use Rattle.ivy_memory.specs.Memories.{heap_answered, begun_as, call_begun, by_side}
 use Rattle.ivy_memory.specs.Memories.{by_coherence, memory_handled, memory_told}
 use Rattle.ivy_memory.specs.Beside.{Beside, nothing_beside, beside}
 use Rattle.ivy_memory.proofs.Asking.{can_ask}
-use Rattle.ivy_memory.proofs.Along.{AreFirst, MayFollow, none_follow, beside-first, beside-follow, started_along}
+use Rattle.ivy_memory.proofs.Along.{MayFollow, none_follow, beside-follow, started_along}
 use Rattle.ivy_memory.specs.Sound.{IsInProgress, IsWordOfPage, IsSoundMemory, IsSoundSide}
-use Rattle.ivy_memory.proofs.Sides.{KeepsSide, no_errand, same_side, quiet_side, idle_words, word_words, closed_side, kept_side, request_sent, told-keeps, first_sound-side, heap_begun-few}
+use Rattle.ivy_memory.proofs.Sides.{KeepsSide, no_heap_request, same_side, quiet_side, idle_words, word_words, closed_side, kept_side, request_sent, told-keeps, first_sound-side, heap_begun-few}
 
 -- the node stays who it is
 pub record SameNode {S : Type 0} (old new : Coherent S) : Type 0 where
@@ -226,9 +224,9 @@ module _ {S : Type 0} (ops : Ops S) where
         quiet = λ o h n. absurd cc;
       }
 
-  hit-begins : (c : Coherent S) (page : ℕ) (w : Word) → c.locked ≡ None
+  hit_begins : (c : Coherent S) (page : ℕ) (w : Word) → c.locked ≡ None
       → Begins c (hit ops c page w)
-  hit-begins c page w free = record {
+  hit_begins c page w free = record {
     same = record { config = refl; me = refl };
     done = refl;
     lock = λ o h. refl;
@@ -258,7 +256,7 @@ module _ {S : Type 0} (ops : Ops S) where
       had = λ o h. refl;
       quiet = λ o h n. refl;
     };
-    hit = λ i none is enough. hit-begins c page w none;
+    hit = λ i none is enough. hit_begins c page w none;
     read = λ i none is short reads. started-begins c page none _ _;
     write = λ i none is short writes other. started-begins c page none _ _;
     owner = λ i none is short writes own. started-begins c page none _ _;
@@ -273,8 +271,8 @@ one_wide c wide j h = subst HasWidth (same_Some c j h) wide
 
 module _ {S : Type 0} {ops : Ops S} where
   -- without a call in progress node 0 was asked for none
-  pub idle_side : (m : NodeMemory S) → IsSoundMemory ops m → m.asked ≡ None → m.side.errand ≡ None
-  idle_side m s idle = no_errand m.coherence.config m.asked m.side.errand idle s.side.errand
+  pub idle_side : (m : NodeMemory S) → IsSoundMemory ops m → m.asked ≡ None → m.side.heap_request ≡ None
+  idle_side m s idle = no_heap_request m.coherence.config m.asked m.side.heap_request idle s.side.heap_request
 
   started_side : (m : NodeMemory S) (b : Begun S) (a : Option Call)
       → ((k : HeapCall) → IsInProgress m.coherence.config a k → ⊥) → IsSoundMemory ops m
@@ -305,7 +303,7 @@ module _ {S : Type 0} {ops : Ops S} where
     locked = λ h. bs.lock o is ∙ s.locked idle;
     answered = λ p h. bs.lock o is ∙ s.locked idle;
     side = started_side m b a words s idle bs;
-    under = λ k n h. absurd (none-some (errand.Asked k n) (sym (idle_side m s idle) ∙ h));
+    under = λ k n h. absurd (none-some (heap_request.Asked k n) (sym (idle_side m s idle) ∙ h));
     apart = λ e h. absurd (none-some e (sym (idle_side m s idle) ∙ h));
   }
 
@@ -328,7 +326,7 @@ module _ {S : Type 0} {ops : Ops S} where
     locked = λ h. absurd (none-some c (sym h));
     answered = λ o h. absurd (none-some o (sym (bs.done ∙ s.done idle) ∙ h));
     side = started_side m b (Some c) words s idle bs;
-    under = λ k n h. absurd (none-some (errand.Asked k n) (sym (idle_side m s idle) ∙ h));
+    under = λ k n h. absurd (none-some (heap_request.Asked k n) (sym (idle_side m s idle) ∙ h));
     apart = λ e h. absurd (none-some e (sym (idle_side m s idle) ∙ h));
   }
 
@@ -361,7 +359,7 @@ module _ {S : Type 0} {ops : Ops S} where
       follow words s idle (along-begins m.coherence b more.words is bs) (waits is)
   needed-sound m c more number b need.Busy wide least most follow words s idle bs good waits is = s
 
-  pub told-memory : (m : NodeMemory S) (new : Coherent S) → IsSoundMemory ops m
+  pub told_memory : (m : NodeMemory S) (new : Coherent S) → IsSoundMemory ops m
       → Told m.coherence new → IsSound ops new
       → IsSoundMemory ops
       (record {
@@ -371,7 +369,7 @@ module _ {S : Type 0} {ops : Ops S} where
         number = m.number;
         side = m.side;
       })
-  told-memory m new s told good =
+  told_memory m new s told good =
       elim told.1 [
         | inl x ↦ record {
           coherent = good;
@@ -450,13 +448,13 @@ module _ {S : Type 0} {ops : Ops S} where
     small = (let small = s.small in omega (arith, small));
     alone = λ h. refl;
     side = closed_side m.coherence.config m.coherence.me m.asked m.side s.side;
-    under = λ k n h. absurd (none-some (errand.Asked k n) h);
+    under = λ k n h. absurd (none-some (heap_request.Asked k n) h);
     apart = λ e h. absurd (none-some e h);
   }
 
   -- no word waits where the reply is there
-  free_at : (m : NodeMemory S) (r : Reply) → IsSoundMemory ops m → (e : Option Errand)
-      → m.side.errand ≡ e → first_reply (reply_told e) (reply_there m.coherence.done) ≡ Some r
+  free_at : (m : NodeMemory S) (r : Reply) → IsSoundMemory ops m → (e : Option HeapRequest)
+      → m.side.heap_request ≡ e → first_reply (reply_told e) (reply_there m.coherence.done) ≡ Some r
       → m.coherence.locked ≡ None
   free_at m r s None is there = let d = reply_done m.coherence.done r there in s.answered d.0 d.1
   free_at m r s (Some e) is there = (s.apart e is).0
@@ -487,14 +485,14 @@ module _ {S : Type 0} {ops : Ops S} where
         side = quiet_side m.coherence.config m.coherence.me None (Some next) (closed m.side) refl
             (word_words m.coherence.config next word.0 word.1 word.2)
             (closed_side m.coherence.config m.coherence.me m.asked m.side s.side);
-        under = λ k n h. absurd (none-some (errand.Asked k n) h);
+        under = λ k n h. absurd (none-some (heap_request.Asked k n) h);
         apart = λ e h. absurd (none-some e h);
       }
 
   pub taken-sound : (m : NodeMemory S) (r : Reply) → IsSoundMemory ops m → reply_at m ≡ Some r
       → IsSoundMemory ops (taken_out m)
   taken-sound m r s there =
-      taken_with-sound m m.along refl s (free_at m r s m.side.errand refl there)
+      taken_with-sound m m.along refl s (free_at m r s m.side.heap_request refl there)
 
   again_unless-sound : (m : NodeMemory S) (c : Call) (number : ℕ) (b : Begun S) (o : Out)
       (r : Option Reply) → HasWidth c → 1 ≤ number → number < 2 ^ 64
@@ -540,7 +538,7 @@ module _ {S : Type 0} {ops : Ops S} (laws : Laws ops) where
     small = omega arith;
     alone = λ h. refl;
     side = first_sound-side c me;
-    under = λ k n h. absurd (none-some (errand.Asked k n) h);
+    under = λ k n h. absurd (none-some (heap_request.Asked k n) h);
     apart = λ e h. absurd (none-some e h);
   }
 
@@ -580,14 +578,14 @@ module _ {S : Type 0} {ops : Ops S} (laws : Laws ops) where
       × All (FitsParcel m.coherence.config m.coherence.me) e.posted) t.fits (by_side m t)
       (by_coherence ops m from message)
       (side-sound m t s side, side.fits)
-      (told-memory m _ s (handled-told ops m.coherence from message s.coherent) kept.0, kept.1)
+      (told_memory m _ s (handled-told ops m.coherence from message s.coherent) kept.0, kept.1)
 
   -- a message has few answers
-  pub told-few : (m : NodeMemory S) (from : ℕ) (message : Message) → IsSoundMemory ops m
+  pub told_few : (m : NodeMemory S) (from : ℕ) (message : Message) → IsSoundMemory ops m
       → from < m.coherence.config.nodes → from ≢ m.coherence.me
       → FitsMessage m.coherence.config message
       → length (memory_handled ops m from message).posted ≤ most_posted
-  told-few m from message s below foreign fits =
+  told_few m from message s below foreign fits =
       let t : HeapTold = heap_told m.coherence.me m.side from message in
       let few =
       (told-keeps m.coherence.config m.coherence.me m.asked m.side s.side s.coherent.limits
@@ -604,7 +602,7 @@ module _ {S : Type 0} {ops : Ops S} (laws : Laws ops) where
         (heap_answered m k number
         (if b then record {
           answer = Awaited;
-          after = record m.side { errand = Some (errand.Asked h number) };
+          after = record m.side { heap_request = Some (heap_request.Asked h number) };
           posted = parcel_to m.coherence.me 0 m.coherence.me number (request h) ∷ [];
         }
         else record { answer = Unserved; after = m.side; posted = [] }))
@@ -628,12 +626,12 @@ module _ {S : Type 0} {ops : Ops S} (laws : Laws ops) where
         side = record {
           away = s.side.away;
           home = s.side.home;
-          errand = record { call = k; asked = refl; of = of };
-          owed = λ j in_progress. (errand.Asked h number, refl);
+          heap_request = record { call = k; asked = refl; of = of };
+          owed = λ j in_progress. (heap_request.Asked h number, refl);
           none = λ zero. absurd (s.side.away away zero);
         };
         under = λ j n x.
-            (let e : errand.Asked h number ≡ errand.Asked j n = same_Some _ _ x in
+            (let e : heap_request.Asked h number ≡ heap_request.Asked j n = same_Some _ _ x in
             let i : n ≡ number = cc in i);
         apart = λ e x. (s.locked idle, s.done idle);
       },
@@ -702,152 +700,7 @@ module _ {S : Type 0} {ops : Ops S} (laws : Laws ops) where
       as-sound m k calls number (asked_of m.coherence.config k) refl w widths s idle
       (can_ask m.coherence.config k s.coherent.limits w) least most
 
--- the calls in progress, one after another, are the first ones of these, and the first of them has
--- this number
-pub record GoesOn {S : Type 0} (calls : List Call) (number : ℕ) (m : NodeMemory S) : Type 0 where
-  pub first : (j : Call) → m.asked ≡ Some j → AreFirst (j ∷ m.along) calls
-  pub numbered : (j : Call) → m.asked ≡ Some j → m.number ≡ number
-
--- What is in progress after a call, under this number and with these calls made along, was so
--- answered: where it has its reply, one of the later ones, under the next number.
-abbrev pub IsBegunAs : {S : Type 0} → Call → List Call → List Call → ℕ → NodeMemory S → Answer
-    → Type 0
-IsBegunAs k calls later number m (Given r) = GoesOn later (number + 1) m
-IsBegunAs k calls later number m Awaited = GoesOn (k ∷ calls) number m
-IsBegunAs k calls later number m Unserved = GoesOn (k ∷ calls) number m
-
-abbrev pub IsBegun : {S : Type 0} → Call → List Call → List Call → ℕ → CallBegun S → Type 0
-IsBegun k calls later number a = IsBegunAs k calls later number a.after a.answer
-
-first_same : (k j : Call) (calls more : List Call) → k ∷ calls ≡ j ∷ more → k ≡ j
-first_same k j calls more is = cc
-
-module _ {S : Type 0} where
-  -- nothing is in progress
-  pub none_goes : (m : NodeMemory S) (calls : List Call) (number : ℕ) → m.asked ≡ None
-      → GoesOn calls number m
-  none_goes m calls number idle = record {
-    first = λ j h. absurd (none-some j (sym idle ∙ h));
-    numbered = λ j h. absurd (none-some j (sym idle ∙ h));
-  }
-
-  -- this call is
-  pub one_goes : (m : NodeMemory S) (k : Call) (calls : List Call) → m.asked ≡ Some k
-      → AreFirst m.along calls → GoesOn (k ∷ calls) m.number m
-  one_goes m k calls asked are = record {
-    first = λ j h. (are.0, (λ i. same_Some k j (sym asked ∙ h) i ∷ are.1 i));
-    numbered = λ j h. refl;
-  }
-
-  next_as : (k : Call) (calls later : List Call) (number : ℕ) (m : NodeMemory S) (r : Answer)
-      (j : Call) → IsBegunAs k calls later number m r → m.asked ≡ Some j
-      → (k ≡ j) ⊎ ((rest : List Call) × (later ≡ j ∷ rest))
-  next_as k calls later number m (Given r) j is h =
-      let x = is.first j h in inr (m.along ++ x.0, x.1)
-  next_as k calls later number m Awaited j is h = inl (first_same k j calls _ (is.first j h).1)
-  next_as k calls later number m Unserved j is h = inl (first_same k j calls _ (is.first j h).1)
-
-  -- a call in progress after this one is this one, or the first of the later ones
-  pub begun-next : (k : Call) (calls later : List Call) (number : ℕ) (a : CallBegun S) (j : Call)
-      → IsBegun k calls later number a → a.after.asked ≡ Some j
-      → (k ≡ j) ⊎ ((rest : List Call) × (later ≡ j ∷ rest))
-  begun-next k calls later number a j is h =
-      next_as k calls later number a.after a.answer j is h
-
-  -- this one, where there are no later ones
-  pub begun-one : (k : Call) (calls : List Call) (number : ℕ) (a : CallBegun S) (j : Call)
-      → IsBegun k calls [] number a → a.after.asked ≡ Some j → k ≡ j
-  begun-one k calls number a j is h =
-      elim (begun-next k calls [] number a j is h) [
-        | inl same ↦ same
-        | inr x ↦ absurd (let e : [] ≡ j ∷ x.0 = x.1 in cc)
-      ]
-
-  -- what changes nothing
-  idle-begun : (m : NodeMemory S) (k : Call) (calls later : List Call) (number : ℕ)
-      → m.asked ≡ None → (r : Answer) → IsBegunAs k calls later number m r
-  idle-begun m k calls later number idle (Given r) = none_goes m later (number + 1) idle
-  idle-begun m k calls later number idle Awaited = none_goes m (k ∷ calls) number idle
-  idle-begun m k calls later number idle Unserved = none_goes m (k ∷ calls) number idle
-
-  pub unserved-begun : (m : NodeMemory S) (k : Call) → m.asked ≡ Some k
-      → IsBegun k m.along m.along m.number (unserved m)
-  unserved-begun m k asked = one_goes m k m.along asked ([], sym (append-nil m.along))
-
-  answered-begun : (m : NodeMemory S) (k : Call) (calls later : List Call) (number : ℕ)
-      (b : Begun S) (r : Option Reply) → IsBegun k calls later number (answered m k number b r)
-  answered-begun m k calls later number b None =
-      one_goes (answered m k number b None).after k calls refl (calls, refl)
-  answered-begun m k calls later number b (Some r) =
-      none_goes (answered m k number b (Some r)).after later (number + 1) refl
-
-  heap_as : (m n : NodeMemory S) (k : Call) (calls later : List Call) (number : ℕ) (r : Answer)
-      → m.asked ≡ None → n.asked ≡ asked_after m.asked k r → n.along ≡ along_after m.along r
-      → n.number ≡ number_after m.number number r → IsBegunAs k calls later number n r
-  heap_as m n k calls later number (Given r) idle asked made under =
-      none_goes n later (number + 1) (asked ∙ idle)
-  heap_as m n k calls later number Awaited idle asked made under =
-      subst (λ i. GoesOn (k ∷ calls) i n) under (one_goes n k calls asked (calls, ap (λ cs. cs ++ calls) (sym made)))
-  heap_as m n k calls later number Unserved idle asked made under =
-      none_goes n (k ∷ calls) number (asked ∙ idle)
-
-  heap-begun : (m : NodeMemory S) (k : Call) (calls later : List Call) (number : ℕ)
-      (b : HeapBegun) → m.asked ≡ None → IsBegun k calls later number (heap_answered m k number b)
-  heap-begun m k calls later number b idle =
-      heap_as m (heap_answered m k number b).after k calls later number b.answer idle refl refl refl
-
-  needed-begun : (m : NodeMemory S) (k : Call) (calls later : List Call) (more : Beside)
-      (number : ℕ) (b : Begun S) (n : Need) → AreFirst more.calls calls → m.asked ≡ None
-      → IsBegun k calls later number (needed m k more number b n)
-  needed-begun m k calls later more number b (need.Have o) are idle =
-      answered-begun m k calls later number b (reply_of o)
-  needed-begun m k calls later more number b need.Started are idle =
-      one_goes (waiting m k more number b).after k calls refl are
-  needed-begun m k calls later more number b need.Busy are idle =
-      none_goes m (k ∷ calls) number idle
-
-  again_unless-begun : (m : NodeMemory S) (k : Call) (b : Begun S) (r : Option Reply)
-      → m.asked ≡ Some k
-      → IsBegun k m.along m.along m.number
-      (again_unless m (answered (without_call m) k m.number b r) r)
-  again_unless-begun m k b None asked = unserved-begun m k asked
-  again_unless-begun m k b (Some r) asked =
-      answered-begun (without_call m) k m.along m.along m.number b (Some r)
-
-  pub again-begun : (m : NodeMemory S) (k : Call) (b : Begun S) (n : Need) → m.asked ≡ Some k
-      → IsBegun k m.along m.along m.number
-      (again m (needed (without_call m) k nothing_beside m.number b n) n)
-  again-begun m k b (need.Have o) asked = again_unless-begun m k b (reply_of o) asked
-  again-begun m k b need.Started asked =
-      one_goes (waiting (without_call m) k nothing_beside m.number b).after k m.along refl
-      (m.along, refl)
-  again-begun m k b need.Busy asked = unserved-begun m k asked
-
-  -- the next of the calls made along is in progress
-  pub taken_with-goes : (m : NodeMemory S) (calls : List Call)
-      → GoesOn calls (m.number + 1) (taken_with m calls)
-  taken_with-goes m [] = none_goes (without_call m) [] (m.number + 1) refl
-  taken_with-goes m (next ∷ calls) =
-      one_goes (taken_with m (next ∷ calls)) next calls refl ([], sym (append-nil calls))
-
 module _ {S : Type 0} (ops : Ops S) where
-  as-begun : (m : NodeMemory S) (k : Call) (calls : List Call) (number : ℕ) (x : Asked)
-      → m.asked ≡ None → IsBegun k calls [] number (begun_as ops m k calls number x)
-  as-begun m k calls number (asked.Refused code) idle =
-      idle-begun m k calls [] number idle (Given (reply.Refused code))
-  as-begun m k calls number (asked.Word page w) idle =
-      let b : Begun S = begun ops m.coherence page w number in
-      needed-begun m k calls [] (beside m.coherence.config page w calls number) number b b.need
-      (beside-first m.coherence.config page w calls number) idle
-  as-begun m k calls number (asked.Heap h) idle =
-      heap-begun m k calls [] number (heap_begun m.coherence.me m.side h number) idle
-
-  pub call-begun : (m : NodeMemory S) (k : Call) (calls : List Call) (number : ℕ)
-      → m.asked ≡ None → IsBegun k calls [] number (call_begun ops m k calls number)
-  unfolding call_begun
-  call-begun m k calls number idle =
-      as-begun m k calls number (asked_of m.coherence.config k) idle
-
   as-same : (m : NodeMemory S) (k : Call) (calls : List Call) (number : ℕ) (x : Asked)
       → SameNode m.coherence (begun_as ops m k calls number x).after.coherence
   as-same m k calls number (asked.Refused code) = record { config = refl; me = refl }
@@ -876,7 +729,7 @@ module _ {S : Type 0} (ops : Ops S) where
       omega (arith, few, is)
   as-few m k calls number (asked.Heap h) s = heap_begun-few m.coherence.me m.side h number
 
-  pub call-few : (m : NodeMemory S) (k : Call) (calls : List Call) (number : ℕ)
+  pub call_few : (m : NodeMemory S) (k : Call) (calls : List Call) (number : ℕ)
       → IsSound ops m.coherence → length (call_begun ops m k calls number).posted ≤ most_posted
   unfolding call_begun
-  call-few m k calls number s = as-few m k calls number (asked_of m.coherence.config k) s
+  call_few m k calls number s = as-few m k calls number (asked_of m.coherence.config k) s

@@ -17,7 +17,7 @@ use Rattle.ivy_outbox.specs.Outboxes.{Outbox}
 -- `events` are all that the site ever listed; `waiting` are the strings not yet put on the wire,
 -- the first first; `held` has a window for each node; `keep` are the lists of its own past that can
 -- be read
-pub record Shown : Type 0 where
+pub record SiteView : Type 0 where
   pub config : Config
   pub me : ℕ
   pub node : Node (Host Managed)
@@ -27,7 +27,7 @@ pub record Shown : Type 0 where
   pub keep : Keep
 
 -- the site of this core and this outbox, at which these events are listed
-abbrev pub shown_of : Keep → Host Managed → Outbox → List Mark → Shown
+abbrev pub shown_of : Keep → Host Managed → Outbox → List Mark → SiteView
 shown_of keep core box events = record {
   config = box.config;
   me = box.me;
@@ -39,7 +39,7 @@ shown_of keep core box events = record {
 }
 
 -- a site's outbox
-abbrev pub box_of : Shown → Outbox
+abbrev pub box_of : SiteView → Outbox
 box_of s = record {
   config = s.config;
   me = s.me;
@@ -49,15 +49,15 @@ box_of s = record {
 }
 
 -- the site with this one
-abbrev pub boxed : Shown → Outbox → Shown
+abbrev pub boxed : SiteView → Outbox → SiteView
 boxed s box = shown_of s.keep s.node.core box s.events
 
 -- the link, with what it holds
-abbrev pub holding_at : Shown → Holding
+abbrev pub holding_at : SiteView → Holding
 holding_at s = holding s.node.link s.held
 
 -- the site after an event that it lists
-abbrev pub after_event : Shown → Mark → Effect (Host Managed) → Shown
+abbrev pub after_event : SiteView → Mark → Effect (Host Managed) → SiteView
 after_event s mark e = record s {
   node = e.after;
   events = s.events ++ mark ∷ [];
@@ -65,19 +65,19 @@ after_event s mark e = record s {
 }
 
 -- the string of a message that was delivered is held no more
-abbrev pub after_hearing : Shown → List ℕ → Verdict → ℕ → Effect (Host Managed) → Shown
+abbrev pub after_hearing : SiteView → List ℕ → Verdict → ℕ → Effect (Host Managed) → SiteView
 after_hearing s bytes v source e =
     record (after_event s (Delivery bytes) e) { held = moved_at v s.held source }
 
 -- a frame that is not for this node is no event
-abbrev pub after_delivery : Shown → List ℕ → Verdict → ℕ → Effect (Host Managed) → Shown
+abbrev pub after_delivery : SiteView → List ℕ → Verdict → ℕ → Effect (Host Managed) → SiteView
 after_delivery s bytes verdict.NotMine source e = s
 after_delivery s bytes verdict.Next source e = after_hearing s bytes verdict.Next source e
 after_delivery s bytes verdict.Repeat source e = after_hearing s bytes verdict.Repeat source e
 after_delivery s bytes verdict.Ahead source e = after_hearing s bytes verdict.Ahead source e
 
 -- a pulse without a frame is no event
-abbrev pub after_pulse_to : Shown → ℕ → Effect (Host Managed) → Shown
+abbrev pub after_pulse_to : SiteView → ℕ → Effect (Host Managed) → SiteView
 after_pulse_to s to e = record s {
   node = e.after;
   events = s.events ++ pulse_marks to e.sent;

@@ -1,19 +1,19 @@
--- In a sound world each call of the heap in progress has its errand.
+-- In a sound world each call of the heap in progress has its request of the heap.
 use Rattle.std.proofs.Common.{◌≡◌, ℕ, Option, Some, None, refl, sym, ap, ◌∙◌, length, ◌+◌}
 use Rattle.std.proofs.lemmas.Option.{same_Some, none-some}
 use Rattle.ivy_model.specs.declared.Config.{Config}
 use Rattle.ivy_model.specs.declared.Call.{Call}
 use Rattle.ivy_pagetable.specs.Manager.{Ops}
-use Rattle.ivy_moves.specs.Ordered.{Ordered}
+use Rattle.ivy_moves.specs.FifoWorld.{FifoWorld}
 use Rattle.ivy_host.specs.ivy_memory.declared.Asked.TheVariants as kinds
 use Rattle.ivy_host.specs.ivy_heap.declared.HeapCall.{HeapCall}
-use Rattle.ivy_host.specs.ivy_heap.declared.Errand.{Errand}
-use Rattle.ivy_host.specs.ivy_heap.declared.Errand.TheVariants as errand
+use Rattle.ivy_host.specs.ivy_heap.declared.HeapRequest.{HeapRequest}
+use Rattle.ivy_host.specs.ivy_heap.declared.HeapRequest.TheVariants as heap_request
 use Rattle.ivy_host.specs.ivy_memory.Asking.{asked_of}
-use Rattle.ivy_host.specs.ivy_memory.Sound.{IsErrandOf, IsInProgress}
+use Rattle.ivy_host.specs.ivy_memory.Sound.{IsHeapRequestOf, IsInProgress}
 use Rattle.ivy_host.specs.Hosts.{Host}
 use Rattle.ivy_host.specs.Sound.{IsSoundHost}
-use Rattle.proof_refinement.specs.Errands.{IsErrandFor, HaveErrands}
+use Rattle.proof_refinement.specs.HeapRequests.{IsHeapRequestFor, HaveHeapRequests}
 use Rattle.proof_refinement.proofs.LiftedWorlds.{IsSoundWorld}
 
 -- one call is in progress
@@ -26,21 +26,21 @@ one_call c a j k x y =
 
 module _ {S : Type 0} {ops : Ops S} {c : Config} {x : ℕ} (h : Host S) (good : IsSoundHost ops c x h)
     (k : HeapCall) (in_progress : IsInProgress h.memory.coherence.config h.memory.asked k) where
-  errand_for : (e : Option Errand) → h.memory.side.errand ≡ e
-      → IsErrandOf h.memory.coherence.config h.memory.asked e
-      → IsErrandFor k (length h.history + 1) e
-  errand_for None is of =
+  heap_request_for : (e : Option HeapRequest) → h.memory.side.heap_request ≡ e
+      → IsHeapRequestOf h.memory.coherence.config h.memory.asked e
+      → IsHeapRequestFor k (length h.history + 1) e
+  heap_request_for None is of =
       let some = good.memory.side.owed k in_progress in none-some some.0 (sym is ∙ some.1)
-  errand_for (Some (errand.Asked j number)) is of = (
+  heap_request_for (Some (heap_request.Asked j number)) is of = (
     one_call h.memory.coherence.config h.memory.asked j k of in_progress,
     good.memory.under j number is ∙ good.numbered in_progress.call in_progress.asked,
   )
-  errand_for (Some (errand.Told r)) is of = tt
+  heap_request_for (Some (heap_request.Told r)) is of = tt
 
-pub have_errands : {S : Type 0} {ops : Ops S} {c : Config} (o : Ordered (Host S))
-    → IsSoundWorld ops c o → HaveErrands o
-have_errands o w = record {
-  each = λ i h k there in_progress. errand_for h (w.sound i h there) k in_progress
-      h.memory.side.errand refl (w.sound i h there).memory.side.errand;
+pub have_heap_requests : {S : Type 0} {ops : Ops S} {c : Config} (o : FifoWorld (Host S))
+    → IsSoundWorld ops c o → HaveHeapRequests o
+have_heap_requests o w = record {
+  each = λ i h k there in_progress. heap_request_for h (w.sound i h there) k in_progress
+      h.memory.side.heap_request refl (w.sound i h there).memory.side.heap_request;
   none = λ h there. (w.sound 0 h there).memory.side.none (w.sound 0 h there).me;
 }

@@ -17,89 +17,89 @@ use Rattle.ivy_host.specs.ivy_alloc.Heap.{HeapState}
 use Rattle.ivy_host.specs.ivy_alloc.Laws.{IsAllocReply}
 use Rattle.ivy_host.proofs.of_ivy_alloc.Answered.{has_replies}
 use Rattle.ivy_moves.specs.Cores.{Outcome}
-use Rattle.ivy_moves.specs.Ordered.{Ordered, Turns, Delivers}
+use Rattle.ivy_moves.specs.FifoWorld.{FifoWorld, Turns, Delivers}
 use Rattle.ivy_host.specs.ivy_memory.declared.Asked.TheVariants as kinds
 use Rattle.ivy_host.specs.ivy_heap.declared.HeapCall.{HeapCall}
 use Rattle.ivy_host.specs.ivy_heap.declared.HeapCall.TheVariants.{Alloc, Free}
-use Rattle.ivy_host.specs.ivy_heap.declared.Errand.{Errand}
-use Rattle.ivy_host.specs.ivy_heap.declared.Errand.TheVariants as errand
+use Rattle.ivy_host.specs.ivy_heap.declared.HeapRequest.{HeapRequest}
+use Rattle.ivy_host.specs.ivy_heap.declared.HeapRequest.TheVariants as heap_request
 use Rattle.ivy_host.specs.ivy_memory.Asking.{asked_of}
 use Rattle.ivy_host.specs.ivy_heap.HeapCalls.{told_of, request, answer_to, reply_told}
 use Rattle.ivy_host.specs.ivy_memory.Memories.{first_reply, reply_there}
-use Rattle.ivy_host.proofs.of_ivy_heap.Errands.{request_heap, answer_heap, replied}
-use Rattle.ivy_host.proofs.of_ivy_memory.Pages.{is_of_pages, IsOfPages, begun-pages, no_errand_of}
-use Rattle.ivy_host.proofs.of_ivy_memory.Tame.{idle_side}
+use Rattle.ivy_host.proofs.of_ivy_heap.HeapRequests.{request_heap, answer_heap, replied}
+use Rattle.ivy_host.proofs.of_ivy_memory.Pages.{is_of_pages, IsOfPages, begun-pages, no_heap_request_of}
+use Rattle.ivy_host.proofs.of_ivy_memory.WellBehaved.{idle_side}
 use Rattle.ivy_host.specs.Hosts.{Host, serving, host_rules}
 use Rattle.ivy_host.specs.Sound.{IsSoundHost}
 use Rattle.ivy_host.proofs.Pages.{page_serving, serve-pages}
-use Rattle.proof_refinement.specs.Errands.{about_heap, heap_way, call_message, CanHave, IsAtRest, IsErrandAt, resting, asking, answered, AreErrands}
+use Rattle.proof_refinement.specs.HeapRequests.{about_heap, heap_way, call_message, CanHave, IsAtRest, IsHeapRequestAt, resting, asking, answered, AreHeapRequests}
 use Rattle.proof_refinement.proofs.Led.{get_set}
 use Rattle.proof_refinement.proofs.HeapWays.{IsWithin, heap_there, heap_elsewhere, way_turned, way_still, way_other, way_page, way_taken}
 use Rattle.proof_refinement.proofs.HeapDeliveries.{HeapDelivery, serves, learns}
-use Rattle.proof_refinement.proofs.HostTurns.{HostTurn, answers, tries_again, goes_on, refuses, asks_for, serves_heap, asks_heap, number_of, without_call, made_along, taken-errand, asked_posted, asked_side}
+use Rattle.proof_refinement.proofs.HostTurns.{HostTurn, answers, tries_again, goes_on, refuses, asks_for, serves_heap, asks_heap, number_of, without_call, made_along, taken-heap_request, asked_posted, asked_side}
 use Rattle.ivy_host.specs.ivy_memory.Beside.{nothing_beside}
 
--- What a turn of node x does to its errand: it posts about pages alone and leaves the errand, or
+-- What a turn of node x does to its request of the heap: it posts about pages alone and leaves the request of the heap, or
 -- ends it, where no answer is owed; or it asks node 0.
-data TurnErrand (x : ℕ) (before after : Option Errand) (ps : List Parcel) : Type 0 where
-  leaves : All IsOfPages ps → after ≡ before → TurnErrand x before after ps
-  closes : All IsOfPages ps → IsAtRest before → IsAtRest after → TurnErrand x before after ps
+data TurnHeapRequest (x : ℕ) (before after : Option HeapRequest) (ps : List Parcel) : Type 0 where
+  leaves : All IsOfPages ps → after ≡ before → TurnHeapRequest x before after ps
+  closes : All IsOfPages ps → IsAtRest before → IsAtRest after → TurnHeapRequest x before after ps
   begins : (k : HeapCall) (number : ℕ) → x ≢ 0 → IsAtRest before
-      → after ≡ Some (errand.Asked k number) → ps ≡ parcel_to x 0 x number (request k) ∷ []
-      → TurnErrand x before after ps
+      → after ≡ Some (heap_request.Asked k number) → ps ≡ parcel_to x 0 x number (request k) ∷ []
+      → TurnHeapRequest x before after ps
 
 module _ {S : Type 0} {ops : Ops S} {c : Config} {x : ℕ} {h : Host S} (good : IsSoundHost ops c x h)
   where
-    rests : h.memory.side.errand ≡ None → IsAtRest h.memory.side.errand
+    rests : h.memory.side.heap_request ≡ None → IsAtRest h.memory.side.heap_request
     rests none = subst IsAtRest (sym none) tt
 
     -- no answer is owed where the reply is there
-    rest_replied : (r : Reply) (e : Option Errand) → h.memory.side.errand ≡ e
+    rest_replied : (r : Reply) (e : Option HeapRequest) → h.memory.side.heap_request ≡ e
         → first_reply (reply_told e) (reply_there h.memory.coherence.done) ≡ Some r → IsAtRest e
     rest_replied r None is there = tt
-    rest_replied r (Some (errand.Told q)) is there = tt
-    rest_replied r (Some (errand.Asked k number)) is there =
-        none-some r (sym (ap reply_there (good.memory.apart (errand.Asked k number) is).1) ∙ there)
+    rest_replied r (Some (heap_request.Told q)) is there = tt
+    rest_replied r (Some (heap_request.Asked k number)) is there =
+        none-some r (sym (ap reply_there (good.memory.apart (heap_request.Asked k number) is).1) ∙ there)
 
     word_rests : (called : Call) (page : ℕ) → (w : _) → h.memory.asked ≡ Some called
-        → asked_of h.memory.coherence.config called ≡ kinds.Word page w → h.memory.side.errand ≡ None
+        → asked_of h.memory.coherence.config called ≡ kinds.Word page w → h.memory.side.heap_request ≡ None
     word_rests called page w asked of =
-        no_errand_of h.memory.coherence.config h.memory.asked h.memory.side.errand
+        no_heap_request_of h.memory.coherence.config h.memory.asked h.memory.side.heap_request
         (λ k is heap same.
         (let e =
         sym of ∙ ap (asked_of h.memory.coherence.config) (same_Some called k (sym asked ∙ is))
-        ∙ same in absurd cc)) good.memory.side.errand
+        ∙ same in absurd cc)) good.memory.side.heap_request
 
-    turn_errand : (out : Outcome (Host S)) → HostTurn ops c h out
-        → TurnErrand x h.memory.side.errand out.after.memory.side.errand out.posted
-    turn_errand out (answers called r asked there is) =
-        subst (λ (z : Outcome (Host S)). TurnErrand x h.memory.side.errand z.after.memory.side.errand
+    turn_heap_request : (out : Outcome (Host S)) → HostTurn ops c h out
+        → TurnHeapRequest x h.memory.side.heap_request out.after.memory.side.heap_request out.posted
+    turn_heap_request out (answers called r asked there is) =
+        subst (λ (z : Outcome (Host S)). TurnHeapRequest x h.memory.side.heap_request z.after.memory.side.heap_request
         z.posted) (sym is)
-        (closes (all_none IsOfPages) (rest_replied r h.memory.side.errand refl there)
-        (subst (λ z. IsAtRest z.errand) (sym (taken-errand h.memory h.memory.along)) tt))
-    turn_errand out (tries_again called page word asked untold free of inside is_word is) =
+        (closes (all_none IsOfPages) (rest_replied r h.memory.side.heap_request refl there)
+        (subst (λ z. IsAtRest z.heap_request) (sym (taken-heap_request h.memory h.memory.along)) tt))
+    turn_heap_request out (tries_again called page word asked untold free of inside is_word is) =
         closes (subst (All IsOfPages)
         (sym (asked_posted ops (without_call h) called nothing_beside page word out is))
         (begun-pages ops (without_call h).memory.coherence page word (number_of h)))
         (rests (word_rests called page word asked of))
-        (subst (λ z. IsAtRest z.errand)
+        (subst (λ z. IsAtRest z.heap_request)
         (sym (asked_side ops (without_call h) called nothing_beside page word out is)) tt)
-    turn_errand out (goes_on s idle step is) =
-        subst (λ (z : Outcome (Host S)). TurnErrand x h.memory.side.errand z.after.memory.side.errand
+    turn_heap_request out (goes_on s idle step is) =
+        subst (λ (z : Outcome (Host S)). TurnHeapRequest x h.memory.side.heap_request z.after.memory.side.heap_request
         z.posted) (sym is) (leaves (all_none IsOfPages) refl)
-    turn_errand out (refuses called code idle step of is) =
-        subst (λ (z : Outcome (Host S)). TurnErrand x h.memory.side.errand z.after.memory.side.errand
+    turn_heap_request out (refuses called code idle step of is) =
+        subst (λ (z : Outcome (Host S)). TurnHeapRequest x h.memory.side.heap_request z.after.memory.side.heap_request
         z.posted) (sym is) (leaves (all_none IsOfPages) refl)
-    turn_errand out (asks_for called page word idle step of inside is_word few is) =
+    turn_heap_request out (asks_for called page word idle step of inside is_word few is) =
         leaves (subst (All IsOfPages)
         (sym (asked_posted ops h called (made_along h page word) page word out is))
         (begun-pages ops h.memory.coherence page word (number_of h)))
-        (ap (λ z. z.errand) (asked_side ops h called (made_along h page word) page word out is))
-    turn_errand out (serves_heap called k heap idle step of there is) =
-        subst (λ (z : Outcome (Host S)). TurnErrand x h.memory.side.errand z.after.memory.side.errand
+        (ap (λ z. z.heap_request) (asked_side ops h called (made_along h page word) page word out is))
+    turn_heap_request out (serves_heap called k heap idle step of there is) =
+        subst (λ (z : Outcome (Host S)). TurnHeapRequest x h.memory.side.heap_request z.after.memory.side.heap_request
         z.posted) (sym is) (leaves (all_none IsOfPages) refl)
-    turn_errand out (asks_heap called k idle step of none is) =
-        subst (λ (z : Outcome (Host S)). TurnErrand x h.memory.side.errand z.after.memory.side.errand
+    turn_heap_request out (asks_heap called k idle step of none is) =
+        subst (λ (z : Outcome (Host S)). TurnHeapRequest x h.memory.side.heap_request z.after.memory.side.heap_request
         z.posted) (sym is)
         (begins k (number_of h) (λ e. good.memory.side.away none (good.me ∙ e))
         (rests (idle_side h.memory good.memory idle)) refl
@@ -116,16 +116,16 @@ can_have state (Alloc size) =
     some_reply state.config size _ (has_replies state.config state.blocks size).0
 can_have state (Free addr) = (has_replies state.config state.blocks addr).1
 
--- the same errand, by the same ways
-as_before : (i : ℕ) (e d : Option Errand) (a b a' b' : List Message) → d ≡ e → a' ≡ a → b' ≡ b
-    → IsErrandAt i e a b → IsErrandAt i d a' b'
+-- the same request of the heap, by the same ways
+as_before : (i : ℕ) (e d : Option HeapRequest) (a b a' b' : List Message) → d ≡ e → a' ≡ a → b' ≡ b
+    → IsHeapRequestAt i e a b → IsHeapRequestAt i d a' b'
 as_before i e d a b a' b' same there back is =
-    subst (λ z. IsErrandAt i z a' b') (sym same)
-    (subst (λ z. IsErrandAt i e z b') (sym there)
-    (subst (λ z. IsErrandAt i e a z) (sym back) is))
+    subst (λ z. IsHeapRequestAt i z a' b') (sym same)
+    (subst (λ z. IsHeapRequestAt i e z b') (sym there)
+    (subst (λ z. IsHeapRequestAt i e a z) (sym back) is))
 
 -- where no answer is owed, both ways are empty
-empty_ways : {i : ℕ} {e : Option Errand} {a b : List Message} → IsErrandAt i e a b → IsAtRest e
+empty_ways : {i : ℕ} {e : Option HeapRequest} {a b : List Message} → IsHeapRequestAt i e a b → IsAtRest e
     → (a ≡ []) × (b ≡ [])
 empty_ways (resting rest there back) h = (there, back)
 empty_ways (asking k number asks there back) h = absurd (subst IsAtRest asks h)
@@ -136,51 +136,51 @@ tail_of : (m : Message) (rest : List Message) → m ∷ rest ≡ m ∷ [] → re
 tail_of m rest is = ap (drop 1) is
 
 -- where an answer is under way, no request is
-none_there : {i : ℕ} {e : Option Errand} {a b : List Message} → IsErrandAt i e a b → (m : Message)
+none_there : {i : ℕ} {e : Option HeapRequest} {a b : List Message} → IsHeapRequestAt i e a b → (m : Message)
     → b ≡ m ∷ [] → a ≡ []
 none_there (resting rest there back) m some = there
 none_there (asking k number asks there back) m some =
     absurd (none-some m (ap (λ (z : List Message). slice_get z 0) (sym back ∙ some)))
 none_there (answered k number body r asks there back tells can) m some = there
 
-module _ {S : Type 0} (o o' : Ordered (Host S)) (x : ℕ) (h after : Host S)
+module _ {S : Type 0} (o o' : FifoWorld (Host S)) (x : ℕ) (h after : Host S)
     (there : slice_get o.cores x ≡ Some h) (cores : o'.cores ≡ slice_set o.cores x after)
-    (errands : AreErrands o) where
+    (heap_requests : AreHeapRequests o) where
   -- an event of node x: the ways of each other node, and of that one
-  each-of : ((i : ℕ) (k : Host S) → i ≢ 0 → i ≢ x → slice_get o.cores i ≡ Some k
-      → IsErrandAt i k.memory.side.errand (heap_way o' i 0) (heap_way o' 0 i))
-      → (x ≢ 0 → IsErrandAt x after.memory.side.errand (heap_way o' x 0) (heap_way o' 0 x))
+  each_of : ((i : ℕ) (k : Host S) → i ≢ 0 → i ≢ x → slice_get o.cores i ≡ Some k
+      → IsHeapRequestAt i k.memory.side.heap_request (heap_way o' i 0) (heap_way o' 0 i))
+      → (x ≢ 0 → IsHeapRequestAt x after.memory.side.heap_request (heap_way o' x 0) (heap_way o' 0 x))
       → (i : ℕ) (k : Host S) → i ≢ 0 → slice_get o'.cores i ≡ Some k
-      → IsErrandAt i k.memory.side.errand (heap_way o' i 0) (heap_way o' 0 i)
-  each-of others own i k away at = elim (get_set o.cores x h after i there) [
+      → IsHeapRequestAt i k.memory.side.heap_request (heap_way o' i 0) (heap_way o' 0 i)
+  each_of others own i k away at = elim (get_set o.cores x h after i there) [
     | inl y ↦
-        subst (λ (z : Host S). IsErrandAt i z.memory.side.errand (heap_way o' i 0)
+        subst (λ (z : Host S). IsHeapRequestAt i z.memory.side.heap_request (heap_way o' i 0)
         (heap_way o' 0 i)) (same_Some after k (sym y.1 ∙ ap (λ l. slice_get l i) (sym cores) ∙ at))
-        (subst (λ z. IsErrandAt z after.memory.side.errand (heap_way o' z 0) (heap_way o' 0 z))
+        (subst (λ z. IsHeapRequestAt z after.memory.side.heap_request (heap_way o' z 0) (heap_way o' 0 z))
         (sym y.0) (own (λ e. away (y.0 ∙ e))))
     | inr y ↦ others i k away y.0 (sym y.1 ∙ ap (λ l. slice_get l i) (sym cores) ∙ at)
   ]
 
   -- one that leaves the ways as they are
   quiet_event : ((i j : ℕ) → heap_way o' i j ≡ heap_way o i j)
-      → (x ≢ 0 → IsErrandAt x h.memory.side.errand (heap_way o x 0) (heap_way o 0 x)
-      → IsErrandAt x after.memory.side.errand (heap_way o x 0) (heap_way o 0 x)) → AreErrands o'
+      → (x ≢ 0 → IsHeapRequestAt x h.memory.side.heap_request (heap_way o x 0) (heap_way o 0 x)
+      → IsHeapRequestAt x after.memory.side.heap_request (heap_way o x 0) (heap_way o 0 x)) → AreHeapRequests o'
   quiet_event ways own = record {
-    apart = λ i j a b. ways i j ∙ errands.apart i j a b;
-    home = ways 0 0 ∙ errands.home;
-    each = each-of
+    apart = λ i j a b. ways i j ∙ heap_requests.apart i j a b;
+    home = ways 0 0 ∙ heap_requests.home;
+    each = each_of
         (λ i k away other at. as_before i _ _ _ _ _ _ refl (ways i 0) (ways 0 i)
-        (errands.each i k away at))
+        (heap_requests.each i k away at))
         (λ away. as_before x _ _ _ _ _ _ refl (ways x 0) (ways 0 x)
-        (own away (errands.each x h away there)));
+        (own away (heap_requests.each x h away there)));
   }
 
   module _ (ps : List Parcel) (within : IsWithin o) (sent : o'.posted ≡ extended o.posted ps)
       (done : o'.delivered ≡ o.delivered) where
     -- node x asks node 0
-    asks_event : (k : HeapCall) (number : ℕ) → x ≢ 0 → IsAtRest h.memory.side.errand
-        → after.memory.side.errand ≡ Some (errand.Asked k number)
-        → ps ≡ parcel_to x 0 x number (request k) ∷ [] → AreErrands o'
+    asks_event : (k : HeapCall) (number : ℕ) → x ≢ 0 → IsAtRest h.memory.side.heap_request
+        → after.memory.side.heap_request ≡ Some (heap_request.Asked k number)
+        → ps ≡ parcel_to x 0 x number (request k) ∷ [] → AreHeapRequests o'
     asks_event k number away rest asks posts =
         let way : (i j : ℕ)
         → heap_way o' i j
@@ -191,14 +191,14 @@ module _ {S : Type 0} (o o' : Ordered (Host S)) (x : ℕ) (h after : Host S)
         = λ i j other. way i j
         ∙ ap (λ l. heap_way o i j ++ l) (heap_elsewhere x 0 i j x number (request k) other)
         ∙ append-nil (heap_way o i j) in
-        let none = empty_ways (errands.each x h away there) rest in
+        let none = empty_ways (heap_requests.each x h away there) rest in
         record {
-          apart = λ i j a b. same i j (λ e z. b (sym z)) ∙ errands.apart i j a b;
-          home = same 0 0 (λ e. absurd (away e)) ∙ errands.home;
-          each = each-of
+          apart = λ i j a b. same i j (λ e z. b (sym z)) ∙ heap_requests.apart i j a b;
+          home = same 0 0 (λ e. absurd (away e)) ∙ heap_requests.home;
+          each = each_of
               (λ i g off other at. as_before i _ _ _ _ _ _ refl
               (same i 0 (λ e. absurd (other (sym e)))) (same 0 i (λ e. absurd (away e)))
-              (errands.each i g off at))
+              (heap_requests.each i g off at))
               (λ off. asking k number asks
               (way x 0
               ∙ ap (λ l. l ++ about_heap (posted x 0 (parcel_to x 0 x number (request k) ∷ [])))
@@ -206,23 +206,23 @@ module _ {S : Type 0} (o o' : Ordered (Host S)) (x : ℕ) (h after : Host S)
               (same 0 x (λ e. absurd (away e)) ∙ none.1));
         }
 
-    turned_errands : TurnErrand x h.memory.side.errand after.memory.side.errand ps → AreErrands o'
-    turned_errands (leaves pages same) =
+    turned_heap_requests : TurnHeapRequest x h.memory.side.heap_request after.memory.side.heap_request ps → AreHeapRequests o'
+    turned_heap_requests (leaves pages same) =
         quiet_event (way_still o o' ps within sent done pages)
         (λ away is. as_before x _ _ _ _ _ _ same refl refl is)
-    turned_errands (closes pages before rest) =
+    turned_heap_requests (closes pages before rest) =
         quiet_event (way_still o o' ps within sent done pages)
         (λ away is. (let none = empty_ways is before in resting rest none.0 none.1))
-    turned_errands (begins k number away rest asks posts) = asks_event k number away rest asks posts
+    turned_heap_requests (begins k number away rest asks posts) = asks_event k number away rest asks posts
 
-module _ {S : Type 0} (ops : Ops S) (o o' : Ordered (Host S)) (within : IsWithin o)
-    (errands : AreErrands o) where
-  -- a turn keeps the errands
-  pub turn_errands : (c : Config) (x : ℕ) (t : Turns (host_rules ops) o x o')
-      → IsSoundHost ops c x t.core → HostTurn ops c t.core t.outcome → AreErrands o'
-  turn_errands c x t good turn =
-      turned_errands o o' x t.core t.outcome.after t.there t.cores errands t.outcome.posted within
-      t.posted t.delivered (turn_errand good t.outcome turn)
+module _ {S : Type 0} (ops : Ops S) (o o' : FifoWorld (Host S)) (within : IsWithin o)
+    (heap_requests : AreHeapRequests o) where
+  -- a turn keeps the requests of the heap
+  pub turn_heap_requests : (c : Config) (x : ℕ) (t : Turns (host_rules ops) o x o')
+      → IsSoundHost ops c x t.core → HostTurn ops c t.core t.outcome → AreHeapRequests o'
+  turn_heap_requests c x t good turn =
+      turned_heap_requests o o' x t.core t.outcome.after t.there t.cores heap_requests t.outcome.posted within
+      t.posted t.delivered (turn_heap_request good t.outcome turn)
 
   module _ (source x : ℕ) (t : Delivers (host_rules ops) o source x o') where
     abbrev after : Host S
@@ -232,23 +232,23 @@ module _ {S : Type 0} (ops : Ops S) (o o' : Ordered (Host S)) (within : IsWithin
     sent = (serving ops t.core source t.message).posted
 
     -- and so does a message about a page
-    pub page_errands : is_of_pages t.message.content ≡ true → AreErrands o'
-    page_errands about =
-        quiet_event o o' x t.core after t.there t.cores errands
+    pub page_heap_requests : is_of_pages t.message.content ≡ true → AreHeapRequests o'
+    page_heap_requests about =
+        quiet_event o o' x t.core after t.there t.cores heap_requests
         (way_page (host_rules ops) o o' within source x t about
         (serve-pages ops t.core source t.message about))
         (λ away is. as_before x _ _ _ _ _ _
-        (ap (λ (z : Outcome (Host S)). z.after.memory.side.errand)
+        (ap (λ (z : Outcome (Host S)). z.after.memory.side.heap_request)
         (page_serving ops t.core source t.message about)) refl refl is)
 
     -- node 0 serves the request: its answer is the one under way then
-    served_errands : is_of_pages t.message.content ≡ false → x ≡ 0 → source ≢ 0 → (asker : Host S)
+    served_heap_requests : is_of_pages t.message.content ≡ false → x ≡ 0 → source ≢ 0 → (asker : Host S)
         → slice_get o.cores source ≡ Some asker → (k : HeapCall) (number : ℕ)
-        → asker.memory.side.errand ≡ Some (errand.Asked k number)
+        → asker.memory.side.heap_request ≡ Some (heap_request.Asked k number)
         → heap_way o source 0 ≡ t.message ∷ [] → heap_way o 0 source ≡ [] → (state : HeapState)
         → sent ≡ parcel_to x source source number (answer_to k (told_of state k).reply) ∷ []
-        → AreErrands o'
-    served_errands heap home away asker at k number asks on_way none state posts =
+        → AreHeapRequests o'
+    served_heap_requests heap home away asker at k number asks on_way none state posts =
         let body = answer_to k (told_of state k).reply in
         let other : (i j : ℕ) → (i ≡ source → j ≢ x)
         → heap_way o' i j
@@ -275,28 +275,28 @@ module _ {S : Type 0} (ops : Ops S) (o o' : Ordered (Host S)) (within : IsWithin
         (posted 0 source (parcel_to x source source number body ∷ []))) none
         ∙ ap (λ z. about_heap (posted 0 source (parcel_to z source source number body ∷ []))) home
         ∙ heap_there 0 source source number body (answer_heap k (told_of state k).reply) in
-        let asker_now : IsErrandAt source asker.memory.side.errand (heap_way o' source 0)
+        let asker_now : IsHeapRequestAt source asker.memory.side.heap_request (heap_way o' source 0)
         (heap_way o' 0 source)
         = answered k number body (told_of state k).reply asks
         (subst (λ z. heap_way o' source z ≡ []) home gone) comes (replied state k)
         (can_have state k) in
         let others : (i : ℕ) (g : Host S) → i ≢ 0 → i ≢ source → slice_get o.cores i ≡ Some g
-        → IsErrandAt i g.memory.side.errand (heap_way o' i 0) (heap_way o' 0 i)
+        → IsHeapRequestAt i g.memory.side.heap_request (heap_way o' i 0) (heap_way o' 0 i)
         = λ i g off ne there. as_before i _ _ _ _ _ _ refl
         (still i 0 (λ e. absurd (ne e)) (λ e z. away z))
         (still 0 i (λ e. absurd (away (sym e))) (λ e z. ne (sym z)))
-        (errands.each i g off there) in
+        (heap_requests.each i g off there) in
         record {
           apart = λ i j a b. still i j (λ e z. b (z ∙ home)) (λ e. absurd (a (sym e ∙ home)))
-              ∙ errands.apart i j a b;
-          home = still 0 0 (λ e. absurd (away (sym e))) (λ e z. away z) ∙ errands.home;
-          each = each-of o o' x t.core after t.there t.cores errands
+              ∙ heap_requests.apart i j a b;
+          home = still 0 0 (λ e. absurd (away (sym e))) (λ e z. away z) ∙ heap_requests.home;
+          each = each_of o o' x t.core after t.there t.cores heap_requests
               (λ i g off ne there. elim (cases_eq i source) [
                 | inl y ↦
-                    subst (λ (z : Host S). IsErrandAt i z.memory.side.errand (heap_way o' i 0)
+                    subst (λ (z : Host S). IsHeapRequestAt i z.memory.side.heap_request (heap_way o' i 0)
                     (heap_way o' 0 i))
                     (same_Some asker g (sym at ∙ ap (slice_get o.cores) (sym y) ∙ there))
-                    (subst (λ z. IsErrandAt z asker.memory.side.errand (heap_way o' z 0)
+                    (subst (λ z. IsHeapRequestAt z asker.memory.side.heap_request (heap_way o' z 0)
                     (heap_way o' 0 z)) (sym y) asker_now)
                 | inr other_node ↦ others i g off other_node there
               ])
@@ -304,10 +304,10 @@ module _ {S : Type 0} (ops : Ops S) (o o' : Ordered (Host S)) (within : IsWithin
         }
 
     -- the node that asked learns the reply
-    learned_errands : is_of_pages t.message.content ≡ false → x ≢ 0 → source ≡ 0
-        → heap_way o 0 x ≡ t.message ∷ [] → IsAtRest after.memory.side.errand → sent ≡ []
-        → AreErrands o'
-    learned_errands heap away home back rests posts =
+    learned_heap_requests : is_of_pages t.message.content ≡ false → x ≢ 0 → source ≡ 0
+        → heap_way o 0 x ≡ t.message ∷ [] → IsAtRest after.memory.side.heap_request → sent ≡ []
+        → AreHeapRequests o'
+    learned_heap_requests heap away home back rests posts =
         let other : (i j : ℕ) → (i ≡ source → j ≢ x) → heap_way o' i j ≡ heap_way o i j
         = λ i j off. way_other (host_rules ops) o o' within source x t i j off
         ∙ ap (λ l. heap_way o i j ++ about_heap (posted i j l)) posts
@@ -320,24 +320,24 @@ module _ {S : Type 0} (ops : Ops S) (o o' : Ordered (Host S)) (within : IsWithin
         = taken.2 ∙ ap (λ l. l ++ about_heap (posted source x sent)) left
         ∙ ap (λ l. about_heap (posted source x l)) posts in
         record {
-          apart = λ i j a b. other i j (λ e. absurd (a (e ∙ home))) ∙ errands.apart i j a b;
-          home = other 0 0 (λ e z. away (sym z)) ∙ errands.home;
-          each = each-of o o' x t.core after t.there t.cores errands
+          apart = λ i j a b. other i j (λ e. absurd (a (e ∙ home))) ∙ heap_requests.apart i j a b;
+          home = other 0 0 (λ e z. away (sym z)) ∙ heap_requests.home;
+          each = each_of o o' x t.core after t.there t.cores heap_requests
               (λ i g off ne there. as_before i _ _ _ _ _ _ refl (other i 0 (λ e z. away (sym z)))
-              (other 0 i (λ e. ne)) (errands.each i g off there))
+              (other 0 i (λ e. ne)) (heap_requests.each i g off there))
               (λ off. resting rests
               (other x 0 (λ e z. away (sym z))
-              ∙ none_there (errands.each x t.core away t.there) t.message back)
+              ∙ none_there (heap_requests.each x t.core away t.there) t.message back)
               (subst (λ z. heap_way o' z x ≡ []) home gone));
         }
 
     -- and so does a message of the heap
-    pub heap_errands : is_of_pages t.message.content ≡ false
-        → HeapDelivery ops o source x t.core t.message → AreErrands o'
-    heap_errands heap (serves home away asker at k number asks on_way none same state is does) =
-        served_errands heap home away asker at k number asks on_way none state
+    pub requests_of_heap : is_of_pages t.message.content ≡ false
+        → HeapDelivery ops o source x t.core t.message → AreHeapRequests o'
+    requests_of_heap heap (serves home away asker at k number asks on_way none same state is does) =
+        served_heap_requests heap home away asker at k number asks on_way none state
         (ap (λ (z : Outcome (Host S)). z.posted) does)
-    heap_errands heap (learns away home k number r asks back tells does) =
-        learned_errands heap away home back
-        (subst (λ (z : Outcome (Host S)). IsAtRest z.after.memory.side.errand) (sym does) tt)
+    requests_of_heap heap (learns away home k number r asks back tells does) =
+        learned_heap_requests heap away home back
+        (subst (λ (z : Outcome (Host S)). IsAtRest z.after.memory.side.heap_request) (sym does) tt)
         (ap (λ (z : Outcome (Host S)). z.posted) does)

@@ -15,24 +15,24 @@ use Rattle.ivy_wire.specs.Posts.{parcel_to}
 use Rattle.ivy_program.specs.Programs.{Program}
 use Rattle.ivy_moves.specs.ivy_link.Paired.{posted}
 use Rattle.ivy_moves.specs.Cores.{Outcome}
-use Rattle.ivy_moves.specs.Following.{ordered_of}
-use Rattle.ivy_moves.specs.Ordered.{Ordered, Delivers, Steps, rests, turns, delivers}
+use Rattle.ivy_moves.specs.Following.{fifo_of}
+use Rattle.ivy_moves.specs.FifoWorld.{FifoWorld, Delivers, Steps, rests, turns, delivers}
 use Rattle.ivy_moves.specs.Worlds.{World}
 use Rattle.proof_answers.specs.Rounds.{IsRound, AreRounds}
 use Rattle.proof_answers.specs.proof_progress.ivy_host.Hosts.{Host, host_rules, serving}
 use Rattle.proof_answers.specs.proof_progress.ivy_host.Managers.{Managed, managed_ops}
 use Rattle.proof_answers.specs.proof_progress.ivy_host.Sound.{IsSoundHost}
-use Rattle.proof_answers.specs.proof_progress.ivy_host.ivy_heap.declared.Errand.{Errand}
-use Rattle.proof_answers.specs.proof_progress.ivy_host.ivy_heap.declared.Errand.TheVariants as errand
+use Rattle.proof_answers.specs.proof_progress.ivy_host.ivy_heap.declared.HeapRequest.{HeapRequest}
+use Rattle.proof_answers.specs.proof_progress.ivy_host.ivy_heap.declared.HeapRequest.TheVariants as heap_request
 use Rattle.proof_answers.specs.proof_progress.ivy_host.ivy_heap.declared.HeapCall.{HeapCall}
 use Rattle.proof_answers.specs.proof_progress.ivy_host.ivy_heap.HeapCalls.{is_of_pages, told_of as heap_told_of, answer_to, reply_told}
 use Rattle.proof_answers.specs.proof_progress.ivy_host.ivy_memory.declared.Asked.TheVariants as kinds
 use Rattle.proof_answers.specs.proof_progress.ivy_host.ivy_memory.Asking.{asked_of}
 use Rattle.proof_answers.specs.proof_progress.ivy_host.ivy_memory.Memories.{first_reply, reply_there}
-use Rattle.proof_answers.specs.proof_progress.proof_refinement.Errands.{about_heap, heap_way, IsAtRest, IsErrandAt, resting, asking, answered}
+use Rattle.proof_answers.specs.proof_progress.proof_refinement.HeapRequests.{about_heap, heap_way, IsAtRest, IsHeapRequestAt, resting, asking, answered}
 use Rattle.proof_answers.specs.proof_progress.proof_refinement.Runs.{IsReachedInOrder, FollowsInOrder}
 use Rattle.proof_answers.proofs.of_proof_progress.of_ivy_host.Pages.{page_serving, serve-pages}
-use Rattle.proof_answers.proofs.of_proof_progress.of_ivy_host.of_ivy_heap.Errands.{answer_heap}
+use Rattle.proof_answers.proofs.of_proof_progress.of_ivy_host.of_ivy_heap.HeapRequests.{answer_heap}
 use Rattle.proof_answers.proofs.of_proof_progress.of_proof_refinement.HeapDeliveries.{HeapDelivery, serves, learns}
 use Rattle.proof_answers.proofs.of_proof_progress.of_proof_refinement.HeapWays.{heap_there, heap_quiet, way_turned, way_other, way_page}
 use Rattle.proof_answers.proofs.of_proof_progress.of_proof_refinement.LiftedWorlds.{IsSoundWorld, fits_heap}
@@ -72,14 +72,14 @@ not_empty m xs ys one none =
 
 -- One message of the heap is under way from one node to another, and none was posted but among the
 -- first so many.
-record IsOnWay (limit a b : ℕ) (o : Ordered (Host Managed)) : Type 0 where
+record IsOnWay (limit a b : ℕ) (o : FifoWorld (Host Managed)) : Type 0 where
   message : Message
   way : heap_way o a b ≡ message ∷ []
   within : limit ≤ length (o.posted a b)
   last : about_heap (drop limit (o.posted a b)) ≡ []
 
 -- it was posted before now
-on_way : (a b : ℕ) (o : Ordered (Host Managed)) (m : Message) → heap_way o a b ≡ m ∷ []
+on_way : (a b : ℕ) (o : FifoWorld (Host Managed)) (m : Message) → heap_way o a b ≡ m ∷ []
     → IsOnWay (length (o.posted a b)) a b o
 on_way a b o m way = record {
   message = m;
@@ -89,7 +89,7 @@ on_way a b o m way = record {
 }
 
 -- so it is not where as many were delivered
-arrives : (limit a b : ℕ) (o : Ordered (Host Managed)) → IsOnWay limit a b o
+arrives : (limit a b : ℕ) (o : FifoWorld (Host Managed)) → IsOnWay limit a b o
     → limit ≤ o.delivered a b → ⊥
 arrives limit a b o is all =
     let past = o.delivered a b - limit in
@@ -101,13 +101,13 @@ arrives limit a b o is all =
     none-some is.message (ap (λ (z : List Message). slice_get z 0) (sym none ∙ is.way))
 
 -- a step takes none of the messages of the heap that are under way from one node to another
-record TakesNone (a b : ℕ) (o o' : Ordered (Host Managed)) : Type 0 where
+record TakesNone (a b : ℕ) (o o' : FifoWorld (Host Managed)) : Type 0 where
   more : List Message
   sent : o'.posted a b ≡ o.posted a b ++ more
   way : heap_way o' a b ≡ heap_way o a b ++ about_heap more
 
 -- or delivers one
-record TakesOne (a b : ℕ) (o o' : Ordered (Host Managed)) : Type 0 where
+record TakesOne (a b : ℕ) (o o' : FifoWorld (Host Managed)) : Type 0 where
   source : ℕ
   dest : ℕ
   delivery : Delivers (host_rules managed_ops) o source dest o'
@@ -116,7 +116,7 @@ record TakesOne (a b : ℕ) (o o' : Ordered (Host Managed)) : Type 0 where
   heap : is_of_pages delivery.message.content ≡ false
 
 -- where it takes none, and there is one afterwards, it is on its way as before
-still_on_way : (limit a b : ℕ) (o o' : Ordered (Host Managed)) → IsOnWay limit a b o
+still_on_way : (limit a b : ℕ) (o o' : FifoWorld (Host Managed)) → IsOnWay limit a b o
     → TakesNone a b o o' → (m : Message) → heap_way o' a b ≡ m ∷ [] → IsOnWay limit a b o'
 still_on_way limit a b o o' is takes m way = record {
   message = m;
@@ -133,7 +133,7 @@ still_on_way limit a b o o' is takes m way = record {
       ∙ none_added is.message m (heap_way o a b) (about_heap takes.more) is.way (sym takes.way ∙ way);
 }
 
-module _ (c : Config) (o o' : Ordered (Host Managed)) (world : IsSoundWorld managed_ops c o)
+module _ (c : Config) (o o' : FifoWorld (Host Managed)) (world : IsSoundWorld managed_ops c o)
     (a b : ℕ) where
   takes_by : (source x : ℕ) (t : Delivers (host_rules managed_ops) o source x o') (about : Bool)
       → is_of_pages t.message.content ≡ about → TakesNone a b o o' ⊎ TakesOne a b o o'
@@ -165,8 +165,8 @@ module _ (c : Config) (o o' : Ordered (Host Managed)) (world : IsSoundWorld mana
   takes : Steps (host_rules managed_ops) o o' → TakesNone a b o o' ⊎ TakesOne a b o o'
   takes (rests same) = inl (record {
     more = [];
-    sent = ap (λ (z : Ordered (Host Managed)). z.posted a b) same ∙ sym (append-nil (o.posted a b));
-    way = ap (λ (z : Ordered (Host Managed)). heap_way z a b) same
+    sent = ap (λ (z : FifoWorld (Host Managed)). z.posted a b) same ∙ sym (append-nil (o.posted a b));
+    way = ap (λ (z : FifoWorld (Host Managed)). heap_way z a b) same
         ∙ sym (append-nil (heap_way o a b));
   })
   takes (turns x t) = inl (record {
@@ -182,16 +182,16 @@ module _ (c : Config) (limits : IsConfig c) (programs : List Program)
   abbrev Follower : World (Host Managed) → Type 0
   Follower v = FollowsInOrder managed_ops c programs v
 
-  abbrev order_of : (v : World (Host Managed)) → Follower v → Ordered (Host Managed)
-  order_of v f = ordered_of v f.posted
+  abbrev order_of : (v : World (Host Managed)) → Follower v → FifoWorld (Host Managed)
+  order_of v f = fifo_of v f.posted
 
-  abbrev IsRun : Ordered (Host Managed) → Type 0
+  abbrev IsRun : FifoWorld (Host Managed) → Type 0
   IsRun o = IsReachedInOrder managed_ops c programs o
 
-  abbrev HasGrown : Ordered (Host Managed) → Type 0
+  abbrev HasGrown : FifoWorld (Host Managed) → Type 0
   HasGrown o = Grown c limits programs many i history o
 
-  world : (o : Ordered (Host Managed)) → IsRun o → IsSoundWorld managed_ops c o
+  world : (o : FifoWorld (Host Managed)) → IsRun o → IsSoundWorld managed_ops c o
   world o run = (told_of c limits programs many o run).faithful.sound
 
   -- the call is in progress
@@ -200,29 +200,29 @@ module _ (c : Config) (limits : IsConfig c) (programs : List Program)
     records : h.history ≡ history
 
   -- its reply came, or was recorded
-  data IsTold (o : Ordered (Host Managed)) : Type 0 where
+  data IsTold (o : FifoWorld (Host Managed)) : Type 0 where
     told : (h : Host Managed) → slice_get o.cores i ≡ Some h → IsBusy h → (r : Reply)
-        → h.memory.side.errand ≡ Some (errand.Told r) → IsTold o
+        → h.memory.side.heap_request ≡ Some (heap_request.Told r) → IsTold o
     recorded : HasGrown o → IsTold o
 
   -- or node 0 has answered
-  data IsServed (limit : ℕ) (o : Ordered (Host Managed)) : Type 0 where
+  data IsServed (limit : ℕ) (o : FifoWorld (Host Managed)) : Type 0 where
     coming : (h : Host Managed) → slice_get o.cores i ≡ Some h → IsBusy h → IsOnWay limit 0 i o
         → IsServed limit o
     came : IsTold o → IsServed limit o
 
   -- or it was asked
-  data IsSent (limit : ℕ) (o : Ordered (Host Managed)) : Type 0 where
+  data IsSent (limit : ℕ) (o : FifoWorld (Host Managed)) : Type 0 where
     going : (h : Host Managed) → slice_get o.cores i ≡ Some h → IsBusy h → heap_way o 0 i ≡ []
         → IsOnWay limit i 0 o → IsSent limit o
     went : (back : ℕ) → IsServed back o → IsSent limit o
 
-  module _ (o : Ordered (Host Managed)) (run : IsRun o) (h : Host Managed)
+  module _ (o : FifoWorld (Host Managed)) (run : IsRun o) (h : Host Managed)
       (there : slice_get o.cores i ≡ Some h) (busy : IsBusy h) where
     sound : IsSoundHost managed_ops c i h
     sound = (world o run).sound i h there
 
-    owed : (e : Errand) × (h.memory.side.errand ≡ Some e)
+    owed : (e : HeapRequest) × (h.memory.side.heap_request ≡ Some e)
     owed = sound.memory.side.owed k (record {
       call = called;
       asked = busy.asked;
@@ -233,14 +233,14 @@ module _ (c : Config) (limits : IsConfig c) (programs : List Program)
     away : i ≢ 0
     away home = none-some owed.0 (sym (sound.memory.side.none (sound.me ∙ home)) ∙ owed.1)
 
-    told_at : (e : Errand) → h.memory.side.errand ≡ Some e → IsAtRest h.memory.side.errand → IsTold o
-    told_at (errand.Asked j number) is rest = absurd (subst IsAtRest is rest)
-    told_at (errand.Told r) is rest = told h there busy r is
+    told_at : (e : HeapRequest) → h.memory.side.heap_request ≡ Some e → IsAtRest h.memory.side.heap_request → IsTold o
+    told_at (heap_request.Asked j number) is rest = absurd (subst IsAtRest is rest)
+    told_at (heap_request.Told r) is rest = told h there busy r is
 
-    errand_at : IsErrandAt i h.memory.side.errand (heap_way o i 0) (heap_way o 0 i)
-    errand_at = (world o run).errands.each i h away there
+    heap_request_at : IsHeapRequestAt i h.memory.side.heap_request (heap_way o i 0) (heap_way o 0 i)
+    heap_request_at = (world o run).heap_requests.each i h away there
 
-    sent_by : IsErrandAt i h.memory.side.errand (heap_way o i 0) (heap_way o 0 i)
+    sent_by : IsHeapRequestAt i h.memory.side.heap_request (heap_way o i 0) (heap_way o 0 i)
         → IsSent (length (o.posted i 0)) o
     sent_by (resting rest there_none back) = went 0 (came (told_at owed.0 owed.1 rest))
     sent_by (asking j number asks way back) = going h there busy back (on_way i 0 o _ way)
@@ -249,9 +249,9 @@ module _ (c : Config) (limits : IsConfig c) (programs : List Program)
 
     -- so node 0 was asked
     is_sent : IsSent (length (o.posted i 0)) o
-    is_sent = sent_by errand_at
+    is_sent = sent_by heap_request_at
 
-  module _ (o o' : Ordered (Host Managed)) (run : IsRun o)
+  module _ (o o' : FifoWorld (Host Managed)) (run : IsRun o)
       (step : Steps (host_rules managed_ops) o o') where
     run' : IsRun o'
     run' = (o ∷ run.0, (run.1, step))
@@ -314,17 +314,17 @@ module _ (c : Config) (limits : IsConfig c) (programs : List Program)
           by_rule (serves home off asker at j number asks on none is state keeps does) =
               absurd (away o run h there busy (same ∙ home))
           by_rule (learns off home j number r asks back tells does) =
-              told served now still_busy r (ap (λ (z : Outcome (Host Managed)). z.after.memory.side.errand) does)
+              told served now still_busy r (ap (λ (z : Outcome (Host Managed)). z.after.memory.side.heap_request) does)
 
       -- one about a page leaves what is known
-      told_still : (r : Reply) → h.memory.side.errand ≡ Some (errand.Told r) → (about : Bool)
+      told_still : (r : Reply) → h.memory.side.heap_request ≡ Some (heap_request.Told r) → (about : Bool)
           → is_of_pages t.message.content ≡ about → IsTold o'
       told_still r is false heap = learned heap
       told_still r is true about =
           told served now still_busy r
-          (ap (λ (z : Outcome (Host Managed)). z.after.memory.side.errand)
+          (ap (λ (z : Outcome (Host Managed)). z.after.memory.side.heap_request)
           (page_serving managed_ops t.core source t.message about)
-          ∙ ap (λ (z : Host Managed). z.memory.side.errand) it ∙ is)
+          ∙ ap (λ (z : Host Managed). z.memory.side.heap_request) it ∙ is)
 
     told_on : IsTold o → IsTold o'
     told_on (recorded grown) = recorded (grown_on c limits programs many i history o o' run step grown)
@@ -337,7 +337,7 @@ module _ (c : Config) (limits : IsConfig c) (programs : List Program)
 
         by_steps : Steps (host_rules managed_ops) o o' → IsTold o'
         by_steps (rests same) =
-            told h (ap (λ (z : Ordered (Host Managed)). slice_get z.cores i) same ∙ there) busy r is
+            told h (ap (λ (z : FifoWorld (Host Managed)). slice_get z.cores i) same ∙ there) busy r is
         by_steps (turns x t) = elim (cases_eq i x) [
           | inr ne ↦
               told h (core_elsewhere o o' x t.core t.outcome.after i t.there t.cores ne ∙ there)
@@ -368,15 +368,15 @@ module _ (c : Config) (limits : IsConfig c) (programs : List Program)
     served_on limit (coming h there busy way) =
         by_takes (takes c o o' (world o run) 0 i step)
       where
-        by_errand : TakesNone 0 i o o' → (h' : Host Managed) → slice_get o'.cores i ≡ Some h'
-            → IsBusy h' → IsErrandAt i h'.memory.side.errand (heap_way o' i 0) (heap_way o' 0 i)
+        by_heap_request : TakesNone 0 i o o' → (h' : Host Managed) → slice_get o'.cores i ≡ Some h'
+            → IsBusy h' → IsHeapRequestAt i h'.memory.side.heap_request (heap_way o' i 0) (heap_way o' 0 i)
             → IsServed limit o'
-        by_errand none h' there' on (resting rest there_none back) =
+        by_heap_request none h' there' on (resting rest there_none back) =
             came (told_at o' run' h' there' on (owed o' run' h' there' on).0 (owed o' run' h' there' on).1 rest)
-        by_errand none h' there' on (asking j number asks there_way back) =
+        by_heap_request none h' there' on (asking j number asks there_way back) =
             absurd (not_empty way.message (heap_way o 0 i) (about_heap none.more) way.way
             (sym none.way ∙ back))
-        by_errand none h' there' on (answered j number body r asks there_none back tells can) =
+        by_heap_request none h' there' on (answered j number body r asks there_none back tells can) =
             coming h' there' on (still_on_way limit 0 i o o' way none _ back)
 
         by_takes : TakesNone 0 i o o' ⊎ TakesOne 0 i o o' → IsServed limit o'
@@ -384,7 +384,7 @@ module _ (c : Config) (limits : IsConfig c) (programs : List Program)
             came (learned h there busy one.source one.dest one.delivery one.to one.heap)
         by_takes (inl none) = elim (busy_on h there busy) [
           | inl grown ↦ came (recorded grown)
-          | inr on ↦ by_errand none on.0 on.1 on.2 (errand_at o' run' on.0 on.1 on.2)
+          | inr on ↦ by_heap_request none on.0 on.1 on.2 (heap_request_at o' run' on.0 on.1 on.2)
         ]
 
     -- the request that comes to node 0 is answered
@@ -419,22 +419,22 @@ module _ (c : Config) (limits : IsConfig c) (programs : List Program)
     sent_on limit (going h there busy back way) = elim (busy_on h there busy) [
       | inl grown ↦ went 0 (came (recorded grown))
       | inr on ↦
-          by_errand on.0 on.1 on.2 (takes c o o' (world o run) i 0 step)
-          (errand_at o' run' on.0 on.1 on.2)
+          by_heap_request on.0 on.1 on.2 (takes c o o' (world o run) i 0 step)
+          (heap_request_at o' run' on.0 on.1 on.2)
     ]
       where
-        by_errand : (h' : Host Managed) → slice_get o'.cores i ≡ Some h' → IsBusy h'
+        by_heap_request : (h' : Host Managed) → slice_get o'.cores i ≡ Some h' → IsBusy h'
             → TakesNone i 0 o o' ⊎ TakesOne i 0 o o'
-            → IsErrandAt i h'.memory.side.errand (heap_way o' i 0) (heap_way o' 0 i)
+            → IsHeapRequestAt i h'.memory.side.heap_request (heap_way o' i 0) (heap_way o' 0 i)
             → IsSent limit o'
-        by_errand h' there' on any (resting rest there_none none) =
+        by_heap_request h' there' on any (resting rest there_none none) =
             went 0 (came (told_at o' run' h' there' on (owed o' run' h' there' on).0
             (owed o' run' h' there' on).1 rest))
-        by_errand h' there' on any (answered j number body r asks none comes tells can) =
+        by_heap_request h' there' on any (answered j number body r asks none comes tells can) =
             went (length (o'.posted 0 i)) (coming h' there' on (on_way 0 i o' _ comes))
-        by_errand h' there' on (inl none) (asking j number asks goes back_none) =
+        by_heap_request h' there' on (inl none) (asking j number asks goes back_none) =
             going h' there' on back_none (still_on_way limit i 0 o o' way none _ goes)
-        by_errand h' there' on (inr one) (asking j number asks goes back_none) =
+        by_heap_request h' there' on (inr one) (asking j number asks goes back_none) =
             absurd (answer_comes h there busy one back_none)
 
   -- a round brings the request to node 0
@@ -475,7 +475,7 @@ module _ (c : Config) (limits : IsConfig c) (programs : List Program)
           (all_there c limits programs many i u v f round g 0 i))
 
   -- then the node's turn records the reply
-  told_records : (o : Ordered (Host Managed)) → IsRun o → IsTold o
+  told_records : (o : FifoWorld (Host Managed)) → IsRun o → IsTold o
       → HasGrown o
       ⊎ ((h : Host Managed) × (slice_get o.cores i ≡ Some h)
       × Records c limits programs many i history h)

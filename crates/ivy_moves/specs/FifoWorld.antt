@@ -7,7 +7,7 @@ use Rattle.ivy_link.specs.Paired.{extended}
 use Rattle.ivy_moves.specs.Cores.{Core, Outcome}
 
 -- the cores by number, and what was posted and delivered between each two
-pub record Ordered (C : Type 0) : Type 0 where
+pub record FifoWorld (C : Type 0) : Type 0 where
   pub cores : List C
   -- all messages ever posted from one node to another
   pub posted : ℕ → ℕ → List Message
@@ -21,7 +21,7 @@ one_more delivered source dest i j =
 
 module _ {C : Type 0} (rules : Core C) where
   -- a turn of node i that has an outcome
-  pub record Turns (w : Ordered C) (i : ℕ) (w' : Ordered C) : Type 0 where
+  pub record Turns (w : FifoWorld C) (i : ℕ) (w' : FifoWorld C) : Type 0 where
     pub core : C
     pub there : slice_get w.cores i ≡ Some core
     pub outcome : Outcome C
@@ -31,7 +31,7 @@ module _ {C : Type 0} (rules : Core C) where
     pub delivered : w'.delivered ≡ w.delivered
 
   -- the first message under way from one node to another is delivered
-  pub record Delivers (w : Ordered C) (source i : ℕ) (w' : Ordered C) : Type 0 where
+  pub record Delivers (w : FifoWorld C) (source i : ℕ) (w' : FifoWorld C) : Type 0 where
     pub core : C
     pub there : slice_get w.cores i ≡ Some core
     pub message : Message
@@ -41,7 +41,7 @@ module _ {C : Type 0} (rules : Core C) where
     pub delivered : w'.delivered ≡ one_more w.delivered source i
 
   -- one move of the ordered world, or none
-  pub data Steps (w w' : Ordered C) : Type 0 where
+  pub data Steps (w w' : FifoWorld C) : Type 0 where
     rests : w' ≡ w → Steps w w'
     turns : (i : ℕ) → Turns w i w' → Steps w w'
     delivers : (source i : ℕ) → Delivers w source i w' → Steps w w'
