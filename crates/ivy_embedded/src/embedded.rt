@@ -1,5 +1,5 @@
 //! A node with own code, and the string that its owner looked at and has not taken.
-ghost use Rattle.std.specs.Prelude.{◌≡◌, ◌≢◌, ◌↔◌, ◌≤◌, ◌⊎◌, ◌-◌, ◌*◌, ◌∷◌, [], ◌<◌, None, Some, Err, take, length, slice_get, IfOk, IfErr, IsTrue, IsFalse, MatchOption, MatchResult, IsOkUnless};
+ghost use Rattle.std.specs.Prelude.{◌≡◌, ◌≢◌, ◌↔◌, ◌≤◌, ◌⊎◌, ◌-◌, ◌*◌, ◌∷◌, [], ◌<◌, None, Some, Ok, Err, take, length, slice_get, IfOk, IfErr, IsTrue, IsFalse, MatchOption, MatchResult, IsOkUnless};
 ghost use Rattle.ivy_model.specs.Config.{IsConfig};
 ghost use Rattle.ivy_model.specs.Legal.{HasWidth};
 ghost use Rattle.ivy_model.specs.Rows.{calls_of, numbers_in, row};
@@ -8,9 +8,10 @@ ghost use Rattle.ivy_model.specs.Wants.{RanOut};
 ghost use Rattle.ivy_moves.specs.Nodes.{pulsing};
 ghost use Rattle.ivy_program.specs.Owned.{IsFree};
 ghost use Rattle.ivy_site.specs.ivy_host.ivy_memory.AtOnce.{IsStored, row_at_hand};
-ghost use Rattle.ivy_site.specs.Calls.{AreAnswered, AreTaken, BeginsRow, MayCallInRow, row_together};
+ghost use Rattle.ivy_site.specs.Calls.{AreAnswered, AreTaken, BeginsRow, MayCallInRow, MayCallTogether, row_together};
 ghost use Rattle.ivy_site.specs.SiteView.{after_pulse_to};
-ghost use Rattle.ivy_site.specs.Sites.{AfterDelivery};
+ghost use Rattle.ivy_site.specs.Handed.{site_handed};
+ghost use Rattle.ivy_site.specs.Sites.{AfterDelivery, IsSpentTurn};
 ghost use Rattle.ivy_wire.specs.DecodeErrors.{checked};
 ghost use Rattle.ivy_embedded.specs.Taking.{IsTaken};
 ghost use Rattle.ivy_embedded.specs.Nodes.{first_embedded, waiting_in};
@@ -208,8 +209,11 @@ impl Embedded {
         bytes: &[u8],
     ) -> Result<usize, Fault>
         ensures done { MatchResult result (λ n. OfSite (BeginsRow (calls_of (row kind 0 addr (numbers_in n bytes.now)))) self.old self.new) (λ _. self.new ≡ self.old) }
-        ensures many { MayCallInRow self.old.site addr (length bytes.now) → IfOk result (λ n. n ≡ row_together self.old.site kind addr words (length bytes.now)) }
+        ensures many { MayCallTogether self.old.site.node.core.process self.old.site.node.core.history addr (length bytes.now) → IfOk result (λ n. n ≡ row_together self.old.site kind addr words (length bytes.now)) }
+        ensures none { row_together self.old.site kind addr words (length bytes.now) ≡ 0 → result ≡ Ok 0 }
+        ensures busy { (MayCallTogether self.old.site.node.core.process self.old.site.node.core.history addr (length bytes.now) → ⊥) → result ≡ Ok 0 }
         ensures fits { IfOk result (λ n. (n ≤ words) × (8 * n ≤ length bytes.now)) }
+        ensures spent { IfErr result (IsSpentTurn (site_handed (calls_of (row kind 0 addr (numbers_in (row_together self.old.site kind addr words (length bytes.now)) bytes.now)) ∷ []) self.old.site)) }
         ensures want { IfErr result RanOut }
     {
         let begun = self.site.call_row(kind, addr, words, bytes)?;

@@ -96,7 +96,7 @@ where
             return Err(Fault::TurnLimit);
         };
         let came = seat.begin(self.tie, &mut self.mine, self.me, call);
-        self.worker.leave(seat);
+        self.worker.leave(seat, matches!(came, Ok(None)));
         came
     }
 
@@ -109,7 +109,7 @@ where
             return Err(Fault::TurnLimit);
         };
         let came = seat.go_on(self.tie, &mut self.mine, self.me, call);
-        self.worker.leave(seat);
+        self.worker.leave(seat, matches!(came, Ok(None)));
         came
     }
 
@@ -141,7 +141,7 @@ where
                 return 0;
             };
             let words = seat.take_loads(self.tie, &mut self.mine, self.me, addr, into);
-            self.worker.leave(seat);
+            self.worker.leave(seat, words == 0);
             if words > 0 {
                 return words;
             }
@@ -161,7 +161,7 @@ where
                 return 0;
             };
             let words = seat.take_stores(self.tie, &mut self.mine, self.me, addr, from);
-            self.worker.leave(seat);
+            self.worker.leave(seat, words == 0);
             if words > 0 {
                 return words;
             }
@@ -201,7 +201,7 @@ where
         };
         let words = seat.load_row(self.tie, &mut self.mine, self.me, addr, into);
         let waits = words == 0 && seat.call_row(self.me, Row::Loads, addr, into);
-        self.worker.leave(seat);
+        self.worker.leave(seat, waits);
         if waits {
             return self.wait_for_loads(addr, into);
         }
@@ -215,7 +215,7 @@ where
         };
         let words = seat.store_row(self.tie, &mut self.mine, self.me, addr, from);
         let waits = words == 0 && seat.call_row(self.me, Row::Stores, addr, from);
-        self.worker.leave(seat);
+        self.worker.leave(seat, waits);
         if waits {
             return self.wait_for_stores(addr, from);
         }

@@ -1,5 +1,5 @@
 //! A site that is seated at an ether.
-ghost use Rattle.std.specs.Prelude.{◌≡◌, ◌≢◌, ◌↔◌, ◌*◌, ◌<◌, ◌≤◌, [], ◌∷◌, ◌++◌, Err, None, Contains, IsTrue, MatchBool, MatchOption, MatchResult, IfOk, IfErr, IfSome, IsSome, IsOkUnless, OnOk, OnErr, length};
+ghost use Rattle.std.specs.Prelude.{◌≡◌, ◌≢◌, ◌↔◌, ◌*◌, ◌<◌, ◌≤◌, [], ◌∷◌, ◌++◌, Ok, Err, None, Contains, IsTrue, MatchBool, MatchOption, MatchResult, IfOk, IfErr, IfSome, IsSome, IsOkUnless, OnOk, OnErr, length};
 ghost use Rattle.ivy_model.specs.Rows.{calls_of, numbers_in, row};
 ghost use Rattle.ivy_model.specs.Wants.{RanOut};
 ghost use Rattle.ivy_wire.specs.DecodeErrors.{checked};
@@ -219,9 +219,12 @@ impl<'e, S: Setup, A: Allocator + Copy> Seated<'e, S, A> {
         ensures ether { self.new.ether ≡ self.old.ether }
         ensures done { MatchResult result (λ n. BeginsRow (calls_of (row kind 0 addr (numbers_in n bytes.now))) self.old.site self.new.site) (λ _. self.new ≡ self.old) }
         ensures pass { IfOk result (λ n. n ≢ 0 → self.new.pass.known ≡ with_all_handed self.old.pass.known (calls_of (row kind 0 addr (numbers_in n bytes.now)) ∷ [])) }
-        ensures none { IfOk result (λ n. n ≡ 0 → self.new ≡ self.old) }
+        ensures same { IfOk result (λ n. n ≡ 0 → self.new ≡ self.old) }
         ensures many { MayCallTogether self.old.site.node.core.process self.old.site.node.core.history addr (length bytes.now) → IfOk result (λ n. n ≡ row_together self.old.site kind addr words (length bytes.now)) }
+        ensures none { row_together self.old.site kind addr words (length bytes.now) ≡ 0 → result ≡ Ok 0 }
+        ensures busy { (MayCallTogether self.old.site.node.core.process self.old.site.node.core.history addr (length bytes.now) → ⊥) → result ≡ Ok 0 }
         ensures fits { IfOk result (λ n. (n ≤ words) × (8 * n ≤ length bytes.now)) }
+        ensures spent { IfErr result (IsSpentTurn (site_handed (calls_of (row kind 0 addr (numbers_in (row_together self.old.site kind addr words (length bytes.now)) bytes.now)) ∷ []) self.old.site)) }
         ensures want { IfErr result RanOut }
     {
         let begun = self.site.call_row(kind, addr, words, bytes)?;

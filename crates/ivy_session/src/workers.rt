@@ -24,7 +24,7 @@ fn run_program<T: ProgramSeat, A: Allocator + Copy, R: Wait, G: Turnstile>(
             return;
         };
         let turn = seated.program_turn();
-        worker.leave(seated);
+        worker.leave(seated, turn == Ok(Turn::Idle));
         match turn {
             Ok(Turn::Moved) => {}
             Ok(Turn::Idle) => worker.rest(),

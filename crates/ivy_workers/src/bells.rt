@@ -53,6 +53,12 @@ pub(crate) struct Bells {
     waiting: AtomicU64,
     /// Whether the wire worker waits for the node's site.
     wanted: AtomicBool,
+    /// Whether the program worker waits, and makes the turns on the wire meanwhile.
+    polled: AtomicBool,
+    /// Whether the program worker lost a frame, for which the wire worker has made no round of pulses yet.
+    lost: AtomicBool,
+    /// So many turns on the wire were begun.
+    wire_turns: AtomicU64,
 }
 
 impl Bells {
@@ -64,6 +70,9 @@ impl Bells {
             served: AtomicU64::new(0),
             waiting: AtomicU64::new(0),
             wanted: AtomicBool::new(false),
+            polled: AtomicBool::new(false),
+            lost: AtomicBool::new(false),
+            wire_turns: AtomicU64::new(0),
         }
     }
 
@@ -111,6 +120,46 @@ impl Bells {
                 return;
             }
             spin_loop();
+        }
+    }
+
+    /// Whether the program worker makes the turns on the wire.
+    pub(crate) fn is_polled(&self) -> bool {
+        self.polled.load(Ordering::SeqCst)
+    }
+
+    /// Says whether the program worker makes the turns on the wire.
+    pub(crate) fn poll(&self, polled: bool) {
+        self.polled.store(polled, Ordering::SeqCst);
+    }
+
+    /// The program worker lost a frame, so that the wire worker has to pulse.
+    pub(crate) fn lose(&self) {
+        self.lost.store(true, Ordering::SeqCst);
+        ring(&self.wire);
+    }
+
+    /// Whether the program worker lost a frame, for which no round of pulses was made yet.
+    pub(crate) fn has_lost(&self) -> bool {
+        self.lost.load(Ordering::SeqCst)
+    }
+
+    /// A round of pulses is made for what was lost. It tells whether anything was.
+    pub(crate) fn take_lost(&self) -> bool {
+        self.has_lost() && self.lost.swap(false, Ordering::SeqCst)
+    }
+
+    /// A turn on the wire begins, unless so many were made.
+    pub(crate) fn begin_wire_turn(&self, most: u64) -> bool {
+        self.wire_turns.fetch_add(1, Ordering::SeqCst) < most
+    }
+
+    /// Wakes the worker that makes the turns on the wire.
+    pub(crate) fn ring_wire(&self) {
+        if self.is_polled() {
+            ring(&self.program);
+        } else {
+            ring(&self.wire);
         }
     }
 

@@ -1,12 +1,12 @@
 //! What the workers of a session share, and the wire worker of a node.
 use crate::bells::Bells;
-use crate::gate::{Role, Turnstile};
+use crate::gate::Turnstile;
 use crate::limits::Limits;
-use crate::pulses::Pulses;
 use crate::seat::Seat;
 use crate::shared::Shared;
 use crate::turns::{ProgramWorker, lock_looks, lock_soon};
 use crate::watch::Watch;
+use crate::wire::Wire;
 use ivy_model::Fault;
 use std::alloc::Allocator;
 use std::sync::{Mutex, MutexGuard, Wait};
@@ -27,44 +27,26 @@ fn lock_for_wire<'m, T, R: Wait>(
     seated
 }
 
-/// Makes the turns of a node on the wire, one turn a lock, until all programs have ended.
+/// Makes the turns of a node on the wire, one turn a lock, until all programs have ended. While the node's program waits
+/// its worker makes them.
 fn run_wire<T: Seat, A: Allocator + Copy, R: Wait, G: Turnstile>(
-    rt: &R,
-    seat: &Mutex<T>,
-    node: u8,
-    limits: Limits,
-    shared: &Shared<A>,
-    gate: &G,
+    wire: &mut Wire<'_, '_, '_, '_, T, A, R, G>,
+    turns: u64,
 ) {
-    let Some(bells) = shared.bells(node) else {
-        return;
-    };
-    let looks = lock_looks(shared.looks());
-    let mut watch = Watch::new(node, shared.looks());
-    let mut pulses = Pulses::new(limits.pulse_every);
-    for _ in 0..limits.turns {
-        if shared.is_over() {
+    let looks = wire.shared.looks();
+    let mut watch = Watch::new(looks);
+    for _ in 0..turns {
+        if wire.shared.is_over() {
             return;
         }
-        let changes = shared.line().changes();
-        let mut seated = lock_for_wire(rt, seat, bells, looks);
-        gate.pass(node, Role::Wire, seated.records());
-        let turn = seated.wire_turn(rt, &mut pulses);
-        bells.set_waiting(seated.waiting());
-        drop(seated);
-        match turn {
-            Ok(traffic) => {
-                shared.tell(bells, node, traffic);
-                watch.note(shared, traffic, changes);
-            }
-            Err(fault) => {
-                shared.stop(rt, fault);
-                return;
-            }
-        }
-        watch.rest(rt, shared, bells);
+        let seated = lock_for_wire(wire.rt, wire.seat, wire.bells, lock_looks(looks));
+        let Some(traffic) = wire.turn(seated) else {
+            return;
+        };
+        watch.note(wire.shared, traffic);
+        watch.rest(wire);
     }
-    shared.stop(rt, Fault::TurnLimit);
+    wire.shared.stop(wire.rt, Fault::TurnLimit);
 }
 
 /// What the workers of a session share. Each reference has a lifetime of its own.
@@ -89,24 +71,25 @@ where
     R: Wait,
     G: Turnstile,
 {
+    /// What makes the turns on the wire of a node, whose place this is. None where the session has no such node.
+    fn wire<'p>(&self, seat: &'p Mutex<T>, node: u8) -> Option<Wire<'r, 'p, 'g, 'a, T, A, R, G>> {
+        Wire::new(self.rt, seat, self.gate, self.shared, node, self.limits)
+    }
+
     /// The program worker of a node, whose place this is. None where the session has no such node.
     pub fn program_worker<'p>(
         &self,
         seat: &'p Mutex<T>,
         node: u8,
     ) -> Option<ProgramWorker<'r, 'p, 'g, 'a, T, A, R, G>> {
-        ProgramWorker::new(
-            self.rt,
-            seat,
-            self.gate,
-            self.shared,
-            node,
-            self.limits.turns,
-        )
+        let wire = self.wire(seat, node)?;
+        Some(ProgramWorker::new(wire, self.limits.turns))
     }
 
     /// Makes the turns of a node on the wire, whose place this is, one turn a lock, until all programs have ended.
     pub fn run_wire(&self, seat: &Mutex<T>, node: u8) {
-        run_wire(self.rt, seat, node, self.limits, self.shared, self.gate);
+        if let Some(mut wire) = self.wire(seat, node) {
+            run_wire(&mut wire, self.limits.turns);
+        }
     }
 }

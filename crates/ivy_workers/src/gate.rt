@@ -1,11 +1,11 @@
 //! What a session tells of its turns.
 
-/// Which of a node's two workers.
+/// Which of a node's turns.
 #[derive(Clone, Copy, Debug, PartialEq, Eq)]
 pub enum Role {
-    /// The one that makes the turns of the program.
+    /// One of its program.
     Program,
-    /// The one that puts and takes frames.
+    /// One on the wire: a frame is put or taken. Where the program waits its worker makes it, else the wire worker.
     Wire,
 }
 

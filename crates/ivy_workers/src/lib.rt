@@ -1,4 +1,5 @@
-//! The workers of a session, two for each node: when each makes a turn, when it sleeps, and what they tell one another.
+//! The workers of a session, two for each node: when each makes a turn, when it sleeps, and what they tell one another. One
+//! makes the turns of the node's program, and while that waits those on the wire too, which else the other one makes.
 //!
 //! What a turn does is known to a node's place alone ([`Seat`]). No contract above speaks of workers: what is promised of
 //! a session holds whoever makes the turns, and in whatever order.
@@ -17,6 +18,7 @@ mod shared;
 mod traffic;
 mod turns;
 mod watch;
+mod wire;
 
 pub use crew::Crew;
 pub use gate::{Gate, OpenGate, Role, Turnstile};

@@ -7,9 +7,9 @@ ghost use Rattle.ivy_workers.specs.Limits.{AreLimits};
 pub struct Limits {
     /// How many items the ether holds, 1 to 65,536.
     pub capacity: u64,
-    /// How many turns each worker makes at most, at least 1.
+    /// How many turns a node's program has at most, and how many the node makes on the wire, at least 1.
     pub turns: u64,
-    /// Each such turn of a wire worker makes a pulse due, at least 1. It comes with the next turn of the worker that begins
+    /// Each such turn of a worker on the wire makes a pulse due, at least 1. It comes with its next turn there that begins
     /// with no frame of its node to be put.
     pub pulse_every: u64,
 }

@@ -1,4 +1,4 @@
-//! What stands behind the lock of a node, as its wire worker has it.
+//! What stands behind the lock of a node, as whoever makes its turns on the wire has it.
 ghost use Rattle.std.specs.Prelude.{IfErr};
 ghost use Rattle.ivy_workers.specs.Stops.{IsStop};
 
@@ -7,7 +7,7 @@ use crate::traffic::Traffic;
 use ivy_model::Fault;
 use std::sync::Wait;
 
-/// A node's place in a session, as its wire worker has it: it makes the node's turns on the wire, and knows no more of it.
+/// A node's place in a session, as whoever makes its turns on the wire has it, who knows no more of it.
 pub trait Seat {
     /// How many records the node's history has.
     fn records(&self) -> u64;

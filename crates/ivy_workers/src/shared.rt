@@ -2,7 +2,7 @@
 ghost use Rattle.std.specs.Prelude.{IfSome, IfErr};
 ghost use Rattle.ivy_workers.specs.Stops.{IsStop};
 
-use crate::bells::{Bells, ring};
+use crate::bells::Bells;
 use crate::limits::Limits;
 use crate::line::Line;
 use crate::traffic::Traffic;
@@ -16,8 +16,8 @@ use std::thread::Threads;
 /// So many turns a round of pulses has at most.
 const MOST_ROUND: u64 = 32_768;
 
-/// So often a worker looks for something to do before it sleeps, where there is a processor for each worker. What one
-/// worker waits for the next one does soon then, and a sleep would cost more. Where there are more workers than
+/// So often a worker looks for something to do before it sleeps, where there is a processor for each that may look. What
+/// one worker waits for the next one does soon then, and a sleep would cost more. Where there are more of them than
 /// processors a worker that looks takes the processor from one that has something to do.
 const LOOKS: u32 = 8_000;
 
@@ -37,6 +37,11 @@ fn processors<R: Threads>(rt: &R) -> u64 {
         Ok(found) => found.get() as u64,
         Err(_) => 1,
     }
+}
+
+/// So often a worker looks where there are so many such workers, and so many processors for them.
+fn looks_among(workers: u64, processors: u64) -> u32 {
+    if workers <= processors { LOOKS } else { 0 }
 }
 
 /// Why a session ends before its programs do.
@@ -60,6 +65,7 @@ pub struct Shared<A: Allocator> {
     pulse_every: u64,
     kept_places: u64,
     looks: u32,
+    program_looks: u32,
     over: AtomicBool,
     stopped: AtomicBool,
     standing: Mutex<Standing>,
@@ -79,15 +85,13 @@ impl<A: Allocator + Copy> Shared<A> {
             bells.reserve(1)?;
             bells.push_reserved(Bells::new());
         }
+        let many = processors(rt);
         Ok(Shared {
             programs: programs as u64,
             pulse_every: limits.pulse_every,
             kept_places: KEPT_PLACES.min(limits.capacity / 2),
-            looks: if (programs as u64) <= processors(rt) / 2 {
-                LOOKS
-            } else {
-                0
-            },
+            looks: looks_among(programs as u64, many / 2),
+            program_looks: looks_among(programs as u64, many),
             over: AtomicBool::new(false),
             stopped: AtomicBool::new(false),
             standing: Mutex::new(Standing {
@@ -156,9 +160,14 @@ impl<A: Allocator> Shared<A> {
         self.pulse_every.min(MOST_ROUND)
     }
 
-    /// So often a worker looks for something to do before it sleeps, at most.
+    /// So often a wire worker looks for something to do before it sleeps, at most.
     pub(crate) fn looks(&self) -> u32 {
         self.looks
+    }
+
+    /// So often a program worker that waits looks for something to do before it sleeps, at most.
+    pub(crate) fn program_looks(&self) -> u32 {
+        self.program_looks
     }
 
     /// Wakes all workers, so that they see how the session stands.
@@ -223,17 +232,17 @@ impl<A: Allocator> Shared<A> {
         None
     }
 
-    /// Wakes a node's wire worker.
+    /// Wakes the worker that makes a node's turns on the wire.
     fn wake_wire(&self, node: Option<u8>) {
         let Some(node) = node else {
             return;
         };
         if let Some(bells) = self.bells(node) {
-            ring(&bells.wire);
+            bells.ring_wire();
         }
     }
 
-    /// Wakes the wire worker that waits for a place and may have it, the next one after this node round.
+    /// Wakes the worker of the node that waits for a place and may have it, the next one after this node round.
     fn wake_for_place(&self, after: u8) {
         let mut place = usize::from(after);
         for _ in 0..self.bells.len() {
@@ -290,6 +299,7 @@ impl<A: Allocator> Shared<A> {
             pulse_every: _,
             kept_places: _,
             looks: _,
+            program_looks: _,
             over: _,
             stopped: _,
             standing,

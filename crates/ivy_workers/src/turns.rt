@@ -1,9 +1,10 @@
 //! The program worker of a node, whatever makes the turns.
-use crate::bells::{Bells, ring};
+use crate::bells::ring;
 use crate::gate::{Role, Turnstile};
 use crate::seat::Seat;
-use crate::shared::Shared;
+use crate::traffic::Traffic;
 use crate::watch::{Patience, rest_program};
+use crate::wire::Wire;
 use std::alloc::Allocator;
 use std::hint::spin_loop;
 use std::sync::{Mutex, MutexGuard, Wait};
@@ -32,21 +33,19 @@ pub(crate) fn lock_soon<'m, T, R: Wait>(
     seat.lock(rt)
 }
 
-/// The program worker of a node: for each turn it locks the node's place, and leaves it.
+/// The program worker of a node: for each turn it locks the node's place, and leaves it. While it waits it makes the
+/// node's turns on the wire, so that no other worker has to be woken for what it waits for.
 ///
 /// Each reference has a lifetime of its own.
 #[derive(Drop)]
 pub struct ProgramWorker<'r, 's, 'g, 'a, T, A: Allocator, R, G> {
-    rt: &'r R,
-    seat: &'s Mutex<T>,
-    gate: &'g G,
-    shared: &'a Shared<A>,
-    bells: &'a Bells,
-    node: u8,
+    wire: Wire<'r, 's, 'g, 'a, T, A, R, G>,
     /// So many turns are left to it.
     turns: u64,
     /// So many frames the node had served before the last turn.
     served: u64,
+    /// Whether it makes the turns on the wire.
+    polls: bool,
     patience: Patience,
 }
 
@@ -60,59 +59,83 @@ impl<'r, 's, 'g, 'a, T: Seat, A: Allocator + Copy, R: Wait, G: Turnstile> Progra
     R,
     G,
 > {
-    /// The program worker of this node, which makes so many turns at most. None where the session has no such node.
-    pub(crate) fn new(
-        rt: &'r R,
-        seat: &'s Mutex<T>,
-        gate: &'g G,
-        shared: &'a Shared<A>,
-        node: u8,
-        turns: u64,
-    ) -> Option<Self> {
-        let bells = shared.bells(node)?;
-        Some(ProgramWorker {
-            rt,
-            seat,
-            gate,
-            shared,
-            bells,
-            node,
+    /// The program worker of this node, which makes so many turns at most.
+    pub(crate) fn new(wire: Wire<'r, 's, 'g, 'a, T, A, R, G>, turns: u64) -> Self {
+        let patience = Patience::new(wire.shared.program_looks());
+        ProgramWorker {
+            wire,
             turns,
             served: 0,
-            patience: Patience::new(shared.looks()),
-        })
+            polls: false,
+            patience,
+        }
     }
 
     /// Locks the node's place for a turn. None where the session stops, or no turn is left.
     pub fn enter(&mut self) -> Option<MutexGuard<'s, T>> {
-        if self.turns == 0 || self.shared.is_stopped() {
+        let wire = &self.wire;
+        if self.turns == 0 || wire.shared.is_stopped() {
             return None;
         }
         self.turns -= 1;
-        self.served = self.bells.served();
-        self.bells.let_wire_go();
-        let seated = lock_soon(self.rt, self.seat, lock_looks(self.shared.looks()));
-        self.gate.pass(self.node, Role::Program, seated.records());
+        self.served = wire.bells.served();
+        wire.bells.let_wire_go();
+        let seated = lock_soon(wire.rt, wire.seat, lock_looks(wire.shared.looks()));
+        wire.gate.pass(wire.node, Role::Program, seated.records());
         Some(seated)
     }
 
-    /// Leaves the node's place after a turn. The wire worker is woken for a frame that the turn made.
-    pub fn leave(&mut self, seated: MutexGuard<'s, T>) {
-        let news = self.bells.set_waiting(seated.waiting());
+    /// Leaves the node's place after a turn. Where the program rests next, this worker makes the node's turns on the wire
+    /// from now on, and else the wire worker does, which is woken if there is something to do.
+    pub fn leave(&mut self, seated: MutexGuard<'s, T>, rests: bool) {
+        let bells = self.wire.bells;
+        let news = bells.set_waiting(seated.waiting());
         drop(seated);
-        if news {
-            ring(&self.bells.wire);
+        if rests != self.polls {
+            self.polls = rests;
+            bells.poll(rests);
+            if !rests && self.wire.has_traffic() {
+                ring(&bells.wire);
+            }
+        } else if news && !rests {
+            ring(&bells.wire);
         }
     }
 
-    /// Waits until the node has served one more frame than before the last turn, or for a while.
+    /// Waits until the node has served one more frame than before the last turn, or for a while, and makes the node's
+    /// turns on the wire meanwhile.
     pub fn rest(&mut self) {
-        rest_program(
-            self.rt,
-            self.shared,
-            self.bells,
-            &mut self.patience,
-            self.served,
-        );
+        for _ in self.wire.rt.forever() {
+            if !self.poll() {
+                return;
+            }
+        }
+    }
+
+    /// Makes a turn on the wire where there is something to do there, and else waits for that. It says whether it is to
+    /// do so again.
+    fn poll(&mut self) -> bool {
+        let wire = &self.wire;
+        if wire.bells.served() != self.served || wire.shared.is_stopped() {
+            return false;
+        }
+        if wire.has_traffic() {
+            return self.turn_on_wire();
+        }
+        rest_program(wire, &mut self.patience, self.served)
+    }
+
+    /// Makes a turn on the wire. It says whether the session goes on.
+    fn turn_on_wire(&mut self) -> bool {
+        let wire = &mut self.wire;
+        let seated = lock_soon(wire.rt, wire.seat, lock_looks(wire.shared.looks()));
+        match wire.turn(seated) {
+            None => false,
+            Some(Traffic::Lost) => {
+                wire.bells.lose();
+                true
+            }
+            Some(_) => true,
+        }
     }
 }

@@ -1,7 +1,10 @@
 //! When a worker makes its next turn, and when it sleeps.
-use crate::bells::{Bells, get_up, lie_down, ring, sleep};
+use crate::bells::{get_up, lie_down, ring, sleep};
+use crate::gate::Turnstile;
+use crate::seat::Seat;
 use crate::shared::Shared;
 use crate::traffic::Traffic;
+use crate::wire::Wire;
 use std::alloc::Allocator;
 use std::hint::spin_loop;
 use std::sync::Wait;
@@ -20,7 +23,7 @@ const SHORT_NAP: u64 = 500;
 /// So many microseconds a program worker sleeps at most.
 const PROGRAM_NAP: u64 = 10_000;
 
-/// So many frames a node serves at most before its program worker is woken.
+/// So many frames a wire worker serves at most before the program worker is woken.
 const MOST_UNHEARD: u32 = 8;
 
 /// So often a worker looks after it looked in vain.
@@ -63,10 +66,14 @@ impl Patience {
     }
 }
 
-/// Looks for a while whether the node has served a frame more, or the session is stopped.
-fn serves<A: Allocator>(looks: u32, shared: &Shared<A>, bells: &Bells, served: u64) -> bool {
+/// Looks for a while whether the node has served a frame more, has something to do on the wire, or the session is stopped.
+fn comes_for_program<T: Seat, A: Allocator + Copy, R: Wait, G: Turnstile>(
+    wire: &Wire<'_, '_, '_, '_, T, A, R, G>,
+    looks: u32,
+    served: u64,
+) -> bool {
     for _ in 0..looks {
-        if bells.served() != served || shared.is_stopped() {
+        if wire.bells.served() != served || wire.has_traffic() || wire.shared.is_stopped() {
             return true;
         }
         spin_loop();
@@ -75,31 +82,29 @@ fn serves<A: Allocator>(looks: u32, shared: &Shared<A>, bells: &Bells, served: u
 }
 
 /// A program worker, which had nothing to do when its node had served so many frames, waits until it has served one
-/// more, or for a while.
-pub(crate) fn rest_program<A: Allocator, R: Wait>(
-    rt: &R,
-    shared: &Shared<A>,
-    bells: &Bells,
+/// more, or has something to do on the wire, or for a while. It says whether anything came.
+pub(crate) fn rest_program<T: Seat, A: Allocator + Copy, R: Wait, G: Turnstile>(
+    wire: &Wire<'_, '_, '_, '_, T, A, R, G>,
     patience: &mut Patience,
     served: u64,
-) {
-    let found = serves(patience.looks, shared, bells, served);
+) -> bool {
+    let found = comes_for_program(wire, patience.looks, served);
     patience.learn(found);
     if found {
-        return;
+        return true;
     }
-    lie_down(&bells.program);
-    if serves(1, shared, bells, served) {
-        get_up(&bells.program);
-    } else {
-        sleep(rt, &bells.program, PROGRAM_NAP);
+    let bell = &wire.bells.program;
+    lie_down(bell);
+    if comes_for_program(wire, 1, served) {
+        get_up(bell);
+        return true;
     }
+    sleep(wire.rt, bell, PROGRAM_NAP)
 }
 
 /// What a wire worker knows of what there is to do for it.
 #[derive(Drop)]
 pub(crate) struct Watch {
-    node: u8,
     /// So many turns it still makes while nothing is on the ether, so that pulses are made.
     turns: u64,
     /// It has pulsed for so many losses.
@@ -109,32 +114,22 @@ pub(crate) struct Watch {
     /// So many frames the node has served since its program worker was woken.
     unheard: u32,
     patience: Patience,
-    /// How often anything had been noted of the frames on the ether before its last turn, if that found none.
-    empty_at: Option<u64>,
 }
 
 impl Watch {
-    /// Of this node's wire worker, which has made no turn yet.
-    pub(crate) fn new(node: u8, most_looks: u32) -> Watch {
+    /// Of a wire worker that has made no turn yet.
+    pub(crate) fn new(most_looks: u32) -> Watch {
         Watch {
-            node,
             turns: 0,
             losses: 0,
             naps: 0,
             unheard: 0,
             patience: Patience::new(most_looks),
-            empty_at: None,
         }
     }
 
-    /// It has made a turn, before which so much had been noted of the frames on the ether.
-    pub(crate) fn note<A: Allocator>(
-        &mut self,
-        shared: &Shared<A>,
-        traffic: Traffic,
-        changes: u64,
-    ) {
-        self.empty_at = None;
+    /// It has made a turn.
+    pub(crate) fn note<A: Allocator>(&mut self, shared: &Shared<A>, traffic: Traffic) {
         match traffic {
             Traffic::Lost => self.turns = shared.round(),
             Traffic::Taken { served } => {
@@ -143,37 +138,32 @@ impl Watch {
                     self.unheard = self.unheard.saturating_add(1);
                 }
             }
-            Traffic::Nothing => {
-                self.turns = self.turns.saturating_sub(1);
-                self.empty_at = Some(changes);
-            }
+            Traffic::Nothing => self.turns = self.turns.saturating_sub(1),
             Traffic::Sent { .. } | Traffic::Returned { .. } | Traffic::Dropped => {}
         }
     }
 
-    /// Whether there is something to do: a frame to put for which there is a place, or the first frame to take, unless
-    /// another worker has it in hand, or to put back, where its node can't take it. Where nobody can take anything a
-    /// frame has to be lost. While nothing is on the ether, it is the turns that bring the next pulses.
-    fn is_due<A: Allocator>(&self, shared: &Shared<A>, bells: &Bells) -> bool {
-        if shared.is_over() || shared.losses() != self.losses {
+    /// Whether there is something to do: a frame to put or to take, unless the program worker does so. Where nobody can
+    /// take anything a frame has to be lost. While nothing is on the ether, it is the turns that bring the next pulses.
+    fn is_due<T: Seat, A: Allocator + Copy, R: Wait, G: Turnstile>(
+        &self,
+        wire: &Wire<'_, '_, '_, '_, T, A, R, G>,
+    ) -> bool {
+        let (shared, bells) = (wire.shared, wire.bells);
+        if shared.is_over() || shared.losses() != self.losses || bells.has_lost() {
             return true;
         }
-        let first = shared.line().first();
-        if bells.waiting().is_some() {
-            return shared.has_place(self.node)
-                || (first == Some(self.node) && shared.turner().is_none());
-        }
-        match first {
-            None => self.turns > 0,
-            Some(node) if node == self.node => self.empty_at != Some(shared.line().changes()),
-            Some(_) => shared.turner() == Some(self.node),
-        }
+        let pulses = self.turns > 0 && bells.waiting().is_none() && shared.line().first().is_none();
+        pulses || (!bells.is_polled() && wire.has_traffic())
     }
 
     /// Looks for a while whether there is something to do.
-    fn comes<A: Allocator>(&self, shared: &Shared<A>, bells: &Bells) -> bool {
+    fn comes<T: Seat, A: Allocator + Copy, R: Wait, G: Turnstile>(
+        &self,
+        wire: &Wire<'_, '_, '_, '_, T, A, R, G>,
+    ) -> bool {
         for _ in 0..self.patience.looks {
-            if self.is_due(shared, bells) {
+            if self.is_due(wire) {
                 return true;
             }
             spin_loop();
@@ -184,33 +174,37 @@ impl Watch {
     /// Waits until there is something to do, or for a while. The program worker is woken before, once for what was
     /// served since. Where a frame was lost a round of pulses is what there is to do, and a pulse where nobody has woken
     /// it for a while.
-    pub(crate) fn rest<A: Allocator, R: Wait>(
+    pub(crate) fn rest<T: Seat, A: Allocator + Copy, R: Wait, G: Turnstile>(
         &mut self,
-        rt: &R,
-        shared: &Shared<A>,
-        bells: &Bells,
+        wire: &Wire<'_, '_, '_, '_, T, A, R, G>,
     ) {
-        if shared.losses() != self.losses {
+        let shared = wire.shared;
+        let lost = shared.losses() != self.losses;
+        if wire.bells.take_lost() || lost {
             self.losses = shared.losses();
             self.turns = shared.round();
         }
-        let is_due = self.is_due(shared, bells);
+        let is_due = self.is_due(wire);
         if self.unheard > MOST_UNHEARD || (self.unheard > 0 && !is_due) {
             self.unheard = 0;
-            ring(&bells.program);
+            ring(&wire.bells.program);
         }
         if is_due {
             return;
         }
-        let found = self.comes(shared, bells);
+        let found = self.comes(wire);
         self.patience.learn(found);
         if !found {
-            self.sleep(rt, shared, bells);
+            self.sleep(wire);
         }
     }
 
     /// Sleeps until there is something to do, or for a while in which nobody wakes it.
-    fn sleep<A: Allocator, R: Wait>(&mut self, rt: &R, shared: &Shared<A>, bells: &Bells) {
+    fn sleep<T: Seat, A: Allocator + Copy, R: Wait, G: Turnstile>(
+        &mut self,
+        wire: &Wire<'_, '_, '_, '_, T, A, R, G>,
+    ) {
+        let (rt, shared, bells) = (wire.rt, wire.shared, wire.bells);
         let has_lost = self.turns > shared.nap_round();
         let most = if has_lost || bells.waiting().is_some() {
             SHORT_NAP
@@ -219,14 +213,14 @@ impl Watch {
         };
         for _ in rt.forever() {
             lie_down(&bells.wire);
-            if self.is_due(shared, bells) {
+            if self.is_due(wire) {
                 get_up(&bells.wire);
                 return;
             }
             if !sleep(rt, &bells.wire, most) {
                 break;
             }
-            if self.is_due(shared, bells) {
+            if self.is_due(wire) {
                 return;
             }
         }

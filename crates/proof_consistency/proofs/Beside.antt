@@ -1,14 +1,12 @@
 -- Calls that are made along with one: their words, and that the program makes them.
-use Rattle.std.proofs.Common.{◌≡◌, ◌⊎◌, inl, inr, ◌+◌, ◌^◌, nat_lt, ℕ, Bool, true, false, ◌&&◌, not, ◌||◌, ◌==◌, List, [], ◌∷◌, length, Option, Some, None, refl, ap, sym, ◌∙◌, subst, if◌then◌else◌}
+use Rattle.std.proofs.Common.{◌≡◌, ◌⊎◌, inl, inr, ◌+◌, ◌^◌, nat_lt, ℕ, Bool, true, false, ◌&&◌, not, ◌||◌, ◌==◌, List, [], ◌∷◌, length, Option, Some, None, refl, ap, ◌∙◌, if◌then◌else◌}
 use Rattle.std.proofs.lemmas.Bool.{and_parts, eqb-true}
 use Rattle.ivy_model.specs.declared.Config.{Config}
 use Rattle.ivy_model.specs.declared.Call.{Call}
 use Rattle.ivy_model.specs.declared.Reply.{Reply}
-use Rattle.ivy_pagetable.specs.declared.Out.{Out}
 use Rattle.ivy_pagetable.specs.declared.Word.{Word}
-use Rattle.ivy_pagetable.specs.TableState.{Table}
 use Rattle.ivy_pagetable.specs.Words.{needs_write}
-use Rattle.ivy_program.specs.Steps.{Process, Asks, step_of, answered_with, along_of, AsksRow}
+use Rattle.ivy_program.specs.Steps.{Process, answered_with, AsksRow}
 use Rattle.proof_refinement.specs.ivy_coherence.Coherent.{Coherent}
 use Rattle.proof_refinement.specs.ivy_coherence.PageFaults.{along}
 use Rattle.proof_refinement.specs.ivy_memory.declared.Asked.{Asked}

@@ -10,7 +10,6 @@ use Rattle.ivy_model.specs.Memory as model
 use Rattle.ivy_model.specs.Legal.{ServesAll}
 use Rattle.ivy_model.specs.Explains.{part, Answered, IsOwed, IsExplained}
 use Rattle.ivy_model.proofs.Parts.{part-append, leads-append}
-use Rattle.ivy_wire.specs.Data.{Message}
 use Rattle.ivy_pagetable.specs.Manager.{Ops}
 use Rattle.proof_refinement.specs.ivy_alloc.Heap.{HeapState}
 use Rattle.ivy_program.specs.Programs.{Program}

@@ -1,5 +1,5 @@
 -- What is owed of a node is nothing, or a record of each of its calls in progress.
-use Rattle.std.proofs.Common.{◌≡◌, ◌⊎◌, inl, inr, ℕ, List, [], ◌∷◌, ◌++◌, map, Option, Some, None, refl, ap, sym, ◌∙◌, subst}
+use Rattle.std.proofs.Common.{◌≡◌, ◌⊎◌, inl, inr, ℕ, List, [], ◌∷◌, ◌++◌, map, Option, Some, None, refl, ap, sym, ◌∙◌}
 use Rattle.std.proofs.lemmas.Option.{none-some}
 use Rattle.ivy_model.specs.declared.Config.{Config}
 use Rattle.ivy_model.specs.declared.Call.{Call}
@@ -9,10 +9,10 @@ use Rattle.ivy_wire.specs.Data.{Message}
 use Rattle.ivy_pagetable.specs.declared.Out.{Out}
 use Rattle.ivy_pagetable.specs.Manager.{Ops}
 use Rattle.proof_refinement.specs.ivy_heap.declared.HeapRequest.{HeapRequest}
-use Rattle.proof_refinement.specs.ivy_memory.Memories.{in_progress, reply_of, reply_there}
+use Rattle.proof_refinement.specs.ivy_memory.Memories.{in_progress, reply_there}
 use Rattle.proof_refinement.specs.ivy_host.Hosts.{Host, number_of}
 use Rattle.proof_refinement.specs.ivy_host.Sound.{IsSoundHost}
-use Rattle.proof_consistency.proofs.Owing.{owed, reply_owed, owed_along, owed_then, along_owed, pending, IsReply, HaveReplies, then-alone, none_pending, owed-unasked, owed-untold, IsRunning}
+use Rattle.proof_consistency.proofs.Owing.{owed, reply_owed, owed_along, owed_then, along_owed, pending, IsReply, HaveReplies, then-alone, IsRunning}
 
 abbrev calls : List Record → List Call
 calls rs = map (λ r. r.call) rs

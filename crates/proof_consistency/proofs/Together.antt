@@ -1,5 +1,5 @@
 -- Records that stand next to one another in an order still do when the order grows at its end.
-use Rattle.std.proofs.Common.{◌≡◌, List, [], ◌++◌, refl, ap, sym, ◌∙◌}
+use Rattle.std.proofs.Common.{List, [], ◌++◌, refl, ap, sym, ◌∙◌}
 use Rattle.std.proofs.lemmas.List.{append-nil, append_assoc}
 use Rattle.ivy_model.specs.declared.Record.{Record}
 use Rattle.ivy_moves.specs.Explained.{StandTogether}

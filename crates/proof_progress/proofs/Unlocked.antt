@@ -22,7 +22,7 @@ use Rattle.proof_routing.specs.proof_transitions.Letters.{Letter, Net, Place, Un
 use Rattle.proof_routing.specs.proof_transitions.Orderly.{AwaitsCopy, AwaitsPage, Collects, CanWait, reads, comes, At, IsOrderly}
 use Rattle.proof_routing.proofs.of_proof_transitions.Needs.{page_of}
 use Rattle.proof_routing.specs.Descending.{IsAsked, GoDown}
-use Rattle.proof_routing.specs.Sending.{IsPosted, IsSent, HasPage, owns}
+use Rattle.proof_routing.specs.Sending.{IsPosted, HasPage, owns}
 use Rattle.proof_routing.specs.Sending as sending
 use Rattle.proof_routing.specs.Waiting.{IsAwaited, IsReadPending, asks_copy, gets_copy, IsWritePending, asks_page, gets_page, IsRecallPending, ordered, gave_up}
 use Rattle.proof_progress.proofs.Shares.{HasShare, has, gave, IsOccupied, HasAccurateCopySets}

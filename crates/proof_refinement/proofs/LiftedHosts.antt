@@ -4,7 +4,6 @@ use Rattle.ivy_model.specs.declared.Config.{Config}
 use Rattle.ivy_wire.specs.Data.{Parcel}
 use Rattle.ivy_wire.specs.Posts.{parcel_to}
 use Rattle.ivy_pagetable.specs.Manager.{Ops, Laws}
-use Rattle.proof_transitions.specs.ivy_coherence.Coherent.{Coherent}
 use Rattle.proof_transitions.specs.ivy_coherence.Steps.{handled}
 use Rattle.ivy_moves.specs.Cores.{Outcome}
 use Rattle.ivy_moves.specs.FifoWorld.{FifoWorld, Turns, Delivers, Steps, rests, turns, delivers}

@@ -2,7 +2,7 @@ use Rattle.std.proofs.Common.{rules, ◌≡◌, Some, slice_get, sym, ap, subst,
 use Rattle.ivy_model.specs.declared.Config.{Config}
 use Rattle.ivy_model.specs.Config.{IsConfig}
 use Rattle.ivy_ether.specs.Held.{Held}
-use Rattle.ivy_ether.specs.Views.{View, newcomer, with_seat}
+use Rattle.ivy_ether.specs.Views.{newcomer, with_seat}
 use Rattle.ivy_site.specs.SiteView.{SiteView}
 use Rattle.ivy_site.specs.Sites.{first_keeping}
 use Rattle.ivy_seating.proofs.seating.seat_one.Goals as goal
