@@ -119,24 +119,22 @@ pub record IsCall (h : H) (k : Call) (a : CallBegun Managed) : Type 0 where
 -- the number of a call, as the code has it
 pub record IsNumbered (h : H) (number : ℕ) : Type 0 where
   pub is : number ≡ length h.history + 1
-  pub below : number < 2 ^ 64
+  pub below : length h.history + 1 < 2 ^ 64
 
 pub begin_call : (h : H) (k : Call) (number : ℕ) → IsNumbered h number → h.memory.asked ≡ None
     → step_of h.process ≡ Asks k → IsCall h k (call_begun managed_ops h.memory k (along_of h.process) number)
 unfolding turn_of
-begin_call h k number n idle asks =
-    let below : length h.history + 1 < 2 ^ 64 = subst (λ m. m < 2 ^ 64) n.is n.below in
-    record {
-      turn = ap (turned_at managed_ops h) idle
-          ∙ ap (steps managed_ops h) asks
-          ∙ ap (λ b. if b
-          then begins_as h k
-          (call_begun managed_ops h.memory k (along_of h.process) (length h.history + 1))
-          else None) (lt-ltb (length h.history + 1) (2 ^ 64) below)
-          ∙ ap (λ m. begins_as h k (call_begun managed_ops h.memory k (along_of h.process) m))
-          (sym n.is);
-      nothing = unserved_is h.memory k (along_of h.process) number;
-    }
+begin_call h k number n idle asks = record {
+  turn = ap (turned_at managed_ops h) idle
+      ∙ ap (steps managed_ops h) asks
+      ∙ ap (λ b. if b
+      then begins_as h k
+      (call_begun managed_ops h.memory k (along_of h.process) (length h.history + 1))
+      else None) (lt-ltb (length h.history + 1) (2 ^ 64) n.below)
+      ∙ ap (λ m. begins_as h k (call_begun managed_ops h.memory k (along_of h.process) m))
+      (sym n.is);
+  nothing = unserved_is h.memory k (along_of h.process) number;
+}
 
 -- where no call is made along with it, the memory has it begin alone
 pub begin_alone : (h : H) (k : Call) (number : ℕ) → IsNumbered h number → h.memory.asked ≡ None

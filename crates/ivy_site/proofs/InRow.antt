@@ -5,8 +5,8 @@ use Rattle.ivy_model.specs.declared.Record.{Record}
 use Rattle.ivy_model.specs.declared.Row.{Row}
 use Rattle.ivy_model.specs.declared.Row.TheVariants.{Loads, Stores}
 use Rattle.ivy_model.specs.Legal.{HasWidth}
-use Rattle.ivy_model.specs.Rows.{calls_of, record_in, row}
-use Rattle.ivy_model.proofs.Rows.{calls-of-row, length-row}
+use Rattle.ivy_model.specs.Rows.{calls_of, numbers_in, record_in, row}
+use Rattle.ivy_model.proofs.Rows.{calls-of-row, length-numbers_in, length-row}
 use Rattle.ivy_host.specs.Managers.{Managed, managed_ops}
 use Rattle.ivy_host.specs.ivy_heap.declared.Answer.TheVariants.{Given}
 use Rattle.ivy_host.specs.ivy_memory.AtOnce.{AnswerAtOnce}
@@ -79,20 +79,17 @@ module _ (keep : Keep) (m mid : NodeMemory Managed) (rows : List (List Call)) (h
   pub once_answered : BeginsCall r.call (Some r.reply) before later
   once_answered = record {
     turns = called_turn (site_handed ((r.call ∷ []) ∷ []) before) (site_handed ((r.call ∷ []) ∷ []) before) refl
-        (process_handed ((r.call ∷ []) ∷ []) (asking rows None)) history
-        (host_of mid (asking (rows ++ (r.call ∷ []) ∷ []) None) (history ++ r ∷ [])) box events
-        (events ++ Turn ∷ []) (record { process = refl; history = refl }) turn refl refl;
+        asks (host_of mid (asking (rows ++ (r.call ∷ []) ∷ []) None) (history ++ r ∷ [])) box events
+        (events ++ Turn ∷ []) refl turn refl refl;
     recorded = ap (λ (i : ℕ). history ++ record { node = i; call = r.call; reply = r.reply } ∷ [])
         (mine ∙ sym site.me);
   }
 
   pub once_site : IsSite later
   once_site =
-      called_site (site_handed ((r.call ∷ []) ∷ []) before)
-      (process_handed ((r.call ∷ []) ∷ []) (asking rows None)) history
+      called_site (site_handed ((r.call ∷ []) ∷ []) before) asks
       (host_of mid (asking (rows ++ (r.call ∷ []) ∷ []) None) (history ++ r ∷ [])) box events
-      (events ++ Turn ∷ []) (handed_site ((r.call ∷ []) ∷ []) before site free)
-      (record { process = refl; history = refl }) turn refl refl
+      (events ++ Turn ∷ []) (handed_site ((r.call ∷ []) ∷ []) before site free) refl turn refl refl
 
 -- a word of a row
 pub record-node : (kind : Row) (node addr number : ℕ) → (record_in kind node addr number).node ≡ node
@@ -177,17 +174,21 @@ row_at kind (number ∷ more) addr keep m new rows history box events site idle 
 
 -- as the code has it
 pub row_made : (kind : Row) (n v : SiteView) → v ≡ n → IsSite v → Rests v.node.core.process
-    → v.node.core.memory.asked ≡ None → (numbers : List ℕ) (addr : ℕ)
-    → length v.node.core.history + length numbers < 2 ^ 64
-    → (m : NodeMemory Managed)
-    → AnswerAtOnce managed_ops (row kind v.me addr numbers) v.node.core.memory m
-    → (p : Process)
+    → v.node.core.memory.asked ≡ None → (words : ℕ) (bytes : List ℕ) (addr : ℕ)
+    → length v.node.core.history + words < 2 ^ 64 → (m : NodeMemory Managed)
+    → AnswerAtOnce managed_ops (row kind v.me addr (numbers_in words bytes)) v.node.core.memory m
+    → (h : Host Managed) → h.memory ≡ m
     → ((rows : List (List Call)) → v.node.core.process ≡ asking rows None
-    → p ≡ asking (rows ++ one_by_one (calls_of (row kind 0 addr numbers))) None)
-    → (history : List Record) → history ≡ v.node.core.history ++ row kind v.me addr numbers
-    → (events : List Mark) → events ≡ v.events ++ turns (length numbers)
-    → IsAfterRow kind numbers addr n (shown_of v.keep (host_of m p history) (box_of v) events)
-row_made kind n v same site rests idle numbers addr room m hits p goes history kept events listed =
+    → h.process
+    ≡ asking (rows ++ one_by_one (calls_of (row kind 0 addr (numbers_in words bytes)))) None)
+    → (i : ℕ) → i ≡ v.me
+    → h.history ≡ v.node.core.history ++ row kind i addr (numbers_in words bytes)
+    → (events : List Mark) → events ≡ v.events ++ turns words
+    → IsAfterRow kind (numbers_in words bytes) addr n (shown_of v.keep h (box_of v) events)
+row_made kind n v same site rests idle words bytes addr room m hits h next goes i mine kept events
+    listed =
+    let numbers : List ℕ = numbers_in words bytes in
+    let many : length numbers ≡ words = length-numbers_in words bytes in
     let rows : List (List Call) = rests.0 in
     let rs : List Record = row kind v.me addr numbers in
     let is : v ≡ at v.keep v.node.core.memory rows v.node.core.history (box_of v) v.events =
@@ -195,20 +196,18 @@ row_made kind n v same site rests idle numbers addr room m hits p goes history k
     shown_of v.keep (host_of v.node.core.memory q v.node.core.history) (box_of v) v.events)
     rests.1 in
     let made = row_at kind numbers addr v.keep v.node.core.memory m rows v.node.core.history
-    (box_of v) v.events (subst IsSite is site) idle room hits in
-    let program : p ≡ asking (rows ++ one_by_one (calls_of rs)) None =
+    (box_of v) v.events (subst IsSite is site) idle (omega (arith, room, many)) hits in
+    let program : h.process ≡ asking (rows ++ one_by_one (calls_of rs)) None =
     goes rows rests.1
     ∙ ap (λ (ks : List Call). asking (rows ++ one_by_one ks) None) (calls-of-row kind 0 v.me addr numbers) in
-    let to : after v.keep m rows v.node.core.history (box_of v) v.events rs
-    ≡ shown_of v.keep (host_of m p history) (box_of v) events =
-    ap (λ (q : Process). shown_of v.keep (host_of m q (v.node.core.history ++ rs)) (box_of v)
-    (v.events ++ turns (length rs))) (sym program)
-    ∙ ap (λ (hs : List Record). shown_of v.keep (host_of m p hs) (box_of v)
-    (v.events ++ turns (length rs))) (sym kept)
-    ∙ ap (λ (k : ℕ). shown_of v.keep (host_of m p history) (box_of v) (v.events ++ turns k))
-    (length-row kind v.me addr numbers)
-    ∙ ap (λ (es : List Mark). shown_of v.keep (host_of m p history) (box_of v) es) (sym listed) in
-    subst (λ (o : SiteView). IsAfterRow kind numbers addr o
-    (shown_of v.keep (host_of m p history) (box_of v) events)) (sym is ∙ same)
+    let history : h.history ≡ v.node.core.history ++ rs =
+    kept ∙ ap (λ (j : ℕ). v.node.core.history ++ row kind j addr numbers) mine in
+    let marks : events ≡ v.events ++ turns (length rs) =
+    listed ∙ ap (λ (j : ℕ). v.events ++ turns j) (sym (length-row kind v.me addr numbers ∙ many)) in
+    let to : shown_of v.keep h (box_of v) events
+    ≡ after v.keep m rows v.node.core.history (box_of v) v.events rs =
+    (λ k. shown_of v.keep (host_of (next k) (program k) (history k)) (box_of v) (marks k)) in
+    subst (λ (o : SiteView). IsAfterRow kind numbers addr o (shown_of v.keep h (box_of v) events))
+    (sym is ∙ same)
     (subst (λ (x : SiteView). IsAfterRow kind numbers addr
-    (at v.keep v.node.core.memory rows v.node.core.history (box_of v) v.events) x) to made)
+    (at v.keep v.node.core.memory rows v.node.core.history (box_of v) v.events) x) (sym to) made)

@@ -5,8 +5,9 @@ use Rattle.ivy_model.specs.declared.Call.{Call}
 use Rattle.ivy_model.specs.declared.Record.{Record}
 use Rattle.ivy_model.specs.declared.Reply.{Reply}
 use Rattle.ivy_model.specs.declared.Row.{Row}
-use Rattle.ivy_model.specs.Rows.{calls_of, record_in, row}
-use Rattle.ivy_model.proofs.Rows.{length-row}
+use Rattle.ivy_model.specs.Rows.{calls_of, numbers_in, record_in, row}
+use Rattle.ivy_model.proofs.Rows.{length-numbers_in, length-row}
+use Rattle.ivy_host.specs.Hosts.{Host}
 use Rattle.ivy_host.specs.Managers.{Managed, managed_ops}
 use Rattle.ivy_host.specs.ivy_heap.declared.Answer.TheVariants.{Given}
 use Rattle.ivy_host.specs.ivy_memory.Memories.{NodeMemory, CallBegun, polled}
@@ -64,16 +65,17 @@ module _ (keep : Keep) (m mid : NodeMemory Managed) (p : Process) (history : Lis
   once_taken : IsTaken r before later
   once_taken = record {
     asked = asked;
-    turns = called_turn before before refl p history
+    turns = called_turn before before refl (host_of m p history)
         (host_of mid (answered_with p r.reply) (history ++ r ∷ [])) box events (events ++ Turn ∷ [])
-        (record { process = refl; history = refl }) turn refl refl;
+        refl turn refl refl;
     recorded = refl;
   }
 
   once_site : IsSite later
   once_site =
-      called_site before p history (host_of mid (answered_with p r.reply) (history ++ r ∷ [])) box
-      events (events ++ Turn ∷ []) site (record { process = refl; history = refl }) turn refl refl
+      called_site before (host_of m p history)
+      (host_of mid (answered_with p r.reply) (history ++ r ∷ [])) box
+      events (events ++ Turn ∷ []) site refl turn refl refl
 
 -- the site once these replies were taken, and its memory is this
 abbrev after : Keep → NodeMemory Managed → Process → List Record → Outbox → List Mark
@@ -174,38 +176,40 @@ module _ (new : NodeMemory Managed) where
       )
 
 -- as the code has it
-pub row_asks : (kind : Row) (v : SiteView) → IsSite v → (numbers : List ℕ) (addr : ℕ)
+pub row_asks : (kind : Row) (v : SiteView) → IsSite v → (words : ℕ) (bytes : List ℕ) (addr : ℕ)
     → (m : NodeMemory Managed)
-    → TakesRecords managed_ops (row kind v.me addr numbers) v.node.core.memory m
-    → AsksMany v.node.core.process (length numbers)
-row_asks kind v site numbers addr m is =
-    subst (AsksMany v.node.core.process) (length-row kind v.me addr numbers)
+    → TakesRecords managed_ops (row kind v.me addr (numbers_in words bytes)) v.node.core.memory m
+    → AsksMany v.node.core.process words
+row_asks kind v site words bytes addr m is =
+    let numbers : List ℕ = numbers_in words bytes in
+    subst (AsksMany v.node.core.process)
+    (length-row kind v.me addr numbers ∙ length-numbers_in words bytes)
     (asks_taken m (row kind v.me addr numbers) v.node.core.memory v.node.core.process site.asking is)
 
-pub row_taken : (kind : Row) (n v : SiteView) → v ≡ n → IsSite v → (numbers : List ℕ) (addr : ℕ)
-    → (m : NodeMemory Managed)
-    → TakesRecords managed_ops (row kind v.me addr numbers) v.node.core.memory m
-    → (p : Process)
-    → ((replies : List Reply) → length replies ≡ length numbers
-    → p ≡ answered_all v.node.core.process replies)
-    → (history : List Record) → history ≡ v.node.core.history ++ row kind v.me addr numbers
-    → (events : List Mark) → events ≡ v.events ++ turns (length numbers)
-    → IsAfterTaking kind numbers addr n (shown_of v.keep (host_of m p history) (box_of v) events)
-row_taken kind n v same site numbers addr m is p goes history kept events listed =
+pub row_taken : (kind : Row) (n v : SiteView) → v ≡ n → IsSite v → (words : ℕ) (bytes : List ℕ)
+    (addr : ℕ) → (m : NodeMemory Managed)
+    → TakesRecords managed_ops (row kind v.me addr (numbers_in words bytes)) v.node.core.memory m
+    → (h : Host Managed) → h.memory ≡ m
+    → ((replies : List Reply) → length replies ≡ words
+    → h.process ≡ answered_all v.node.core.process replies)
+    → (i : ℕ) → i ≡ v.me
+    → h.history ≡ v.node.core.history ++ row kind i addr (numbers_in words bytes)
+    → (events : List Mark) → events ≡ v.events ++ turns words
+    → IsAfterTaking kind (numbers_in words bytes) addr n (shown_of v.keep h (box_of v) events)
+row_taken kind n v same site words bytes addr m is h next goes i mine kept events listed =
+    let numbers : List ℕ = numbers_in words bytes in
     let rs : List Record = row kind v.me addr numbers in
-    let long : length rs ≡ length numbers = length-row kind v.me addr numbers in
+    let long : length rs ≡ words = length-row kind v.me addr numbers ∙ length-numbers_in words bytes in
     let made = taking_at kind numbers addr v.keep v.node.core.memory m v.node.core.process
     v.node.core.history (box_of v) v.events site is in
-    let program : p ≡ answered_all v.node.core.process (replies_of rs) =
+    let program : h.process ≡ answered_all v.node.core.process (replies_of rs) =
     goes (replies_of rs) (length-map rs (λ (r : Record). r.reply) ∙ long) in
-    let to : after v.keep m v.node.core.process v.node.core.history (box_of v) v.events rs
-    ≡ shown_of v.keep (host_of m p history) (box_of v) events =
-    ap (λ (q : Process). shown_of v.keep (host_of m q (v.node.core.history ++ rs)) (box_of v)
-    (v.events ++ turns (length rs))) (sym program)
-    ∙ ap (λ (hs : List Record). shown_of v.keep (host_of m p hs) (box_of v)
-    (v.events ++ turns (length rs))) (sym kept)
-    ∙ ap (λ (k : ℕ). shown_of v.keep (host_of m p history) (box_of v) (v.events ++ turns k)) long
-    ∙ ap (λ (es : List Mark). shown_of v.keep (host_of m p history) (box_of v) es) (sym listed) in
-    subst (λ (o : SiteView). IsAfterTaking kind numbers addr o
-    (shown_of v.keep (host_of m p history) (box_of v) events)) same
-    (subst (λ (x : SiteView). IsAfterTaking kind numbers addr v x) to made)
+    let history : h.history ≡ v.node.core.history ++ rs =
+    kept ∙ ap (λ (j : ℕ). v.node.core.history ++ row kind j addr numbers) mine in
+    let marks : events ≡ v.events ++ turns (length rs) =
+    listed ∙ ap (λ (j : ℕ). v.events ++ turns j) (sym long) in
+    let to : shown_of v.keep h (box_of v) events
+    ≡ after v.keep m v.node.core.process v.node.core.history (box_of v) v.events rs =
+    (λ k. shown_of v.keep (host_of (next k) (program k) (history k)) (box_of v) (marks k)) in
+    subst (λ (o : SiteView). IsAfterTaking kind numbers addr o (shown_of v.keep h (box_of v) events))
+    same (subst (λ (x : SiteView). IsAfterTaking kind numbers addr v x) (sym to) made)

@@ -3,21 +3,19 @@ use Rattle.std.proofs.Common.{◌≡◌, ℕ, zero, suc, ◌+◌, ◌-◌, ◌%�
 use Rattle.std.specs.Prelude.{All}
 use Rattle.ivy_model.specs.declared.Call.{Call}
 use Rattle.ivy_model.specs.declared.Config.{Config}
-use Rattle.ivy_model.specs.declared.Record.{Record}
 use Rattle.ivy_model.specs.declared.Row.{Row}
 use Rattle.ivy_model.specs.Legal.{HasWidth}
 use Rattle.ivy_model.specs.Rows.{calls_of, numbers_in, row}
 use Rattle.ivy_host.specs.Managers.{Managed, managed_ops}
+use Rattle.ivy_host.specs.Handing.{handing}
 use Rattle.ivy_host.specs.Hosts.{Host}
-use Rattle.ivy_host.specs.ivy_memory.Memories.{NodeMemory, call_begun, in_progress}
+use Rattle.ivy_host.specs.ivy_memory.Memories.{call_begun, in_progress}
 use Rattle.ivy_host.specs.ivy_memory.Rows.{first_call, other_calls, row_begun, row_has_to_wait}
-use Rattle.ivy_program.specs.Owned.{Rests, process_handed}
-use Rattle.ivy_program.specs.Steps.{Process}
+use Rattle.ivy_program.specs.Owned.{Rests}
 use Rattle.ivy_program.proofs.Awaited.{row_wide, together_asks, together_along}
 use Rattle.ivy_pagetable.specs.Rows.{row_len}
 use Rattle.ivy_site.specs.Calls.{BeginsRow, row_together}
 use Rattle.ivy_site.specs.Handed.{site_handed}
-use Rattle.ivy_site.specs.Inside.{host_of}
 use Rattle.ivy_site.specs.SiteView.{SiteView}
 use Rattle.ivy_site.specs.Sites.{SiteTurns}
 use Rattle.ivy_site.proofs.Calling.{IsCall, IsNumbered, begin_call}
@@ -32,29 +30,28 @@ row_split kind addr (suc n) bytes some =
     ∷ calls_of (row kind 0 (addr + 8) (numbers_in k (drop 8 bytes))))
     (let e : n ≡ suc n - 1 = omega arith in e)
 
-module _ (m : NodeMemory Managed) (p : Process) (history : List Record) (rests : Rests p)
-    (idle : m.asked ≡ None) where
+module _ (h : Host Managed) (rests : Rests h.process) (idle : h.memory.asked ≡ None) where
   -- these calls are made together
   abbrev made : List Call → Host Managed
-  made calls = host_of m (process_handed (calls ∷ []) p) history
+  made calls = handing (calls ∷ []) h
 
   together : (k : Call) (others : List Call) (number : ℕ) → All HasWidth (k ∷ others)
       → IsNumbered (made (k ∷ others)) number
-      → IsCall (made (k ∷ others)) k (call_begun managed_ops m k others number)
+      → IsCall (made (k ∷ others)) k (call_begun managed_ops h.memory k others number)
   together k others number wide n =
-      subst (λ (ks : List Call). IsCall (made (k ∷ others)) k (call_begun managed_ops m k ks number))
-      (together_along p rests k others wide)
-      (begin_call (made (k ∷ others)) k number n idle (together_asks p rests k others wide))
+      subst (λ (ks : List Call). IsCall (made (k ∷ others)) k (call_begun managed_ops h.memory k ks number))
+      (together_along h.process rests k others wide)
+      (begin_call (made (k ∷ others)) k number n idle (together_asks h.process rests k others wide))
 
   -- those of a row
   pub row_begins : (kind : Row) (addr words : ℕ) (bytes : List ℕ) (number : ℕ) → 1 ≤ words
       → IsNumbered (made (calls_of (row kind 0 addr (numbers_in words bytes)))) number
       → IsCall (made (calls_of (row kind 0 addr (numbers_in words bytes)))) (first_call kind addr bytes)
-      (row_begun managed_ops m kind addr words bytes number)
+      (row_begun managed_ops h.memory kind addr words bytes number)
   row_begins kind addr words bytes number some n =
       let split = row_split kind addr words bytes some in
       subst (λ (ks : List Call). IsCall (made ks) (first_call kind addr bytes)
-      (row_begun managed_ops m kind addr words bytes number)) (sym split)
+      (row_begun managed_ops h.memory kind addr words bytes number)) (sym split)
       (together (first_call kind addr bytes) (other_calls kind addr words bytes) number
       (subst (All HasWidth) split (row_wide kind 0 addr (numbers_in words bytes)))
       (record { is = n.is; below = n.below }))

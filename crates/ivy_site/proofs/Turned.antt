@@ -87,36 +87,24 @@ local_turn n v same x p hs events idle steps is history listed =
     subst (λ y. SiteTurns n (with_core v y events)) (sym so)
     (moved_quietly n v same h events (turn_steps v.node.core (Local p.state) idle s.0) listed)
 
--- the program and the history are as they were, as the code has them
-pub record IsAtRest (v : SiteView) (p : Process) (hs : List Record) : Type 0 where
-  pub process : p ≡ v.node.core.process
-  pub history : hs ≡ v.node.core.history
-
 -- a program that makes a call does not go on yet
-pub makes_call : (q : Process) (c : Call) (x : Next) (p : Process) → TellsStep x q p
-    → x ≡ next.Call c → p ≡ q
-makes_call q c x p steps is =
-    let s : TellsStep (next.Call c) q p = subst (λ y. TellsStep y q p) is steps in s.1
+pub makes_call : (h : H) (c : Call) (x : Next) (p : Process) (hs : List Record)
+    → TellsStep x h.process p → x ≡ next.Call c → hs ≡ h.history → host_of h.memory p hs ≡ h
+makes_call h c x p hs steps is history =
+    let s : TellsStep (next.Call c) h.process p = subst (λ y. TellsStep y h.process p) is steps in
+    (λ j. host_of h.memory (s.1 j) (history j))
 
-resting_host : (v : SiteView) (p : Process) (hs : List Record) → IsAtRest v p hs
-    → host_of v.node.core.memory p hs ≡ v.node.core
-resting_host v p hs k =
-    hosts v.node.core.memory v.node.core.memory p v.node.core.process hs v.node.core.history refl
-    k.process k.history
+-- `k` is the host as the code has it then
+pub spent_turn : (n v : SiteView) → v ≡ n → (k : H) (f : Fault) → k ≡ v.node.core
+    → HasNoNumbers k (box_of v) f → IsSpentTurn n f
+spent_turn n v same k f rests cannot =
+    spent_call n v same f (subst (λ h. HasNoNumbers h (box_of v) f) rests cannot)
 
-pub spent_turn : (n v : SiteView) → v ≡ n → (p : Process) (hs : List Record) (f : Fault)
-    → IsAtRest v p hs → HasNoNumbers (host_of v.node.core.memory p hs) (box_of v) f
-    → IsSpentTurn n f
-spent_turn n v same p hs f k cannot =
-    spent_call n v same f (subst (λ h. HasNoNumbers h (box_of v) f) (resting_host v p hs k) cannot)
-
-pub called_turn : (n v : SiteView) → v ≡ n
-    → (p : Process) (hs : List Record) (h : H) (box : Outbox) (reserved events : List Mark)
-    → IsAtRest v p hs → HasTurn (host_of v.node.core.memory p hs) (box_of v) h box
+pub called_turn : (n v : SiteView) → v ≡ n → (k h : H) (box : Outbox) (reserved events : List Mark)
+    → k ≡ v.node.core → HasTurn k (box_of v) h box
     → reserved ≡ v.events → events ≡ reserved ++ Turn ∷ [] → SiteTurns n (shown_of v.keep h box events)
-called_turn n v same p hs h box reserved events k b room listed =
-    moved_by_call n v same h box events
-    (subst (λ x. HasTurn x (box_of v) h box) (resting_host v p hs k) b)
+called_turn n v same k h box reserved events rests b room listed =
+    moved_by_call n v same h box events (subst (λ x. HasTurn x (box_of v) h box) rests b)
     (listed ∙ ap (λ es. es ++ Turn ∷ []) room)
 
 -- a turn delivers nothing
@@ -137,13 +125,12 @@ turns_quietly old new made t =
       early = turn_early turn.Moved old new made t;
     }
 
-pub called_site : (v : SiteView) (p : Process) (hs : List Record) (h : H) (box : Outbox)
-    (reserved events : List Mark) → IsSite v → IsAtRest v p hs
-    → HasTurn (host_of v.node.core.memory p hs) (box_of v) h box
+pub called_site : (v : SiteView) (k h : H) (box : Outbox) (reserved events : List Mark) → IsSite v
+    → k ≡ v.node.core → HasTurn k (box_of v) h box
     → reserved ≡ v.events → events ≡ reserved ++ Turn ∷ [] → IsSite (shown_of v.keep h box events)
-called_site v p hs h box reserved events s k b0 room listed =
+called_site v k h box reserved events s rests b0 room listed =
     let b : HasTurn v.node.core (box_of v) h box =
-    subst (λ x. HasTurn x (box_of v) h box) (resting_host v p hs k) b0 in
+    subst (λ x. HasTurn x (box_of v) h box) rests b0 in
     let well = turn-same managed_ops v.node.core b.outcome b.turn in
     record {
       config =
@@ -155,10 +142,10 @@ called_site v p hs h box reserved events s k b0 room listed =
           subst IsAskingHost (sym b.host)
           (turn-asking managed_ops v.node.core b.outcome s.asking b.turn);
       made = turn_made turn.Moved v (shown_of v.keep h box events) s.made
-          (called_turn v v refl p hs h box reserved events k b0 room listed);
+          (called_turn v v refl k h box reserved events rests b0 room listed);
       held = quiet_holds v (shown_of v.keep h box events) s.held
           (turns_quietly v (shown_of v.keep h box events) s.made
-          (called_turn v v refl p hs h box reserved events k b0 room listed));
+          (called_turn v v refl k h box reserved events rests b0 room listed));
     }
 
 -- what holds of a site holds after an instruction of its own
@@ -190,22 +177,11 @@ not_turned true is old box new after h = absurd cc
 not_turned false is old box new after h = h
 
 -- nothing changed
-pub record IsIdle (v : SiteView) (p : Process) (hs : List Record) (h : H) (box : Outbox) : Type 0 where
-  pub rests : IsAtRest v p hs
-  pub after : AfterHostTurn false (host_of v.node.core.memory p hs) (box_of v) h box
-
-idle_same : (v : SiteView) (p : Process) (hs : List Record) (h : H) (box : Outbox) (events : List Mark)
-    → IsIdle v p hs h box → events ≡ v.events → shown_of v.keep h box events ≡ v
-idle_same v p hs h box events u listed =
-    ap (λ x. shown_of v.keep x box events) (u.after.1 ∙ resting_host v p hs u.rests)
-    ∙ (ap (λ x. shown_of v.keep v.node.core x events) u.after.2 ∙ ap (with_core v v.node.core) listed)
-
-pub idle_turn : (n v : SiteView) → v ≡ n
-    → (p : Process) (hs : List Record) (h : H) (box : Outbox) (events : List Mark)
-    → IsIdle v p hs h box → events ≡ v.events
+pub idle_turn : (n v : SiteView) → v ≡ n → (k h : H) (box : Outbox) (events : List Mark)
+    → k ≡ v.node.core → AfterHostTurn false k (box_of v) h box → events ≡ v.events
     → (turn_of managed_ops n.node.core ≡ None) × (shown_of v.keep h box events ≡ n)
-idle_turn n v same p hs h box events u listed = (
+idle_turn n v same k h box events rests after listed = (
   subst (λ (y : SiteView). turn_of managed_ops y.node.core ≡ None) same
-      (subst (λ x. turn_of managed_ops x ≡ None) (resting_host v p hs u.rests) u.after.0),
-  idle_same v p hs h box events u listed ∙ same,
+      (subst (λ x. turn_of managed_ops x ≡ None) rests after.0),
+  (λ j. shown_of v.keep ((after.1 ∙ rests) j) (after.2 j) (listed j)) ∙ same,
 )

@@ -19,6 +19,7 @@ use Rattle.ivy_outbox.specs.Outboxes.{Outbox, HasNumbers, posted_by}
 use Rattle.ivy_host.specs.Hosts.{Host, turn_of}
 use Rattle.ivy_moves.specs.ivy_link.Holding.{ready_of}
 use Rattle.ivy_site.specs.Calls.{reply_in, recorded_by}
+use Rattle.ivy_site.specs.declared.host.Host as host
 use Rattle.ivy_site.specs.SiteView.{SiteView, holding_at}
 use Rattle.ivy_site.specs.Sites.{early_at, SiteDelivers, holding_in, GoesOnOnce}
 
@@ -65,6 +66,10 @@ AfterOnce None source old new = (ready_of (holding_at new) source ≡ None) × (
 -- the host of these
 abbrev pub host_of : memories.NodeMemory Managed → Process → List Record → Host Managed
 host_of memory process history = record { memory = memory; process = process; history = history }
+
+-- the host that the code has
+abbrev pub host_in : {A : Type 0} → host.Host A → Host Managed
+host_in h = host_of h.memory h.machine h.history.records
 
 -- whether the answer is a reply, or that the call waits
 abbrev pub is_served : Answer → Bool

@@ -7,7 +7,6 @@ ghost use Rattle.ivy_site.specs.Calls.{AreTaken, BeginsRow, MayCallTogether, row
 ghost use Rattle.ivy_site.specs.Handed.{site_handed};
 ghost use Rattle.ivy_site.specs.Sites.{most_sent, IsSameNode, IsSpentTurn};
 
-use crate::host::{begin_row, list_taken, takes_replies, takes_together};
 use crate::site::Site;
 use ivy_model::{Fault, Row};
 use std::alloc::Allocator;
@@ -49,28 +48,20 @@ impl<A: Allocator + Copy> Site<A> {
         ensures spent { IfErr result (IsSpentTurn (site_handed (calls_of (row kind 0 addr (numbers_in (row_together self.old kind addr words (length bytes.now)) bytes.now)) ∷ []) self.old)) }
         ensures want { IfErr result RanOut }
     {
-        if !takes_together(&self.machine, &self.history, addr, bytes.len()) {
+        if !self.host.takes_together(addr, bytes.len()) {
             return Ok(0);
         }
-        if !self.memory.has_to_wait(kind, addr) {
+        if !self.host.memory.has_to_wait(kind, addr) {
             return Ok(0);
         }
         let words = words_together(self.outbox.config().page_size, addr, words, bytes.len());
         if words == 0 {
             return Ok(0);
         }
-        self.history.reserve()?;
+        self.host.history.reserve()?;
         self.events.reserve()?;
-        begin_row(
-            &mut self.memory,
-            &mut self.outbox,
-            &mut self.machine,
-            &mut self.history,
-            kind,
-            addr,
-            words,
-            bytes,
-        )?;
+        self.host
+            .begin_row(&mut self.outbox, kind, addr, words, bytes)?;
         self.events.push_turn();
         Ok(words)
     }
@@ -86,13 +77,11 @@ impl<A: Allocator + Copy> Site<A> {
         ensures rests { result ≢ 0 → self.new.node.core.memory.asked ≡ None }
         ensures waiting { self.new.waiting ≡ self.old.waiting }
     {
-        if !takes_replies(&self.machine, &self.history, &self.events, addr, into.len()) {
+        if !self.host.takes_replies(&self.events, addr, into.len()) {
             return 0;
         }
-        let words = self.memory.take_loads(addr, into);
-        list_taken(
-            &mut self.machine,
-            &mut self.history,
+        let words = self.host.memory.take_loads(addr, into);
+        self.host.list_taken(
             &mut self.events,
             self.outbox.me(),
             Row::Loads,
@@ -111,13 +100,11 @@ impl<A: Allocator + Copy> Site<A> {
         ensures rests { result ≢ 0 → self.new.node.core.memory.asked ≡ None }
         ensures waiting { self.new.waiting ≡ self.old.waiting }
     {
-        if !takes_replies(&self.machine, &self.history, &self.events, addr, from.len()) {
+        if !self.host.takes_replies(&self.events, addr, from.len()) {
             return 0;
         }
-        let words = self.memory.take_stores(addr, from);
-        list_taken(
-            &mut self.machine,
-            &mut self.history,
+        let words = self.host.memory.take_stores(addr, from);
+        self.host.list_taken(
             &mut self.events,
             self.outbox.me(),
             Row::Stores,

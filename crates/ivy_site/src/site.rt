@@ -26,7 +26,7 @@ ghost use Rattle.ivy_site.specs.Inside.{Hears, Receives, AfterOnce, HoldsString}
 ghost use Rattle.ivy_moves.specs.Marks.{marks};
 ghost use Rattle.ivy_model.specs.Legal.{HasWidth};
 
-use crate::host::{begin, list_row, make, poll, takes_row};
+use crate::host::Host;
 use crate::turn::Turn;
 use ivy_host::NodeManager;
 use ivy_host::ivy_memory::Memory;
@@ -42,10 +42,8 @@ use std::marker::Model;
 /// One node of a shared memory, with the program that it runs.
 pub struct Site<A: Allocator> {
     alloc: A,
-    pub(crate) memory: Memory<NodeManager<A>, A>,
-    pub(crate) machine: Machine<A>,
+    pub(crate) host: Host<A>,
     keep: Keep,
-    pub(crate) history: History<A>,
     pub(crate) outbox: Outbox<A>,
     pub(crate) events: Events<A>,
 }
@@ -56,10 +54,8 @@ impl<A: Allocator> Drop for Site<A> {
     fn drop(self) {
         let Site {
             alloc: _,
-            memory: _,
-            machine: _,
+            host: _,
             keep: _,
-            history: _,
             outbox: _,
             events: _,
         } = self;
@@ -68,7 +64,7 @@ impl<A: Allocator> Drop for Site<A> {
 
 impl<A: Allocator> Model for Site<A> {
     ghost use Rattle.ivy_site.specs.SiteView.{SiteView, shown_of};
-    ghost use Rattle.ivy_site.specs.Inside.{host_of};
+    ghost use Rattle.ivy_site.specs.Inside.{host_in};
     ghost use Rattle.ivy_site.specs.Sites.{IsSite};
     ghost use Rattle.ivy_moves.specs.Keeping.{AreKept};
 
@@ -80,9 +76,9 @@ impl<A: Allocator> Model for Site<A> {
 
     ghost coded = { Prim.hlevel (codes, nodes_code, heap_state_code) };
 
-    ghost view = { λ s. shown_of s.keep (host_of s.memory s.machine s.history.records) s.outbox s.events.marks };
+    ghost view = { λ s. shown_of s.keep (host_in s.host) s.outbox s.events.marks };
 
-    ghost invariant = { λ s. IsSite (shown_of s.keep (host_of s.memory s.machine s.history.records) s.outbox s.events.marks) × AreKept s.keep s.history.kept s.events.kept };
+    ghost invariant = { λ s. IsSite (shown_of s.keep (host_in s.host) s.outbox s.events.marks) × AreKept s.keep s.host.history.kept s.events.kept };
 }
 
 /// The string once more, where its frame came before its turn.
@@ -173,10 +169,12 @@ impl<A: Allocator + Copy> Site<A> {
         let manager = NodeManager::new(alloc, config, me)?;
         Ok(Site {
             alloc,
-            memory: Memory::new(alloc, config, me, manager)?,
-            machine,
+            host: Host {
+                memory: Memory::new(alloc, config, me, manager)?,
+                machine,
+                history: History::new(alloc, keep.keeps_history()),
+            },
             keep,
-            history: History::new(alloc, keep.keeps_history()),
             outbox: Outbox::new(alloc, config, me)?,
             events: Events::keeping(alloc, keep.keeps_events()),
         })
@@ -186,7 +184,7 @@ impl<A: Allocator + Copy> Site<A> {
     pub fn is_free(&self) -> bool
         ensures { IsTrue result ↔ IsFree self.now.node.core.process }
     {
-        self.machine.is_free()
+        self.host.machine.is_free()
     }
 
     /// Own code makes a call, which the node's next turn begins [1]. Each call before has its reply, and a width is 1,
@@ -198,7 +196,7 @@ impl<A: Allocator + Copy> Site<A> {
         ensures err { OnErr result (self.new ≡ self.old) }
         ensures memory { IsOkUnless result Fault.Memory }
     {
-        self.machine.hand(call);
+        self.host.machine.hand(call);
         Ok(())
     }
 
@@ -243,18 +241,12 @@ impl<A: Allocator + Copy> Site<A> {
         ensures few { length self.new.waiting ≤ length self.old.waiting + most_sent }
         ensures spent { IfErr result (IsSpentTurn (site_handed ((call ∷ []) ∷ []) self.old)) }
     {
-        if !self.machine.is_free() {
+        if !self.host.machine.is_free() {
             return Err(Fault::Busy);
         }
-        self.history.reserve()?;
+        self.host.history.reserve()?;
         self.events.reserve()?;
-        let reply = make(
-            &mut self.memory,
-            &mut self.outbox,
-            &mut self.machine,
-            &mut self.history,
-            call,
-        )?;
+        let reply = self.host.make(&mut self.outbox, call)?;
         self.events.push_turn();
         Ok(reply)
     }
@@ -273,13 +265,11 @@ impl<A: Allocator + Copy> Site<A> {
         ensures sized { length into.new ≡ length into.old }
         ensures waiting { self.new.waiting ≡ self.old.waiting }
     {
-        if !takes_row(&self.machine, &self.history, &self.events, addr, into.len()) {
+        if !self.host.takes_row(&self.events, addr, into.len()) {
             return 0;
         }
-        let words = self.memory.load_row(addr, into);
-        list_row(
-            &mut self.machine,
-            &mut self.history,
+        let words = self.host.memory.load_row(addr, into);
+        self.host.list_row(
             &mut self.events,
             self.outbox.me(),
             Row::Loads,
@@ -299,13 +289,11 @@ impl<A: Allocator + Copy> Site<A> {
         ensures fits { 8 * result ≤ length from.now }
         ensures waiting { self.new.waiting ≡ self.old.waiting }
     {
-        if !takes_row(&self.machine, &self.history, &self.events, addr, from.len()) {
+        if !self.host.takes_row(&self.events, addr, from.len()) {
             return 0;
         }
-        let words = self.memory.store_row(addr, from);
-        list_row(
-            &mut self.machine,
-            &mut self.history,
+        let words = self.host.memory.store_row(addr, from);
+        self.host.list_row(
             &mut self.events,
             self.outbox.me(),
             Row::Stores,
@@ -320,21 +308,21 @@ impl<A: Allocator + Copy> Site<A> {
     pub fn history(&self) -> &[Record]
         ensures { result.now ≡ read_of (keeps_history self.now.keep) self.now.node.core.history }
     {
-        self.history.records()
+        self.host.history.records()
     }
 
     /// How many calls the program was answered so far. It takes no memory.
     pub fn records(&self) -> u64
         ensures { result ≡ length self.now.node.core.history }
     {
-        self.history.count()
+        self.host.history.count()
     }
 
     /// The last call that was answered, with its reply, if there is one. It can be read whatever the site keeps.
     pub fn last_record(&self) -> Option<Record>
         ensures { result ≡ last_of self.now.node.core.history }
     {
-        self.history.last()
+        self.host.history.last()
     }
 
     /// Which lists of its own past the site keeps. It takes no memory.
@@ -348,35 +336,35 @@ impl<A: Allocator + Copy> Site<A> {
     pub fn output(&self) -> &[u64]
         ensures { result.now ≡ self.now.node.core.process.state.output }
     {
-        self.machine.output()
+        self.host.machine.output()
     }
 
     /// Whether the program has ended. It takes no memory.
     pub fn ended(&self) -> bool
         ensures { IsTrue result ↔ HasEnded self.now.node.core.process }
     {
-        self.machine.ended()
+        self.host.machine.ended()
     }
 
     /// The call in progress. It takes no memory.
     pub fn asked(&self) -> Option<Call>
         ensures { result ≡ self.now.node.core.memory.asked }
     {
-        self.memory.asked()
+        self.host.memory.asked()
     }
 
     /// Whether no call was made along with the one in progress. It takes no memory.
     pub fn is_alone(&self) -> bool
         ensures { IsTrue result ↔ (self.now.node.core.memory.along ≡ []) }
     {
-        self.memory.is_alone()
+        self.host.memory.is_alone()
     }
 
     /// The count and the least value of the await in progress, where the call in progress is one. It takes no memory.
     pub fn waits(&self) -> Option<(u64, u64)>
         ensures { result ≡ await_in self.now.node.core.memory.asked }
     {
-        match self.memory.asked()? {
+        match self.host.memory.asked()? {
             Call::Await { k, least } => Some((k, least)),
             _ => None,
         }
@@ -431,7 +419,7 @@ impl<A: Allocator + Copy> Site<A> {
     pub fn breaches(&self) -> u64
         ensures { result ≡ self.now.node.core.memory.coherence.breaches }
     {
-        self.memory.breaches()
+        self.host.memory.breaches()
     }
 
     /// The first string that waits to be put on the wire, taken out. The site's events sent it. It takes no memory.
@@ -468,16 +456,10 @@ impl<A: Allocator + Copy> Site<A> {
         ensures spent { IfErr result (IsSpentTurn self.old) }
         ensures want { IfErr result RanOut }
     {
-        self.history.reserve()?;
+        self.host.history.reserve()?;
         self.events.reserve()?;
-        if let Some(call) = self.memory.asked() {
-            let changed = poll(
-                &mut self.memory,
-                &mut self.outbox,
-                &mut self.machine,
-                &mut self.history,
-                call,
-            )?;
+        if let Some(call) = self.host.memory.asked() {
+            let changed = self.host.poll(&mut self.outbox, call)?;
             if !changed {
                 return Ok(Turn::Idle);
             }
@@ -486,23 +468,17 @@ impl<A: Allocator + Copy> Site<A> {
         }
         // In the midst of a row the memory has a call in progress, so it never comes to that. No contract says so: a call that
         // is tried again is alone from then on.
-        if !self.machine.is_alone() {
+        if !self.host.machine.is_alone() {
             return Err(Fault::Memory);
         }
-        match self.machine.next()? {
+        match self.host.machine.next()? {
             Next::Ended => Ok(Turn::Ended),
             Next::Local => {
                 self.events.push_turn();
                 Ok(Turn::Moved)
             }
             Next::Call(call) => {
-                begin(
-                    &mut self.memory,
-                    &mut self.outbox,
-                    &mut self.machine,
-                    &mut self.history,
-                    call,
-                )?;
+                self.host.begin(&mut self.outbox, call)?;
                 self.events.push_turn();
                 Ok(Turn::Moved)
             }
@@ -534,7 +510,7 @@ impl<A: Allocator + Copy> Site<A> {
         let listed = string.share()?;
         if verdict == Verdict::Next {
             if let Some(message) = message_of(&config, bytes) {
-                self.memory.handle(from, message, &mut self.outbox)?;
+                self.host.memory.handle(from, message, &mut self.outbox)?;
             }
         }
         self.outbox.accept(&head);

@@ -13,7 +13,7 @@ use Rattle.ivy_outbox.specs.Outboxes.{Outbox, holding_of, with_holding}
 use Rattle.ivy_site.specs.SiteView.{SiteView, shown_of}
 use Rattle.ivy_site.specs.Sites.{IsSite, IsSpentDelivery}
 use Rattle.ivy_moves.specs.Keeping.{keeps_history, keeps_events}
-use Rattle.ivy_site.specs.Inside.{CameEarlyAs, Hears, host_of}
+use Rattle.ivy_site.specs.Inside.{CameEarlyAs, Hears, host_in}
 use Rattle.ivy_host.proofs.of_ivy_memory.Beginning.{err_there}
 use Rattle.ivy_site.proofs.Heads.{head_is, source_is, source_there, number_small, read_head, message_fits, heard_from, spent_from, source_foreign}
 use Rattle.ivy_site.proofs.Delivering.{IsHeard, not_mine, heard_quietly, heard_delivers, heard_site, heard_early, heard_few}
@@ -50,11 +50,10 @@ module _ (g : Over) (c : After-accept g) where
   -- what the fields are before the frame is accepted
   heard : IsHeard
       (shown_of c.self.inside.keep
-      (host_of c.self.inside.memory c.self.inside.machine c.self.inside.history.records)
+      (host_in c.self.inside.host)
       c.self.inside.outbox c.self.inside.events.marks)
       c.requires.spelled.0 c.offer-verdict.result
-      (host_of c.if-eq-2.self-inside.memory c.if-eq-2.self-inside.machine
-      c.if-eq-2.self-inside.history.records) c.if-eq-2.self-inside.outbox
+      (host_in c.if-eq-2.self-inside.host) c.if-eq-2.self-inside.outbox
   heard = elim c.if-eq-2.branch [
     | then-eq-2+in-Some+in_ok-handle w ↦
         let next : c.offer-verdict.result ≡ verdict.Next =
@@ -114,7 +113,7 @@ module _ (g : Over) (c : After-accept g) where
     | else-eq-2 w ↦ rw w.self-inside-is refl
   ]
 
-  same_history : c.if-eq-2.self-inside.history.kept ≡ c.self.inside.history.kept
+  same_history : c.if-eq-2.self-inside.host.history.kept ≡ c.self.inside.host.history.kept
   same_history = elim c.if-eq-2.branch [
     | then-eq-2+in-Some+in_ok-handle w ↦ rw w.self-inside-is refl
     | then-eq-2+in_default w ↦ rw w.self-inside-is refl
@@ -176,8 +175,7 @@ pub invariant_of-self-2 : goal.invariant_of-self-2
 invariant_of-self-2 g c =
     let after = (goal.at.invariant_of-self-2 g c).After-accept in (
       subst (λ k. IsSite (shown_of k
-          (host_of c.if-eq-2.self-inside.memory c.if-eq-2.self-inside.machine
-          c.if-eq-2.self-inside.history.records) c.accept.new.self c.push_delivery.new.self.marks))
+          (host_in c.if-eq-2.self-inside.host) c.accept.new.self c.push_delivery.new.self.marks))
           (sym (same_keep g after))
           (heard_site _ c.config-config.result c.requires.spelled.0 c.args.string.now
           c.offer-verdict.result c.config-config.ensures.fits
@@ -212,8 +210,7 @@ returns-clause-done g c =
     c.offer-verdict.result c.offer-verdict.ensures) in
     subst (λ k. Hears c.args.string.now c.offer-verdict.result c.head_of-head.result.source
     c.in_ok-held.held c.args.self.now (shown_of k
-    (host_of c.if-eq-2.self-inside.memory c.if-eq-2.self-inside.machine
-    c.if-eq-2.self-inside.history.records) c.accept.new.self c.push_delivery.new.self.marks))
+    (host_in c.if-eq-2.self-inside.host) c.accept.new.self c.push_delivery.new.self.marks))
     (sym (same_keep g after))
     (hears c.args.string.now c.offer-verdict.result c.head_of-head.result.source _ _ _
     (subst IsConfig config c.config-config.ensures.limits) c.requires.spelled.0
@@ -294,7 +291,7 @@ handle-requires g c =
       fits =
           message_fits c.args.self.now c.args.string.now c.bytes-bytes.result.now c.bytes-bytes.ensures
           c.requires.spelled c.head_of-head.result c.head_of-head.ensures
-          c.self.inside.memory.coherence.config
+          c.self.inside.host.memory.coherence.config
           (c.self.invariant.0.config ∙ ap (λ (x : SiteView). x.config) c.self.view_is)
           (owned_message c.in-Some.message)
           (sym (c.message_of.ensures c.requires.spelled.0

@@ -1,6 +1,7 @@
-use Rattle.std.proofs.Common.{rules, refl, ap, sym, ◌∷◌, [], ◌++◌, ◌∙◌}
+use Rattle.std.proofs.Common.{rules, ap, sym, ◌∷◌, [], ◌++◌, ◌∙◌}
 use Rattle.ivy_moves.specs.Marks.{Turn}
 use Rattle.ivy_host.proofs.of_ivy_memory.Beginning.{err_there}
+use Rattle.ivy_site.specs.Inside.{host_of}
 use Rattle.ivy_site.proofs.Turned.{idle_turn, ended_turn, local_turn, local_site, makes_call, spent_turn, called_turn, called_site, has_turned, not_turned}
 use Rattle.ivy_site.proofs.site.Site.program_turn.Goals as goal
 
@@ -21,24 +22,16 @@ pub returns-in_err-begin-in-Call-clause-spent : goal.returns-in_err-begin-in-Cal
 returns-in_err-begin-in-Call-clause-spent g c =
     err_there c.from_residual-in_err-begin-in-Call.result _ _
     c.from_residual-in_err-begin-in-Call.ensures.1
-    (spent_turn _ _ c.self.view_is c.next.new.self c.reserve.new.self.records _
-    (record {
-      process =
-          makes_call _ c.in-Call.call c.in_ok-next.field-0 c.next.new.self c.in_ok-next.ensures.step
-          c.in-Call.is;
-      history = c.in_ok-reserve.ensures.records;
-    })
+    (spent_turn _ _ c.self.view_is _ _
+    (makes_call _ c.in-Call.call c.in_ok-next.field-0 c.next.new.self _ c.in_ok-next.ensures.step
+    c.in-Call.is c.in_ok-reserve.ensures.records)
     c.in_err-begin-in-Call.ensures.spent)
 
 pub invariant_of-self-in-Call : goal.invariant_of-self-in-Call
 invariant_of-self-in-Call g c = (
-  called_site _ c.next.new.self c.reserve.new.self.records _ c.begin.new.outbox _ _ c.self.invariant.0
-      (record {
-        process =
-            makes_call _ c.in-Call.call c.in_ok-next.field-0 c.next.new.self c.in_ok-next.ensures.step
-            c.in-Call.is;
-        history = c.in_ok-reserve.ensures.records;
-      })
+  called_site _ _ _ c.begin.new.outbox _ _ c.self.invariant.0
+      (makes_call _ c.in-Call.call c.in_ok-next.field-0 c.next.new.self _ c.in_ok-next.ensures.step
+      c.in-Call.is c.in_ok-reserve.ensures.records)
       c.in_ok-begin-in-Call.ensures.ok
       c.in_ok-reserve-2.ensures.same c.push_turn-in-Call.ensures.marks,
   (
@@ -49,38 +42,32 @@ invariant_of-self-in-Call g c = (
 
 pub returns-in_ok-begin-in-Call-clause-done : goal.returns-in_ok-begin-in-Call-clause-done
 returns-in_ok-begin-in-Call-clause-done g c =
-    called_turn _ _ c.self.view_is c.next.new.self c.reserve.new.self.records _ c.begin.new.outbox _ _
-    (record {
-      process =
-          makes_call _ c.in-Call.call c.in_ok-next.field-0 c.next.new.self c.in_ok-next.ensures.step
-          c.in-Call.is;
-      history = c.in_ok-reserve.ensures.records;
-    })
+    called_turn _ _ c.self.view_is _ _ c.begin.new.outbox _ _
+    (makes_call _ c.in-Call.call c.in_ok-next.field-0 c.next.new.self _ c.in_ok-next.ensures.step
+    c.in-Call.is c.in_ok-reserve.ensures.records)
     c.in_ok-begin-in-Call.ensures.ok
     c.in_ok-reserve-2.ensures.same c.push_turn-in-Call.ensures.marks
 
 pub returns-in_err-changed-clause-spent : goal.returns-in_err-changed-clause-spent
 returns-in_err-changed-clause-spent g c =
     err_there c.from_residual-in_err-changed.result _ _ c.from_residual-in_err-changed.ensures.1
-    (spent_turn _ _ c.self.view_is c.self.inside.machine c.reserve.new.self.records _
-    (record { process = refl; history = c.in_ok-reserve.ensures.records })
+    (spent_turn _ _ c.self.view_is _ _
+    (ap (host_of _ _) c.in_ok-reserve.ensures.records)
     c.in_err-changed.ensures.spent)
 
 pub returns-then-not-changed-clause-done : goal.returns-then-not-changed-clause-done
 returns-then-not-changed-clause-done g c =
-    idle_turn _ _ c.self.view_is c.self.inside.machine c.reserve.new.self.records _ c.poll.new.outbox
+    idle_turn _ _ c.self.view_is _ _ c.poll.new.outbox
     _
-    (record {
-      rests = (record { process = refl; history = c.in_ok-reserve.ensures.records });
-      after = not_turned c.in_ok-changed.changed (search rules) _ _ _ _ c.in_ok-changed.ensures.ok;
-    })
+    (ap (host_of _ _) c.in_ok-reserve.ensures.records)
+    (not_turned c.in_ok-changed.changed (search rules) _ _ _ _ c.in_ok-changed.ensures.ok)
     c.in_ok-reserve-2.ensures.same
 
 pub invariant_of-self-in-Some : goal.invariant_of-self-in-Some
 invariant_of-self-in-Some g c = (
-  called_site _ c.self.inside.machine c.reserve.new.self.records _ c.poll.new.outbox _ _
+  called_site _ _ _ c.poll.new.outbox _ _
       c.self.invariant.0
-      (record { process = refl; history = c.in_ok-reserve.ensures.records })
+      (ap (host_of _ _) c.in_ok-reserve.ensures.records)
       (has_turned c.in_ok-changed.changed (search rules) _ _ _ _ c.in_ok-changed.ensures.ok)
       c.in_ok-reserve-2.ensures.same c.push_turn.ensures.marks,
   (
@@ -91,9 +78,9 @@ invariant_of-self-in-Some g c = (
 
 pub returns-in-Some-clause-done : goal.returns-in-Some-clause-done
 returns-in-Some-clause-done g c =
-    called_turn _ _ c.self.view_is c.self.inside.machine c.reserve.new.self.records _
+    called_turn _ _ c.self.view_is _ _
     c.poll.new.outbox _ _
-    (record { process = refl; history = c.in_ok-reserve.ensures.records })
+    (ap (host_of _ _) c.in_ok-reserve.ensures.records)
     (has_turned c.in_ok-changed.changed (search rules) _ _ _ _ c.in_ok-changed.ensures.ok)
     c.in_ok-reserve-2.ensures.same c.push_turn.ensures.marks
 

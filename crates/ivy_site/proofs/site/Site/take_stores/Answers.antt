@@ -1,34 +1,21 @@
-use Rattle.std.proofs.Common.{◌≡◌, ◌∙◌, sym, ap, subst, ◌++◌, length, List, ℕ}
+use Rattle.std.proofs.Common.{◌∙◌}
 use Rattle.ivy_model.specs.declared.Row.TheVariants.{Stores}
-use Rattle.ivy_model.specs.Rows.{numbers_in, row}
-use Rattle.ivy_model.proofs.Rows.{length-numbers_in}
-use Rattle.ivy_moves.specs.Marks.{turns}
-use Rattle.ivy_program.specs.Steps.{AsksMany}
+use Rattle.ivy_site.specs.Inside.{host_in}
 use Rattle.ivy_site.proofs.Taking.{row_asks, row_taken}
 use Rattle.ivy_site.proofs.site.Site.take_stores.Goals as goal
 
 pub list_taken-requires-clause-asks : goal.list_taken-requires-clause-asks
 list_taken-requires-clause-asks g c =
-    let words : ℕ = c.take_stores-words.result in
-    let numbers : List ℕ = numbers_in words c.args.from.now in
-    subst (AsksMany c.self.inside.machine) (length-numbers_in words c.args.from.now)
-    (row_asks Stores _ c.self.invariant.0 numbers c.args.addr c.take_stores-words.new.self
-    (c.take_stores-words.ensures.taken c.self.inside.outbox.me))
+    row_asks Stores _ c.self.invariant.0 c.take_stores-words.result c.args.from.now c.args.addr
+    c.take_stores-words.new.self (c.take_stores-words.ensures.taken c.self.inside.outbox.me)
 
 pub invariant_of-self : goal.invariant_of-self
 invariant_of-self g c =
-    let words : ℕ = c.take_stores-words.result in
-    let numbers : List ℕ = numbers_in words c.args.from.now in
-    let many : length numbers ≡ words = length-numbers_in words c.args.from.now in
-    let made = row_taken Stores _ _ c.self.view_is c.self.invariant.0 numbers c.args.addr
-    c.take_stores-words.new.self (c.take_stores-words.ensures.taken c.self.inside.outbox.me)
-    c.list_taken.new.machine (λ replies long. c.list_taken.ensures.machine replies (long ∙ many))
-    c.list_taken.new.history.records
-    (c.list_taken.ensures.history
-    ∙ ap (λ (i : ℕ). c.self.inside.history.records ++ row Stores i c.args.addr numbers) c.me.ensures)
-    c.list_taken.new.events.marks
-    (c.list_taken.ensures.events
-    ∙ ap (λ (k : ℕ). c.self.inside.events.marks ++ turns k) (sym many)) in (
+    let made = row_taken Stores _ _ c.self.view_is c.self.invariant.0 c.take_stores-words.result
+    c.args.from.now c.args.addr c.take_stores-words.new.self
+    (c.take_stores-words.ensures.taken c.self.inside.outbox.me) (host_in c.list_taken.new.self)
+    c.list_taken.ensures.memory c.list_taken.ensures.machine c.me.result c.me.ensures
+    c.list_taken.ensures.history c.list_taken.new.events.marks c.list_taken.ensures.events in (
       made.site,
       (
         c.list_taken.ensures.kept ∙ c.self.invariant.1.0,
@@ -38,16 +25,9 @@ invariant_of-self g c =
 
 pub returns-clause-taken : goal.returns-clause-taken
 returns-clause-taken g c =
-    let words : ℕ = c.take_stores-words.result in
-    let numbers : List ℕ = numbers_in words c.args.from.now in
-    let many : length numbers ≡ words = length-numbers_in words c.args.from.now in
-    let made = row_taken Stores _ _ c.self.view_is c.self.invariant.0 numbers c.args.addr
-    c.take_stores-words.new.self (c.take_stores-words.ensures.taken c.self.inside.outbox.me)
-    c.list_taken.new.machine (λ replies long. c.list_taken.ensures.machine replies (long ∙ many))
-    c.list_taken.new.history.records
-    (c.list_taken.ensures.history
-    ∙ ap (λ (i : ℕ). c.self.inside.history.records ++ row Stores i c.args.addr numbers) c.me.ensures)
-    c.list_taken.new.events.marks
-    (c.list_taken.ensures.events
-    ∙ ap (λ (k : ℕ). c.self.inside.events.marks ++ turns k) (sym many)) in
+    let made = row_taken Stores _ _ c.self.view_is c.self.invariant.0 c.take_stores-words.result
+    c.args.from.now c.args.addr c.take_stores-words.new.self
+    (c.take_stores-words.ensures.taken c.self.inside.outbox.me) (host_in c.list_taken.new.self)
+    c.list_taken.ensures.memory c.list_taken.ensures.machine c.me.result c.me.ensures
+    c.list_taken.ensures.history c.list_taken.new.events.marks c.list_taken.ensures.events in
     made.taken
