@@ -1,6 +1,6 @@
 -- A play that ends.
 use Rattle.std.proofs.Common.{◌≡◌, ℕ, List, slice_get, set, Option, Some, None, refl, sym, ap, subst, ◌∙◌, ⊎_elim}
-use Rattle.std.specs.Prelude.{IfSome, IsSome, IsTrue, Bool, false, true}
+use Rattle.std.specs.Prelude.{IfSome, IsSome}
 use Rattle.std.proofs.lemmas.Option.{none-some, same_Some}
 use Rattle.ivy_model.specs.declared.Call.{Call}
 use Rattle.ivy_model.specs.declared.Config.{Config}

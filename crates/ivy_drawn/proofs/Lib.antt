@@ -1,4 +1,5 @@
 mod Each
+mod InRow
 mod Playing
 pub mod Stops
 mod Reported

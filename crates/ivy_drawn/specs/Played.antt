@@ -1,11 +1,12 @@
 -- How a play goes on: calls and moves.
-use Rattle.std.specs.Prelude.{◌≡◌, ℕ, List, [], ◌∷◌, slice_get, Some, IfSome}
+use Rattle.std.specs.Prelude.{◌≡◌, ℕ, ◌≤◌, List, [], ◌∷◌, ◌++◌, replicate, slice_get, Some, IfSome}
 use Rattle.ivy_model.specs.declared.Call.{Call}
 use Rattle.ivy_model.specs.declared.Config.{Config}
 use Rattle.ivy_model.specs.declared.Kind.TheVariants.{Fixed}
 use Rattle.ivy_model.specs.declared.Record.{Record}
 use Rattle.ivy_model.specs.declared.Reply.{Reply}
 use Rattle.ivy_moves.specs.declared.Move.{Move}
+use Rattle.ivy_moves.specs.declared.Move.TheVariants.{Turn}
 use Rattle.ivy_moves.specs.Worlds.{World, Moves}
 use Rattle.ivy_world.specs.ivy_host.Hosts.{Host, host_rules}
 use Rattle.ivy_world.specs.ivy_host.Managers.{Managed, managed_ops}
@@ -73,3 +74,9 @@ pub record HasReply (history : List Record) (number : ℕ) (call : Call) (reply 
 abbrev pub IsAnsweredAt : World (Host Managed) → ℕ → ℕ → Call → Reply → Type 0
 IsAnsweredAt w node number call reply =
     IfSome (slice_get w.nodes node) (λ n. HasReply n.core.history number call reply)
+
+-- turns of the node were made, at most so many, and no other move
+pub record AddsTurns (node most : ℕ) (old new : List Move) : Type 0 where
+  pub count : ℕ
+  pub few : count ≤ most
+  pub added : new ≡ old ++ replicate count (Turn node)

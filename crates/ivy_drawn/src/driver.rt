@@ -20,23 +20,24 @@ pub(crate) struct Play<'r, 's, 'b, S: Setting, A: Allocator, R> {
 }
 
 impl<'r, 's, 'b, S: Setting, A: Allocator + Copy, R: Wait> Play<'r, 's, 'b, S, A, R> {
-    /// Whether each call of a node has its reply.
-    fn is_free(&self, node: u8) -> bool {
-        self.stage.lock(self.rt).is_free(node)
+    /// Whether the work of a node goes on before the turn of the node that is asked for now.
+    fn goes_on(&self, node: u8) -> bool {
+        self.stage.lock(self.rt).goes_on(node)
     }
 
-    /// Where each call of a node has its reply, its work goes on, until it makes a call or ends.
+    /// Where the work of a node goes on before this turn of it, it does, until it makes a call, or calls of a row, or ends.
     fn let_run(&self, node: u64) {
         let Ok(node) = u8::try_from(node) else {
             return;
         };
-        if self.is_free(node) {
+        if self.goes_on(node) {
             self.baton.let_run(self.rt, node);
         }
     }
 
     /// Makes a move, before which the work of the node that has a turn goes on; or changes nothing [1, 17, 19]. It says
-    /// whether the move did anything.
+    /// whether the move did anything. Where that work makes calls of a row that are answered at once, the turns in which they
+    /// are go with this one, and are not made again where they are asked for right behind it.
     fn make(&self, step: Move) -> Result<bool, Fault>
         ensures { IfErr result IsPlayStop }
     {

@@ -17,6 +17,7 @@ mod report;
 mod rested;
 mod source;
 mod stage;
+mod together;
 mod workers;
 
 pub use ivy_calls::{Answer, SharedMemory, Work};

@@ -102,8 +102,8 @@ where
         self.take(call)
     }
 
-    /// Makes calls of a row together, where the first has to wait, and says how many.
-    fn hand_block(&self, kind: Row, addr: u64, bytes: &[u8]) -> usize
+    /// Makes calls of a row with no other move between, and says how many.
+    fn call_row(&self, kind: Row, addr: u64, bytes: &[u8]) -> usize
         ensures { 8 * result ≤ length bytes.now }
     {
         if self.play.baton.is_over() {
@@ -113,7 +113,7 @@ where
             .play
             .stage
             .lock(self.play.rt)
-            .begin_block(self.me, kind, addr, bytes);
+            .call_row(self.me, kind, addr, bytes);
         match begun {
             Ok(calls) => calls,
             // the call of the first word alone tells why
@@ -121,9 +121,9 @@ where
         }
     }
 
-    /// Makes calls of a row together, where the first has to wait, and waits until they have their replies. It says how many,
-    /// for whose answers there is room.
-    fn ask_block(&mut self, kind: Row, addr: u64, bytes: &[u8]) -> usize
+    /// Makes calls of a row with no other move between, and waits until they have their replies, and the node has its next
+    /// turn. It says how many, for whose answers there is room.
+    fn ask_row(&mut self, kind: Row, addr: u64, bytes: &[u8]) -> usize
         ensures fits { 8 * result ≤ length bytes.now }
         ensures below { addr + 8 * result < 2 ^ 64 }
         ensures room { vec_len self.new.answers + result ≤ vec_capacity self.new.answers }
@@ -135,7 +135,7 @@ where
         if self.answers.reserve(bytes.len() / 8).is_err() {
             return 0;
         }
-        let calls = self.hand_block(kind, addr, bytes);
+        let calls = self.call_row(kind, addr, bytes);
         if calls > 0 {
             self.play.baton.give_back();
             self.play.baton.wait(self.play.rt, self.me);
@@ -254,7 +254,7 @@ where
     }
 
     fn load_row(&mut self, addr: u64, into: &mut [u8]) -> usize {
-        let calls = self.ask_block(Row::Loads, addr, into);
+        let calls = self.ask_row(Row::Loads, addr, into);
         let taken = self.take_loads(addr, calls, into);
         if taken < calls {
             self.is_cut = true;
@@ -263,7 +263,7 @@ where
     }
 
     fn store_row(&mut self, addr: u64, from: &[u8]) -> usize {
-        let calls = self.ask_block(Row::Stores, addr, from);
+        let calls = self.ask_row(Row::Stores, addr, from);
         let taken = self.take_stores(addr, calls, from);
         if taken < calls {
             self.is_cut = true;

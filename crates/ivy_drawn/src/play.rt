@@ -79,7 +79,8 @@ where
     ensures rests { IfOk result (λ report. ComesToRest S.config settle report.moves.items report.drawn report.world.world report.outcomes.items report.rest) }
     ensures stop { IfErr result IsPlayStop }
 {
-    let stage = Mutex::new(Stage::<S, A>::new(alloc, world));
+    world.keeps();
+    let stage = Mutex::new(Stage::<S, A>::new(alloc, config, world));
     let baton = Baton::new(alloc, config.nodes)?;
     let play = Play {
         rt,
@@ -94,6 +95,11 @@ where
 /// Runs the work of each node over one shared memory, in a world that makes the moves of this source [1, 2, 17, 19], and
 /// then settles, with at most so many more. A call waits until its node's turns have answered it. It ends with fewer of these
 /// left than there are nodes, or where the world stands still and each work that has not ended has a call in progress.
+///
+/// The words of a row that lie in one page are answered with no other move between them where that page is at hand, each by a
+/// turn of its node. These turns go with the one before which the work made the row, and all are among the moves of the
+/// report. Those of them that the source asks for next were made already, and are not made again: so the moves, listed, play
+/// the same. In settling there can be more moves by those that go with the last one.
 ///
 /// One legal order of records explains what all nodes were answered, and each work that has ended has done what it says,
 /// with exactly its node's part of that order as what it was answered. It is 2 exactly where the configuration is out of

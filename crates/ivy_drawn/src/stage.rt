@@ -1,6 +1,7 @@
 //! The world of a play behind its lock, with the moves that were made.
-ghost use Rattle.std.specs.Prelude.{◌≡◌, ◌+◌, ◌*◌, ◌<◌, ◌≤◌, Ok, false, true, length, IfErr, IfOk, IfSome, OnErr, OnOk};
+ghost use Rattle.std.specs.Prelude.{◌≡◌, ◌+◌, ◌*◌, ◌≤◌, ◌++◌, ◌∷◌, [], Ok, false, true, length, IfErr, IfOk, IfSome, OnErr, OnOk};
 ghost use Rattle.ivy_model.specs.declared.Config.{Config};
+ghost use Rattle.ivy_model.specs.Config.{IsConfig};
 ghost use Rattle.ivy_model.specs.Legal.{HasWidth};
 ghost use Rattle.ivy_moves.specs.Worlds.{Moves};
 ghost use Rattle.ivy_world.specs.ivy_host.Hosts.{host_rules};
@@ -12,7 +13,8 @@ ghost use Rattle.ivy_drawn.specs.Faults.{IsPlayStop, IsUnanswered};
 ghost use Rattle.ivy_drawn.specs.Played.{IsPlayed, IsAnsweredAt, IsStillWhere, own_opening};
 
 use crate::source::MoveSource;
-use ivy_model::{Call, Fault, Reply, Row};
+use crate::together::play_row;
+use ivy_model::{Call, Config, Fault, Reply, Row};
 use ivy_world::{Move, Rest, World};
 use std::alloc::Allocator;
 use std::marker::{Brand, Model, PhantomData};
@@ -59,6 +61,7 @@ pub(crate) fn play_move<A: Allocator + Copy>(
     ensures stays { IsSameRun world.old world.new }
     ensures idle { result ≡ Ok false → DoesNothing world.old.world step × (world.new ≡ world.old) }
     ensures made { OnOk result (Moves (host_rules managed_ops) world.old.config world.old.world step world.new.world) }
+    ensures listed { OnOk result (moves.new.items ≡ moves.old.items ++ step ∷ []) }
     ensures longer { OnOk result (length moves.new.items ≡ length moves.old.items + 1) }
     ensures refused { OnErr result ((world.new ≡ world.old) × (moves.new.items ≡ moves.old.items)) }
     ensures played { (c : Config) → IsPlayed c moves.old.items world.old → IsPlayed c moves.new.items world.new }
@@ -68,30 +71,6 @@ pub(crate) fn play_move<A: Allocator + Copy>(
     let did = world.make(step)?;
     moves.push_reserved(step);
     Ok(did)
-}
-
-/// Own code at a node makes calls of a row together, where the first has to wait, and has a turn, which is listed; or nothing
-/// changes [1, 17]. It says how many.
-fn play_block<A: Allocator + Copy>(
-    world: &mut World<A>,
-    moves: &mut Vec<Move, A>,
-    node: u64,
-    kind: Row,
-    addr: u64,
-    bytes: &[u8],
-) -> Result<usize, Fault>
-    requires { node < world.old.config.nodes }
-    ensures played { (c : Config) → IsPlayed c moves.old.items world.old → IsPlayed c moves.new.items world.new }
-    ensures fits { IfOk result (λ calls. 8 * calls ≤ length bytes.now) }
-    ensures stop { IfErr result IsPlayStop }
-{
-    moves.reserve(1)?;
-    let calls = world.hand_block(node, kind, addr, bytes.len() / 8, bytes)?;
-    if calls == 0 {
-        return Ok(0);
-    }
-    moves.push_reserved(Move::Turn(node));
-    Ok(calls)
 }
 
 /// Gives each node a turn, as long as none does anything, and lists them [1, 17]. It says whether the world stands still.
@@ -129,41 +108,53 @@ pub(crate) struct Stage<S: Setting, A: Allocator> {
     /// So many of the moves were not made to let the world settle.
     drawn: usize,
     rest: Rest,
-    /// Whether the turn before which a work goes on was made already, as a block of that work began in it.
-    has_turned: bool,
+    config: Config,
+    /// So many turns of this node were made with the last row of its work, and are still to be asked for.
+    ahead: usize,
+    of_node: u64,
     of: PhantomData<S>,
 }
 
 impl<S: Setting, A: Allocator> Model for Stage<S, A> {
     ghost use Rattle.std.specs.Prelude.{◌≡◌};
+    ghost use Rattle.ivy_model.specs.Config.{IsConfig};
     ghost use Rattle.ivy_drawn.specs.Played.{IsPlayed, IsStillWhere};
 
     ghost Value = { Unit {0} };
 
     ghost view = { λ _. tt };
 
-    ghost invariant = { λ s. IsPlayed S.config s.moves.items s.world × IsStillWhere s.rest s.world };
+    ghost invariant = { λ s. IsPlayed S.config s.moves.items s.world × IsStillWhere s.rest s.world × IsConfig s.config };
 }
 
 impl<S: Setting, A: Allocator + Copy> Stage<S, A> {
     /// The opening world of own code.
-    pub(crate) fn new(alloc: A, world: World<A>) -> Self
-        requires { world ≡ own_opening S.config }
+    pub(crate) fn new(alloc: A, config: Config, world: World<A>) -> Self
+        requires opens { world ≡ own_opening S.config }
+        requires limits { IsConfig config }
     {
         Stage {
             world,
             moves: Vec::new(alloc),
             drawn: 0,
             rest: Rest::Going,
-            has_turned: false,
+            config,
+            ahead: 0,
+            of_node: 0,
             of: PhantomData,
         }
     }
 
-    /// Whether each call of a node has its reply.
-    pub(crate) fn is_free(&self, node: u8) -> bool {
+    /// Whether this turn was made with the last row of its node's work, behind which no other move was made.
+    fn is_ahead(&self, step: Move) -> bool {
+        self.ahead > 0 && step == Move::Turn(self.of_node)
+    }
+
+    /// Whether the work of a node goes on before the turn of the node that is asked for now: that turn was not made yet, and
+    /// each call of the node has its reply.
+    pub(crate) fn goes_on(&self, node: u8) -> bool {
         let node = u64::from(node);
-        node < self.world.nodes() && self.world.is_free(node)
+        node < self.world.nodes() && !self.is_ahead(Move::Turn(node)) && self.world.is_free(node)
     }
 
     /// How many nodes there are.
@@ -187,9 +178,10 @@ impl<S: Setting, A: Allocator + Copy> Stage<S, A> {
         self.world.hand(node, call)
     }
 
-    /// The work of a node makes calls of a row together, on words of 8 bytes from `addr` on, where the first has to wait [1, 17].
-    /// It says how many, of which none has a reply yet. The turn in which they begin is the one before which the work goes on.
-    pub(crate) fn begin_block(
+    /// The work of a node makes calls of a row, on words of 8 bytes from `addr` on, with no other move between [1, 17]. It says
+    /// how many, which have their replies or wait. None where the first would be refused. The turns in which they were made
+    /// are those that the node is asked to have next, the first of them that before which the work goes on.
+    pub(crate) fn call_row(
         &mut self,
         node: u8,
         kind: Row,
@@ -204,8 +196,18 @@ impl<S: Setting, A: Allocator + Copy> Stage<S, A> {
             return Ok(0);
         }
         self.rest = Rest::Going;
-        let calls = play_block(&mut self.world, &mut self.moves, node, kind, addr, bytes)?;
-        self.has_turned = calls > 0;
+        let made = self.moves.len();
+        let calls = play_row(
+            &mut self.world,
+            &mut self.moves,
+            &self.config,
+            node,
+            kind,
+            addr,
+            bytes,
+        )?;
+        self.ahead = self.moves.len().saturating_sub(made);
+        self.of_node = node;
         Ok(calls)
     }
 
@@ -221,15 +223,16 @@ impl<S: Setting, A: Allocator + Copy> Stage<S, A> {
         source.next(&self.world)
     }
 
-    /// Makes a move, or changes nothing [1, 17, 19]. It says whether it did anything. The turn in which a block began is not
-    /// made again.
+    /// Makes a move, or changes nothing [1, 17, 19]. It says whether it did anything. The turns that were made with a row are
+    /// not made again.
     pub(crate) fn make(&mut self, step: Move) -> Result<bool, Fault>
         ensures { IfErr result IsPlayStop }
     {
-        if self.has_turned {
-            self.has_turned = false;
+        if self.is_ahead(step) {
+            self.ahead = self.ahead.saturating_sub(1);
             return Ok(true);
         }
+        self.ahead = 0;
         self.rest = Rest::Going;
         play_move(&mut self.world, &mut self.moves, step)
     }
@@ -259,6 +262,7 @@ impl<S: Setting, A: Allocator + Copy> Stage<S, A> {
     pub(crate) fn stands_still(&mut self) -> Result<bool, Fault>
         ensures { IfErr result IsPlayStop }
     {
+        self.ahead = 0;
         self.rest = Rest::Going;
         let is_still = find_still(&mut self.world, &mut self.moves)?;
         self.rest = rest_of(is_still);
@@ -274,7 +278,9 @@ impl<S: Setting, A: Allocator + Copy> Stage<S, A> {
             moves,
             drawn,
             rest,
-            has_turned: _,
+            config: _,
+            ahead: _,
+            of_node: _,
             of: _,
         } = self;
         Played {

@@ -95,6 +95,27 @@ pub(crate) fn names_of<T: Drop, A: Allocator + Copy>(
     Ok(named)
 }
 
+/// Whether the move is a turn of the node.
+fn is_turn_of(named: Named, node: u64) -> bool {
+    match named {
+        Named::Plain(step) => step == Move::Turn(node),
+        Named::Deliver { .. } => false,
+    }
+}
+
+/// How many turns of one node follow one another from a place on.
+pub(crate) fn turns_at(named: &[Named], from: usize) -> usize {
+    let Some(Named::Plain(Move::Turn(node))) = named.get(from).copied() else {
+        return 0;
+    };
+    for place in from..named.len() {
+        if !is_turn_of(named[place], node) {
+            return place - from;
+        }
+    }
+    named.len().saturating_sub(from)
+}
+
 /// The moves without so many from a place on.
 pub(crate) fn without<A: Allocator + Copy>(
     alloc: A,

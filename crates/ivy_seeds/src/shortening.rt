@@ -4,7 +4,7 @@ ghost use Rattle.ivy_drawn.specs.Faults.{IsPlayFault, IsPlayStop};
 ghost use Rattle.ivy_drawn.specs.Reports.{IsPlayReport};
 
 use crate::checking::Check;
-use crate::renamed::{Renamed, names_of, without};
+use crate::renamed::{Renamed, names_of, turns_at, without};
 use ivy_drawn::{PlayReport, Work, play_with};
 use ivy_model::{Config, Fault};
 use ivy_replay::Named;
@@ -91,7 +91,8 @@ where
         }
     }
 
-    /// Tries to drop so many moves from a place on [1, 19]. It says whether they were dropped.
+    /// Tries to drop so many moves from a place on [1, 19]. It says whether fewer are left then: the turns that go with a row
+    /// are made again where some of them are left out.
     fn drop_at(&self, best: &mut Best<A>, from: usize, count: usize) -> Result<bool, Fault>
         ensures stop { IfErr result IsPlayStop }
     {
@@ -100,9 +101,28 @@ where
         let Some(report) = self.failing(&rest)? else {
             return Ok(false);
         };
-        best.named = names_of(self.alloc, &self.config, &report)?;
+        let left = names_of(self.alloc, &self.config, &report)?;
+        if left.len() >= best.named.len() {
+            return Ok(false);
+        }
+        best.named = left;
         best.is_shorter = true;
         Ok(true)
+    }
+
+    /// Tries to drop so many moves from a place on, or else all turns of one node there, as a row can have made them together
+    /// [1, 19]. It says whether fewer are left then.
+    fn drop_from(&self, best: &mut Best<A>, from: usize, count: usize) -> Result<bool, Fault>
+        ensures stop { IfErr result IsPlayStop }
+    {
+        if self.drop_at(best, from, count)? {
+            return Ok(true);
+        }
+        let turns = turns_at(&best.named, from);
+        if turns <= count {
+            return Ok(false);
+        }
+        self.drop_at(best, from, turns)
     }
 
     /// Goes through the moves once, and tries to drop so many at a time [1, 19].
@@ -115,7 +135,7 @@ where
             if from >= best.named.len() || best.runs >= MOST_RUNS {
                 return Ok(());
             }
-            if !self.drop_at(best, from, count)? {
+            if !self.drop_from(best, from, count)? {
                 from = from.saturating_add(count);
             }
         }

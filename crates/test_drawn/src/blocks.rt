@@ -1,5 +1,5 @@
-//! Blocks under drawn schedules. Calls of a row are made together where the first has to wait, and else one by one, so no
-//! clause says which words of a block stand together in the order.
+//! Blocks under drawn schedules. Calls of a row are made together where the first has to wait, and else one behind the other
+//! with no other move between. No clause says which words of a block stand together in the order.
 use crate::common::{ENOUGH, KINDS, MOVES, all_gave, config, meeting};
 use ivy_calls::{SharedMemory, Work, advance, await_, read_into, write_from};
 use ivy_model::Fault;
@@ -18,6 +18,9 @@ type Block = [u8; 64];
 
 /// How often each node raises the block.
 const TIMES: u64 = 3;
+
+/// How often a block is written with no lock, and read.
+const WRITES: u64 = 20;
 
 /// What the nodes raise it by in all.
 const RAISED: u64 = 9;
@@ -100,9 +103,45 @@ impl Work for AtOnce {
     }
 }
 
-/// That both nodes read the whole block at last, by seeds under either manager, and that the moves of each play, listed,
-/// play the same.
-fn expect_raised<W, R>(rt: &R, work: &W) -> Result<(), Fail>
+/// The block of eight words that are each this number.
+fn equal_words(number: u64) -> Block {
+    let mut block = [0; 64];
+    for word in 0..8usize {
+        block[8 * word..8 * word + 8].copy_from_slice(&number.to_be_bytes());
+    }
+    block
+}
+
+/// Whether two words of the block differ.
+fn is_torn(block: &Block) -> bool {
+    block[..56] != block[8..]
+}
+
+/// Node 0 writes blocks of equal words, and node 1 reads them, with no lock. Each says how many torn blocks it read.
+struct Unlocked;
+
+impl Work for Unlocked {
+    type Out = u64;
+
+    ghost done = { λ _ _ _ _. Unit {0} };
+
+    fn work<M: SharedMemory>(&self, me: u8, memory: &mut M) -> Result<u64, Fault> {
+        let mut torn = 0u64;
+        for time in 0..WRITES {
+            if me == 0 {
+                write_from(memory, BLOCK, &equal_words(time))?;
+            } else {
+                let mut block = equal_words(0);
+                read_into(memory, BLOCK, &mut block)?;
+                torn = torn.wrapping_add(u64::from(is_torn(&block)));
+            }
+        }
+        Ok(torn)
+    }
+}
+
+/// That both nodes give this, by seeds under either manager, and that the moves of each play, listed, play the same.
+fn expect_given<W, R>(rt: &R, work: &W, wanted: u64) -> Result<(), Fail>
 where
     W: Work<Out = u64> + Sync,
     R: Threads + Wait + Abort + AllocGlobal + Sync,
@@ -112,7 +151,7 @@ where
         for seed in 1..=20 {
             let nodes = config(2, kind);
             let drawn = play_drawn(rt, alloc, nodes, work, seed, MOVES, ENOUGH)?;
-            assert!(rt; all_gave(&drawn, RAISED));
+            assert!(rt; all_gave(&drawn, wanted));
             let listed = play_listed(rt, alloc, nodes, work, &drawn.moves, 0)?;
             assert!(rt; listed.moves == drawn.moves);
             assert!(rt; listed.outcomes == drawn.outcomes);
@@ -123,12 +162,17 @@ where
 
 #[test]
 fn by_turns(rt: HostRuntime) -> Result<(), Fail> {
-    expect_raised(&rt, &ByTurns)
+    expect_given(&rt, &ByTurns, RAISED)
 }
 
 #[test]
 fn at_once(rt: HostRuntime) -> Result<(), Fail> {
-    expect_raised(&rt, &AtOnce)
+    expect_given(&rt, &AtOnce, RAISED)
+}
+
+#[test]
+fn with_no_lock(rt: HostRuntime) -> Result<(), Fail> {
+    expect_given(&rt, &Unlocked, 0)
 }
 
 /// Node 1 alone reads the block.

@@ -1,4 +1,4 @@
-use Rattle.std.proofs.Common.{arith, rules, ◌≡◌, length, ap, ◌∙◌, subst}
+use Rattle.std.proofs.Common.{arith, ◌≡◌, length, ap, ◌∙◌, subst}
 use Rattle.ivy_model.specs.declared.Config.{Config}
 use Rattle.ivy_drawn.specs.Endings.{ComesToRest}
 use Rattle.ivy_drawn.proofs.Reported.{reported}

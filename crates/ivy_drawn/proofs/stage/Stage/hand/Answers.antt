@@ -12,4 +12,5 @@ invariant_of-self g c = (
   played_hand g.S.Setting.config c.self.inside.moves.items _ c.args.call c.self.inside.world
       c.hand.new.self c.hand.result c.hand.ensures.ok c.hand.ensures.err c.self.invariant.0,
   going Going c.hand.new.self refl,
+  c.self.invariant.2,
 )
