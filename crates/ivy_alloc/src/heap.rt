@@ -1,6 +1,6 @@
 ghost use Rattle.std.specs.Prelude.{◌≡◌, ℕ, ◌+◌, ◌<◌, ◌≤◌, ◌*◌, ◌↔◌, ◌⊎◌, IsTrue, IsSome, IsOk, IfOk, IfErr, OnErr, OnOk, IsOkUnless};
 ghost use Rattle.std.specs.FinMap as map;
-ghost use Rattle.ivy_model.specs.Config.{IsConfig, heap_end};
+ghost use Rattle.ivy_model.specs.Config.{IsConfig};
 ghost use Rattle.ivy_model.specs.Serves.{rounded};
 ghost use Rattle.ivy_alloc.specs.Heap.{AddsBlock, HasNoRoom, HeapState, IsLeastRoom, first_heap, without_block};
 ghost use Rattle.ivy_alloc.specs.Told.{alloc_reply, alloc_told, ended, free_reply, free_told, gives};
@@ -44,13 +44,6 @@ impl<A: Allocator> Model for Heap<A> {
     ghost invariant = { λ h. IsTied h.config h.extents.items (from_entries h.blocks.entries) × (vec_len h.extents + btree_map_len h.blocks ≤ vec_capacity h.extents) };
 }
 
-fn heap_end(config: &Config) -> u64
-    requires { IsConfig config.now }
-    ensures { result ≡ heap_end config.now }
-{
-    u64::from(config.pages) * u64::from(config.page_size)
-}
-
 impl<A: Allocator + Copy> Heap<A> {
     /// A heap with no block [1].
     pub fn new(alloc: A, config: &Config) -> Result<Self, Fault>
@@ -62,7 +55,7 @@ impl<A: Allocator + Copy> Heap<A> {
         let mut extents = Vec::with_capacity(alloc, 1)?;
         extents.push_reserved(Extent {
             start,
-            len: heap_end(config) - start,
+            len: config.heap_end() - start,
         });
         Ok(Heap {
             config: *config,
@@ -90,7 +83,7 @@ impl<A: Allocator + Copy> Heap<A> {
         if size == 0 {
             return Err(Fault::ZeroSize);
         }
-        if size > heap_end(&self.config) {
+        if size > self.config.heap_end() {
             return Err(Fault::NoRoom);
         }
         let size = 8 * ((size + 7) / 8);
