@@ -9,11 +9,11 @@ use Rattle.ivy_model.specs.Memory.{Blocks}
 use Rattle.ivy_model.specs.Serves.{IsLeast, IsRoom, rounded}
 use Rattle.ivy_alloc.specs.declared.extent.Extent.{Extent}
 use Rattle.ivy_alloc.specs.Extents.{Has, IsFirstFit, IsFree, extent_end}
-use Rattle.ivy_alloc.specs.Tied.{IsTaken, IsTied}
+use Rattle.ivy_alloc.specs.Tied.{IsInBlock, IsTied}
 
 -- no block has an address of the room
 room_not_taken : (c : Config) (m : Blocks) (n a x : ℕ) → IsRoom c m n a → a ≤ x → x < a + n
-    → IsTaken m x → ⊥
+    → IsInBlock m x → ⊥
 room_not_taken c m n a x room from to taken =
     let above = taken.from in
     let below = taken.to in

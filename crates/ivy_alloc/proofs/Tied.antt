@@ -9,7 +9,7 @@ use Rattle.ivy_model.specs.Memory.{Blocks}
 use Rattle.ivy_model.specs.Serves.{IsRoom}
 use Rattle.ivy_alloc.specs.declared.extent.Extent.{Extent}
 use Rattle.ivy_alloc.specs.Extents.{AreGivenBack, AreTakenFrom, Has, IsExtent, IsFree}
-use Rattle.ivy_alloc.specs.Tied.{AreHeapBlocks, IsHeapBlock, IsTaken, IsTied}
+use Rattle.ivy_alloc.specs.Tied.{AreHeapBlocks, IsHeapBlock, IsInBlock, IsTied}
 use Rattle.ivy_alloc.proofs.Changed.{added_here, added_other, removed_here, removed_other}
 
 -- what a property of blocks says of those after one was added
@@ -60,10 +60,10 @@ added_blocks c m n a blocks some room = record {
       (λ _ live' lt'. blocks.apart s x t y live live' lt') f before) e lt;
 }
 
-taken_before : (m : Blocks) (k v a : ℕ) → IsTaken (insert m k v) a
-    → IsTaken m a ⊎ ((k ≤ a) × (a < k + v))
+taken_before : (m : Blocks) (k v a : ℕ) → IsInBlock (insert m k v) a
+    → IsInBlock m a ⊎ ((k ≤ a) × (a < k + v))
 taken_before m k v a taken =
-    at_added (λ s l. s ≤ a → a < s + l → IsTaken m a ⊎ ((k ≤ a) × (a < k + v))) m k v taken.start
+    at_added (λ s l. s ≤ a → a < s + l → IsInBlock m a ⊎ ((k ≤ a) × (a < k + v))) m k v taken.start
     taken.len
     (λ from to. inr (from, to))
     (λ _ live from to. inl

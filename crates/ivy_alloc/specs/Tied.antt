@@ -8,7 +8,7 @@ use Rattle.ivy_alloc.specs.declared.extent.Extent.{Extent}
 use Rattle.ivy_alloc.specs.Extents.{AreExtents, IsFree}
 
 -- one of the blocks has the address
-pub record IsTaken (blocks : Blocks) (a : ℕ) : Type 0 where
+pub record IsInBlock (blocks : Blocks) (a : ℕ) : Type 0 where
   pub start : ℕ
   pub len : ℕ
   pub live : map.get blocks start ≡ Some len
@@ -35,5 +35,5 @@ pub record IsTied (c : Config) (extents : List Extent) (blocks : Blocks) : Type 
   pub apart : AreHeapBlocks c blocks
   pub above : (a : ℕ) → IsFree extents a → c.page_size ≤ a
   pub below : (a : ℕ) → IsFree extents a → a < heap_end c
-  pub not_taken : (a : ℕ) → IsFree extents a → IsTaken blocks a → ⊥
-  pub free : (a : ℕ) → c.page_size ≤ a → a < heap_end c → (IsTaken blocks a → ⊥) → IsFree extents a
+  pub not_taken : (a : ℕ) → IsFree extents a → IsInBlock blocks a → ⊥
+  pub free : (a : ℕ) → c.page_size ≤ a → a < heap_end c → (IsInBlock blocks a → ⊥) → IsFree extents a

@@ -15,17 +15,17 @@ use Rattle.ivy_pagetable.specs.Words.{carried_out}
 use Rattle.ivy_pagetable.specs.Rows.{AreCarried, word_in, out_in, with_row}
 use Rattle.ivy_pagetable.proofs.RowsCarried.{loads, stores}
 use Rattle.ivy_coherence.specs.Several.{AllCarried, all_carried, later_outs}
-use Rattle.ivy_coherence.specs.Rests.{Behind, behind, words_of, outs_of}
+use Rattle.ivy_coherence.specs.Rests.{Behind, behind, row_words, outs_of}
 
 -- what the words of a row come to, one after another
 pub all_is : (kind : Row) (offset : ℕ) (numbers old new : List ℕ)
     → AreCarried kind offset numbers old new
-    → all_carried (words_of kind offset numbers) old
+    → all_carried (row_words kind offset numbers) old
     ≡ record { outs = outs_of kind numbers; bytes = new }
 all_is kind offset [] old new h = ap (λ (b : List ℕ). record { outs = []; bytes = b }) (sym h)
 all_is kind offset (number ∷ more) old new h =
     let next : List ℕ = (carried_out (word_in kind offset number) old).bytes in
-    let words : List Word = words_of kind (offset + 8) more in
+    let words : List Word = row_words kind (offset + 8) more in
     let rest : all_carried words next ≡ record { outs = outs_of kind more; bytes = new } =
     all_is kind (offset + 8) more next new h.2 in
     ap (λ (o : Out). record {
@@ -36,7 +36,7 @@ all_is kind offset (number ∷ more) old new h =
 
 -- the words of loads have no numbers
 loads_alike : (offset : ℕ) (xs ys : List ℕ) → length xs ≡ length ys
-    → words_of Loads offset xs ≡ words_of Loads offset ys
+    → row_words Loads offset xs ≡ row_words Loads offset ys
 loads_alike offset [] [] e = refl
 loads_alike offset [] (y ∷ ys) e = absurd cc
 loads_alike offset (x ∷ xs) [] e = absurd cc
@@ -44,7 +44,7 @@ loads_alike offset (x ∷ xs) (y ∷ ys) e =
     ap (λ (ws : List Word). Load 8 offset ∷ ws) (loads_alike (offset + 8) xs ys (omega (arith, e)))
 
 pub loads_same : (n offset : ℕ) (xs ys : List ℕ)
-    → words_of Loads offset (numbers_in n xs) ≡ words_of Loads offset (numbers_in n ys)
+    → row_words Loads offset (numbers_in n xs) ≡ row_words Loads offset (numbers_in n ys)
 loads_same n offset xs ys =
     loads_alike offset (numbers_in n xs) (numbers_in n ys)
     (length-numbers_in n xs ∙ sym (length-numbers_in n ys))
@@ -60,7 +60,7 @@ copied_numbers n start into page le same =
 pub loads_carried : (n start : ℕ) (into new page : List ℕ) → start % 8 ≡ 0
     → start + 8 * n ≤ length page → length into ≡ length page
     → new ≡ overwrite into start (take (8 * n) (drop start page))
-    → all_carried (words_of Loads start (numbers_in n (drop start into))) page
+    → all_carried (row_words Loads start (numbers_in n (drop start into))) page
     ≡ record { outs = outs_of Loads (numbers_in n (drop start new)); bytes = page }
 loads_carried n start into new page aligned le same is =
     let numbers : numbers_in n (drop start page) ≡ numbers_in n (drop start new) =
@@ -99,7 +99,7 @@ pub stores_carried : (n start : ℕ) (own new page : List ℕ) → start % 8 ≡
     → start + 8 * n ≤ length page → length own ≡ length page → All (λ b. b < 256) own
     → new ≡ overwrite (overwrite own 0 (take start page)) (start + 8 * n)
     (take (length page - (start + 8 * n)) (drop (start + 8 * n) page))
-    → all_carried (words_of Stores start (numbers_in n (drop start own))) page
+    → all_carried (row_words Stores start (numbers_in n (drop start own))) page
     ≡ record { outs = outs_of Stores (numbers_in n (drop start own)); bytes = new }
 stores_carried n start own new page aligned le same all is =
     let many : 8 * n ≤ length (drop start own) = grind (arith, places) in
@@ -137,7 +137,7 @@ pub waits_now : (kind : Row) (offset n size : ℕ) (own new from : List ℕ) →
     → behind kind offset n 0 new
     ≡ record {
       size = size;
-      words = words_of kind offset (numbers_in n from);
+      words = row_words kind offset (numbers_in n from);
       came = outs_of kind (numbers_in n from);
       outs = [];
     }
@@ -147,13 +147,13 @@ waits_now kind offset n size own new from sized le many long is =
     same_numbers n _ _ (same_lists _ _ (grind (arith, places)) (λ k d h. grind (arith, places))) in
     ap (λ (z : ℕ). record {
       size = z;
-      words = words_of kind offset (numbers_in n (drop offset new));
+      words = row_words kind offset (numbers_in n (drop offset new));
       came = outs_of kind (numbers_in n (drop offset new));
       outs = [];
     }) (long ∙ sym sized)
     ∙ ap (λ (ns : List ℕ). record {
       size = size;
-      words = words_of kind offset ns;
+      words = row_words kind offset ns;
       came = outs_of kind ns;
       outs = [];
     })
@@ -169,19 +169,19 @@ took kind offset waiting left bytes r is apart some =
     let rest : List Out = outs_of kind (numbers_in (left - 1) (drop (offset + 8) bytes)) in
     ap (λ (w : ℕ). record {
       size = length bytes;
-      words = words_of kind (offset + 8) (numbers_in w (drop (offset + 8) bytes));
+      words = row_words kind (offset + 8) (numbers_in w (drop (offset + 8) bytes));
       came = outs_of kind (numbers_in w (drop (offset + 8) bytes));
       outs = rest;
     }) none
     ∙ sym (ap (λ (w : ℕ). record {
       size = length bytes;
-      words = words_of kind offset (numbers_in w (drop offset bytes));
+      words = row_words kind offset (numbers_in w (drop offset bytes));
       came = outs_of kind (numbers_in w (drop offset bytes));
       outs = rest;
     }) none)
     ∙ ap (λ (os : List Out). record {
       size = length bytes;
-      words = words_of kind offset (numbers_in waiting (drop offset bytes));
+      words = row_words kind offset (numbers_in waiting (drop offset bytes));
       came = outs_of kind (numbers_in waiting (drop offset bytes));
       outs = later_outs os;
     }) (sym (first_left kind offset left bytes some))
@@ -202,7 +202,7 @@ waits_still kind offset waiting left own new apart some =
 
 -- a row of some words is not none
 pub some_words : (kind : Row) (offset n : ℕ) (bytes : List ℕ) → 1 ≤ n
-    → words_of kind offset (numbers_in n bytes) ≢ []
+    → row_words kind offset (numbers_in n bytes) ≢ []
 some_words kind offset zero bytes some = absurd (omega (arith, some))
 some_words kind offset (suc n) bytes some = λ none. cc
 

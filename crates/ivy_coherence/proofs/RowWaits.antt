@@ -23,7 +23,7 @@ use Rattle.ivy_coherence.specs.declared.need.Need.TheVariants.{Started}
 use Rattle.ivy_coherence.specs.Coherent.{Coherent}
 use Rattle.ivy_pagetable.specs.Accesses.{suffices}
 use Rattle.ivy_coherence.specs.PageFaults.{Begun, along, along_where, fault_entry, hit, faulted, accessed, begun_at, begun}
-use Rattle.ivy_coherence.specs.Rests.{Behind, words_of}
+use Rattle.ivy_coherence.specs.Rests.{Behind, row_words}
 use Rattle.ivy_coherence.specs.Sound.{Waits, WaitAlong, IsSound}
 
 eight : IsWidth 8
@@ -38,18 +38,18 @@ one_fits Stores size offset number aligned le =
     record { width = eight; aligned = aligned; within = le }
 
 words_fit : (kind : Row) (size offset : ℕ) (numbers : List ℕ) → offset % 8 ≡ 0
-    → offset + 8 * length numbers ≤ size → All (IsWord size) (words_of kind offset numbers)
+    → offset + 8 * length numbers ≤ size → All (IsWord size) (row_words kind offset numbers)
 words_fit kind size offset [] aligned le = All-nil (IsWord size)
 words_fit kind size offset (number ∷ more) aligned le =
-    All-cons (IsWord size) (word_in kind offset number) (words_of kind (offset + 8) more)
+    All-cons (IsWord size) (word_in kind offset number) (row_words kind (offset + 8) more)
     (one_fits kind size offset number aligned (omega (arith, le)))
     (words_fit kind size (offset + 8) more (omega (arith, aligned)) (omega (arith, le)))
 
 loads_wait : (c : Config) (offset : ℕ) (numbers : List ℕ) → offset % 8 ≡ 0
-    → offset + 8 * length numbers ≤ c.page_size → All (Waits c false) (words_of Loads offset numbers)
+    → offset + 8 * length numbers ≤ c.page_size → All (Waits c false) (row_words Loads offset numbers)
 loads_wait c offset [] aligned le = All-nil (Waits c false)
 loads_wait c offset (number ∷ more) aligned le =
-    All-cons (Waits c false) (word_in Loads offset number) (words_of Loads (offset + 8) more)
+    All-cons (Waits c false) (word_in Loads offset number) (row_words Loads (offset + 8) more)
     (one_fits Loads c.page_size offset number aligned (omega (arith, le)), refl)
     (loads_wait c (offset + 8) more (omega (arith, aligned)) (omega (arith, le)))
 
@@ -62,13 +62,13 @@ either_along c false x y words h k = k
 fault_along : (c : Config) (kind : Row) (offset number call : ℕ) (i : IdleState) (numbers : List ℕ)
     → offset % 8 ≡ 0 → offset + 8 + 8 * length numbers ≤ c.page_size
     → WaitAlong c (fault_entry (word_in kind offset number) call i)
-    (words_of kind (offset + 8) numbers)
+    (row_words kind (offset + 8) numbers)
 fault_along c Loads offset number call i numbers aligned le =
     loads_wait c (offset + 8) numbers (omega (arith, aligned)) le
 fault_along c Stores offset number call i numbers aligned le =
-    let fits : All (IsWord c.page_size) (words_of Stores (offset + 8) numbers) =
+    let fits : All (IsWord c.page_size) (row_words Stores (offset + 8) numbers) =
     words_fit Stores c.page_size (offset + 8) numbers (omega (arith, aligned)) le in
-    either_along c i.owner _ _ (words_of Stores (offset + 8) numbers) fits fits
+    either_along c i.owner _ _ (row_words Stores (offset + 8) numbers) fits fits
 
 -- these words wait along instead
 with_more-sound : {S : Type 0} {ops : Ops S} (c : Coherent S) (words : List Word) (outs : List Out)
@@ -153,24 +153,24 @@ module _ {S : Type 0} {ops : Ops S} (c v : Coherent S) (page : ℕ) (kind : Row)
   pub row_after : (m size : ℕ) (from bytes : List ℕ) (came : List Out) (r : Behind)
       → r ≡ record {
         size = size;
-        words = words_of kind (offset + 8) (numbers_in m from);
+        words = row_words kind (offset + 8) (numbers_in m from);
         came = came;
         outs = [];
       } → numbers_in m from ≡ numbers_in m bytes → n ≡ Started → c.done_more ≡ []
       → record v { more = r.words; done_more = r.outs }
       ≡ along_where (begun ops c page (word_in kind offset number) call).need
-      (words_of kind (offset + 8) (numbers_in m bytes))
+      (row_words kind (offset + 8) (numbers_in m bytes))
       (begun ops c page (word_in kind offset number) call).after
   row_after m size from bytes came r waits same started taken =
       let w : Word = word_in kind offset number in
-      let words : List Word = words_of kind (offset + 8) (numbers_in m bytes) in
+      let words : List Word = row_words kind (offset + 8) (numbers_in m bytes) in
       let h = starts ops c page w call (started_row started) in
       let more : (begun ops c page w call).after.more ≡ [] =
       ap (λ (b : Begun S). b.after.more) h.1.is ∙ s.alone h.0 in
       let outs : (begun ops c page w call).after.done_more ≡ [] =
       ap (λ (b : Begun S). b.after.done_more) h.1.is ∙ taken in
       ap (λ (x : Behind). record v { more = x.words; done_more = x.outs }) waits
-      ∙ ap (λ (ns : List ℕ). record v { more = words_of kind (offset + 8) ns; done_more = [] }) same
+      ∙ ap (λ (ns : List ℕ). record v { more = row_words kind (offset + 8) ns; done_more = [] }) same
       ∙ ap (λ (x : Coherent S). record x { more = words; done_more = [] }) is
       ∙ along_is words (begun ops c page w call).after more outs
       ∙ sym (ap (λ k. along_where k words (begun ops c page w call).after) (started_row started))
@@ -178,7 +178,7 @@ module _ {S : Type 0} {ops : Ops S} (c v : Coherent S) (page : ℕ) (kind : Row)
   pub row_sound : (m size : ℕ) (from : List ℕ) (came : List Out) (r : Behind)
       → r ≡ record {
         size = size;
-        words = words_of kind (offset + 8) (numbers_in m from);
+        words = row_words kind (offset + 8) (numbers_in m from);
         came = came;
         outs = [];
       } → n ≡ Started → page < c.config.pages → offset % 8 ≡ 0
@@ -186,7 +186,7 @@ module _ {S : Type 0} {ops : Ops S} (c v : Coherent S) (page : ℕ) (kind : Row)
       → IsSound ops (record v { more = r.words; done_more = r.outs })
   row_sound m size from came r is_r started inside aligned le good =
       let w : Word = word_in kind offset number in
-      let words : List Word = words_of kind (offset + 8) (numbers_in m from) in
+      let words : List Word = row_words kind (offset + 8) (numbers_in m from) in
       let h = starts ops c page w call (started_row started) in
       let at : v ≡ (faulted ops c page w call h.1.idle).after =
       is ∙ ap (λ (b : Begun S). b.after) h.1.is in

@@ -13,7 +13,7 @@ use Rattle.ivy_pagetable.specs.Rows.{out_in}
 use Rattle.ivy_coherence.specs.Coherent.{Coherent}
 use Rattle.ivy_coherence.specs.Several.{first_out, later_outs}
 use Rattle.ivy_coherence.specs.Rests.{Behind, behind, outs_of}
-use Rattle.ivy_coherence.specs.Takes.{AreTaken, given, next_taken}
+use Rattle.ivy_coherence.specs.Takes.{AreOutsTaken, given, next_taken}
 
 -- what stores give has no number
 pub stores_give : (n : ℕ) (xs ys : List ℕ)
@@ -90,7 +90,7 @@ module _ (one other : Row) (offset waiting left : ℕ) (bytes : List ℕ) (r : B
 pub row_taken : {S : Type 0} (kind : Row) (number : ℕ) (more : List ℕ) (post : List Out)
     (c : Coherent S) → c.done ≡ Some (out_in kind number)
     → c.done_more ≡ outs_of kind more ++ post
-    → AreTaken kind (number ∷ more) c
+    → AreOutsTaken kind (number ∷ more) c
     (record c { done = first_out post; done_more = later_outs post })
 row_taken kind number [] post c here behind =
     (here, ap (λ os. record c { done = first_out os; done_more = later_outs os }) (sym behind))
@@ -105,16 +105,16 @@ module _ {S : Type 0} (n v : Coherent S) (same : v ≡ n) (kind : Row) (number m
   together : v.done ≡ Some (out_in kind number)
       → v.done_more ≡ outs_of kind (numbers_in many (drop 8 into)) ++ post
       → out_in kind (big_number 8 last) ≡ out_in kind number → drop 8 last ≡ drop 8 into
-      → AreTaken kind (numbers_in (many + 1) last) n
+      → AreOutsTaken kind (numbers_in (many + 1) last) n
       (record v { done = first_out post; done_more = later_outs post })
   together here behind put rest =
       let one : suc many ≡ many + 1 = omega arith in
       let last_more : outs_of kind (numbers_in many (drop 8 into))
       ≡ outs_of kind (numbers_in many (drop 8 last)) =
       ap (λ b. outs_of kind (numbers_in many b)) (sym rest) in
-      subst (λ k. AreTaken kind (numbers_in k last) n
+      subst (λ k. AreOutsTaken kind (numbers_in k last) n
       (record v { done = first_out post; done_more = later_outs post })) one
-      (subst (λ m. AreTaken kind (numbers_in (suc many) last) m
+      (subst (λ m. AreOutsTaken kind (numbers_in (suc many) last) m
       (record v { done = first_out post; done_more = later_outs post })) same
       (row_taken kind (big_number 8 last) (numbers_in many (drop 8 last)) post v
       (here ∙ ap Some (sym put)) (behind ∙ ap (λ os. os ++ post) last_more)))
@@ -124,9 +124,9 @@ module _ {S : Type 0} (n v : Coherent S) (same : v ≡ n) (kind : Row) (number m
       → v.done_more ≡ outs_of kind (numbers_in many (drop 8 into)) ++ post
       → out_in kind (big_number 8 last) ≡ out_in kind number → drop 8 last ≡ drop 8 into
       → words ≡ v.more → d ≡ first_out post → r.words ≡ words → r.outs ≡ later_outs post
-      → AreTaken kind (numbers_in (many + 1) last) n
+      → AreOutsTaken kind (numbers_in (many + 1) last) n
       (record v { more = r.words; done = d; done_more = r.outs })
   taken_together words d r here behind put rest kept out wait outs =
-      subst (AreTaken kind (numbers_in (many + 1) last) n)
+      subst (AreOutsTaken kind (numbers_in (many + 1) last) n)
       (sym (λ j. record v { more = (wait ∙ kept) j; done = out j; done_more = outs j }))
       (together here behind put rest)

@@ -9,9 +9,9 @@ use Rattle.ivy_pagetable.specs.declared.Word.{Word}
 use Rattle.ivy_pagetable.specs.Rows.{word_in, out_in}
 
 -- the words of a row from a place in the page on, and what they give
-abbrev pub words_of : Row → ℕ → List ℕ → List Word
-words_of kind offset [] = []
-words_of kind offset (number ∷ more) = word_in kind offset number ∷ words_of kind (offset + 8) more
+abbrev pub row_words : Row → ℕ → List ℕ → List Word
+row_words kind offset [] = []
+row_words kind offset (number ∷ more) = word_in kind offset number ∷ row_words kind (offset + 8) more
 
 abbrev pub outs_of : Row → List ℕ → List Out
 outs_of kind numbers = map (out_in kind) numbers
@@ -23,7 +23,7 @@ first_word kind offset bytes = word_in kind offset (big_number 8 bytes)
 
 abbrev pub other_words : Row → ℕ → ℕ → List ℕ → List Word
 other_words kind offset words bytes =
-    words_of kind (offset + 8) (numbers_in (words - 1) (drop 8 bytes))
+    row_words kind (offset + 8) (numbers_in (words - 1) (drop 8 bytes))
 
 -- `words` are those that wait, for a page of `size` bytes, and `came` is what they gave on the page on
 -- which they were carried out last. `outs` are the answers that are there and were not taken yet.
@@ -38,7 +38,7 @@ pub record Behind : Type 0 where
 abbrev pub behind : Row → ℕ → ℕ → ℕ → List ℕ → Behind
 behind kind offset waiting left bytes = record {
   size = length bytes;
-  words = words_of kind offset (numbers_in waiting (drop offset bytes));
+  words = row_words kind offset (numbers_in waiting (drop offset bytes));
   came = outs_of kind (numbers_in waiting (drop offset bytes));
   outs = outs_of kind (numbers_in left (drop offset bytes));
 }

@@ -14,10 +14,10 @@ next_taken c =
     record c { done = first_out c.done_more; done_more = later_outs c.done_more }
 
 -- one answer for each of these numbers, which are those that were loaded, where words were loaded
-abbrev pub AreTaken : {S : Type 0} → Row → List ℕ → Coherent S → Coherent S → Type 0
-AreTaken kind [] old new = new ≡ old
-AreTaken kind (number ∷ more) old new =
-    (old.done ≡ Some (out_in kind number)) × AreTaken kind more (next_taken old) new
+abbrev pub AreOutsTaken : {S : Type 0} → Row → List ℕ → Coherent S → Coherent S → Type 0
+AreOutsTaken kind [] old new = new ≡ old
+AreOutsTaken kind (number ∷ more) old new =
+    (old.done ≡ Some (out_in kind number)) × AreOutsTaken kind more (next_taken old) new
 
 -- a word of a row of this kind gives such an answer
 abbrev pub is_given : Row → Out → Bool

@@ -4,9 +4,7 @@ ghost use Rattle.ivy_model.specs.declared.Row.TheVariants.{Loads, Stores};
 ghost use Rattle.ivy_model.specs.Config.{IsConfig};
 ghost use Rattle.ivy_model.specs.Rows.{numbers_in};
 ghost use Rattle.ivy_model.specs.Wants.{RanOut};
-ghost use Rattle.ivy_wire.specs.Spelling.{FitsMessage};
 ghost use Rattle.ivy_wire.specs.Posts.{IsPostOf, HasPosted, HasRefused};
-ghost use Rattle.ivy_pagetable.specs.Tables.{entry_at, page_at};
 ghost use Rattle.ivy_pagetable.specs.Words.{IsWord, needs_write};
 ghost use Rattle.ivy_pagetable.specs.Rows.{row_len};
 ghost use Rattle.ivy_pagetable.specs.Either.{MayBeUnmade};
@@ -16,7 +14,7 @@ ghost use Rattle.ivy_coherence.specs.Rests.{first_word, other_words};
 ghost use Rattle.ivy_coherence.specs.Hits.{permits, is_at_hand, has_to_wait, AreHits};
 ghost use Rattle.ivy_coherence.specs.Outcomes.{IsWantOfPage};
 ghost use Rattle.ivy_coherence.specs.Several.{first_out, later_outs};
-ghost use Rattle.ivy_coherence.specs.Takes.{are_given, AreTaken, given_there};
+ghost use Rattle.ivy_coherence.specs.Takes.{are_given, AreOutsTaken, given_there};
 ghost use Rattle.ivy_coherence.specs.Sound.{first_coherent, IsSound};
 
 use crate::need::Need;
@@ -197,7 +195,7 @@ impl<M: Manager, A: Allocator> Coherence<M, A> {
     pub fn returned_row(&mut self, kind: Row, most: usize, into: &mut [u8]) -> usize
         requires room { kind ≡ Loads → 8 * most ≤ length into.old }
         ensures many { result ≡ min most (given_there kind self.old.done self.old.done_more) }
-        ensures taken { AreTaken kind (numbers_in result into.new) self.old self.new }
+        ensures taken { AreOutsTaken kind (numbers_in result into.new) self.old self.new }
         ensures sized { length into.new ≡ length into.old }
     {
         if most == 0 {

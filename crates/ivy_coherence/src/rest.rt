@@ -8,7 +8,7 @@ ghost use Rattle.ivy_model.specs.Rows.{numbers_in};
 ghost use Rattle.ivy_pagetable.specs.Rows.{out_in};
 ghost use Rattle.ivy_model.specs.Serves.{overwrite};
 ghost use Rattle.ivy_coherence.specs.Several.{all_carried, first_out, later_outs};
-ghost use Rattle.ivy_coherence.specs.Rests.{first_word, words_of, outs_of};
+ghost use Rattle.ivy_coherence.specs.Rests.{first_word, row_words, outs_of};
 
 use byteorder::{BigEndian, ByteOrder};
 use ivy_model::Row;
@@ -164,12 +164,12 @@ fn carry_row<A: Allocator>(
     requires aligned { start % 8 ≡ 0 }
     requires within { start + 8 * words ≤ length page.old }
     requires sized { length bytes.old ≡ length page.old }
-    ensures words { words_of kind start (numbers_in words (drop start bytes.new))
-        ≡ words_of kind start (numbers_in words (drop start bytes.old)) }
+    ensures words { row_words kind start (numbers_in words (drop start bytes.new))
+        ≡ row_words kind start (numbers_in words (drop start bytes.old)) }
     ensures came { outs_of kind (numbers_in words (drop start bytes.new))
-        ≡ (all_carried (words_of kind start (numbers_in words (drop start bytes.old))) page.old).outs }
+        ≡ (all_carried (row_words kind start (numbers_in words (drop start bytes.old))) page.old).outs }
     ensures page { page.new
-        ≡ (all_carried (words_of kind start (numbers_in words (drop start bytes.old))) page.old).bytes }
+        ≡ (all_carried (row_words kind start (numbers_in words (drop start bytes.old))) page.old).bytes }
     ensures sized { length page.new ≡ length page.old }
     ensures kept { length bytes.new ≡ length bytes.old }
 {
@@ -206,7 +206,7 @@ impl<A: Allocator> Rest<A> {
         requires many { 8 * words ≤ length bytes.now }
         ensures { self.new ≡ record {
           size = self.old.size;
-          words = words_of kind offset (numbers_in words bytes.now);
+          words = row_words kind offset (numbers_in words bytes.now);
           came = outs_of kind (numbers_in words bytes.now);
           outs = [];
         } }

@@ -1,6 +1,5 @@
 //! Messages that are served at an idle entry, one after another, and posted together.
 ghost use Rattle.std.specs.Prelude.{◌≡◌, ◌+◌, ◌<◌, ◌≤◌, ◌++◌, ℕ, [], ◌∷◌, true, false, length, map, All, OnOk, OnErr, IfOk, IfErr};
-ghost use Rattle.ivy_model.specs.Wants.{RanOut};
 ghost use Rattle.ivy_wire.specs.Lent.{owned_parcel};
 ghost use Rattle.ivy_wire.specs.Spelling.{FitsParcel};
 ghost use Rattle.ivy_model.specs.Limits.{most_nodes};

@@ -9,6 +9,7 @@ ghost use Rattle.ivy_drawn.specs.Played.{AddsTurns, IsPlayed};
 
 use crate::stage::play_move;
 use ivy_model::{Config, Fault, Row, access_refusal};
+use ivy_world::ivy_site::words_together;
 use ivy_world::{Move, World};
 use std::alloc::Allocator;
 
@@ -21,8 +22,7 @@ fn words_of(config: &Config, addr: u64, len: usize) -> usize
     if access_refusal(config, 8, addr).is_some() {
         return 0;
     }
-    let left = config.page_size - (addr % u64::from(config.page_size)) as u32;
-    (left as usize / 8).min(len / 8)
+    words_together(config.page_size, addr, len / 8, len)
 }
 
 /// Own code at a node makes calls of a row together, where the first has to wait, and has a turn, which is listed; or nothing

@@ -1,5 +1,5 @@
 ghost use Rattle.std.specs.Prelude.{◌≡◌, IfOk, IsOkUnless};
-ghost use Rattle.ivy_dynamic.specs.Dynamic.{first_hints, hinted, hint_of};
+ghost use Rattle.ivy_dynamic.specs.Dynamic.{first_hints, hinted};
 
 use ivy_model::{Config, Fault};
 use ivy_pagetable::Manager;

@@ -2,7 +2,6 @@
 ghost use Rattle.std.specs.Prelude.{◌≡◌, ◌≢◌, ◌+◌, IfSome, MatchOption, MatchResult};
 ghost use Rattle.ivy_model.specs.Config.{IsConfig};
 ghost use Rattle.ivy_model.specs.Legal.{HasWidth, IsWidth};
-ghost use Rattle.ivy_model.specs.Numbers.{fault_number};
 ghost use Rattle.ivy_embedded.specs.Exports.{IsConfigOf, IsRequest, IsStatus, Tells, TellsProgress, verdict_number};
 
 use ivy_model::{Call, Config, Fault, Kind, Reply};

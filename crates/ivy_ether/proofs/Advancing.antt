@@ -1,6 +1,6 @@
 -- What a step leaves by which one node goes on, or has calls handed to it.
-use Rattle.std.proofs.Common.{◌≡◌, ◌≢◌, ◌⊎◌, inl, inr, ℕ, zero, suc, ◌+◌, ◌<◌, ◌≤◌, ◌==◌, Bool}
-use Rattle.std.proofs.Common.{true, false, true≢false, Option, Some, None, List, [], ◌∷◌, ◌++◌}
+use Rattle.std.proofs.Common.{◌≡◌, ◌≢◌, ◌⊎◌, inl, inr, ℕ, ◌+◌, ◌<◌, ◌≤◌, ◌==◌, Bool}
+use Rattle.std.proofs.Common.{true, false, true≢false, Option, Some, List, [], ◌∷◌, ◌++◌}
 use Rattle.std.proofs.Common.{length, set, slice_get, Contains, refl, sym, ap, ◌∙◌, subst, arith}
 use Rattle.std.proofs.Common.{if◌then◌else◌, eq-eqb}
 use mathlib.Core.Option.{some, some-injective}
@@ -14,7 +14,7 @@ use Rattle.ivy_model.specs.declared.Config.{Config}
 use Rattle.ivy_moves.specs.Carrying.{node_changed}
 use Rattle.ivy_moves.specs.Cores.{Core}
 use Rattle.ivy_moves.specs.Marks.{Mark}
-use Rattle.ivy_moves.specs.Nodes.{Node, Effect}
+use Rattle.ivy_moves.specs.Nodes.{Effect}
 use Rattle.ivy_moves.specs.Parts.{AllCanBeMade}
 use Rattle.ivy_moves.specs.Worlds.{World}
 use Rattle.ivy_moves.proofs.Splitting.{can-more}
@@ -22,9 +22,9 @@ use Rattle.ivy_ether.specs.Data.{Item}
 use Rattle.ivy_ether.specs.declared.item.Item.TheVariants.{Seat, Frame, Report}
 use Rattle.ivy_ether.specs.Views.{Closing, View}
 use Rattle.ivy_ether.specs.Going.{IsListOf, ListGoesOn, Sends, AreFurther}
-use Rattle.ivy_ether.specs.Rule.{total, one_if, is_number, sits, times, Reported}
+use Rattle.ivy_ether.specs.Rule.{total, one_if, is_number, sits, Reported}
 use Rattle.ivy_ether.specs.Rule.{IsStart, AreRunParts, IsNode, FitsRun, FitsItem, RuleHolds}
-use Rattle.ivy_ether.specs.Rule.{StartsWith, RuleAllows}
+use Rattle.ivy_ether.specs.Rule.{RuleAllows}
 use Rattle.ivy_ether.proofs.Further.{lists_go_on}
 use Rattle.ivy_ether.proofs.Totals.{total_set, total_one, total_two, total_in, in_list}
 

@@ -16,14 +16,13 @@ use Rattle.ivy_moves.specs.Carrying.{node_changed, IsChangedBy}
 use Rattle.ivy_moves.specs.Cores.{Core}
 use Rattle.ivy_moves.specs.Marks.{Mark}
 use Rattle.ivy_moves.specs.Nodes.{Node}
-use Rattle.ivy_moves.specs.Parts.{AreParts}
 use Rattle.ivy_moves.specs.Worlds.{World}
 use Rattle.ivy_moves.proofs.Carried.{carry_over}
 use Rattle.ivy_moves.proofs.Places.{set-there, set-elsewhere}
 use Rattle.ivy_ether.specs.Data.{Item}
 use Rattle.ivy_ether.specs.Views.{Closing, View, newcomer, with_all_handed, closing_of, with_closed}
 use Rattle.ivy_ether.specs.Rule.{total, one_if, is_number, sits, Reported, IsHanding, IsStart}
-use Rattle.ivy_ether.specs.Rule.{AreRunParts, IsNode, FitsRun, RuleHolds, RuleKept}
+use Rattle.ivy_ether.specs.Rule.{AreRunParts, IsNode, FitsRun, RuleKept}
 use Rattle.ivy_ether.proofs.Advancing.{fits_set, reported_set, item_stays, Goes, advanced}
 use Rattle.ivy_ether.proofs.Keeps.{fits_newcomer, forks}
 use Rattle.ivy_ether.proofs.Totals.{total_set, total-append, in_list}

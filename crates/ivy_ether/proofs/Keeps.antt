@@ -14,7 +14,6 @@ use Rattle.ivy_model.specs.declared.Config.{Config}
 use Rattle.ivy_moves.specs.Cores.{Core}
 use Rattle.ivy_moves.specs.Marks.{Mark}
 use Rattle.ivy_moves.specs.Listed.{Listed}
-use Rattle.ivy_moves.specs.Nodes.{Node}
 use Rattle.ivy_moves.specs.Worlds.{World}
 use Rattle.ivy_moves.proofs.Splitting.{none-in}
 use Rattle.ivy_ether.specs.Data.{Item}
@@ -28,7 +27,7 @@ use Rattle.ivy_ether.specs.Rule.{total, one_if, is_number, sits, seat_in, times,
 use Rattle.ivy_ether.specs.Rule.{IsStart, IsNode, FitsRun, FitsItem, RuleHolds, RuleKept, RuleAllows}
 use Rattle.ivy_ether.specs.Rule.{ListSends, RuleRuns, RuleTold}
 use Rattle.ivy_ether.proofs.Advancing.{fits_set, reported_set, contains_next, contains_first}
-use Rattle.ivy_ether.proofs.Advancing.{item_stays, same_start, list_over, Stepped, advance}
+use Rattle.ivy_ether.proofs.Advancing.{item_stays, same_start, list_over, advance}
 use Rattle.ivy_ether.proofs.Totals.{total_set, total-append, in_list}
 
 off : false ≡ true → ⊥

@@ -1,6 +1,6 @@
 //! The ether: a queue of seats, frames and reports, under the rule.
 ghost use Rattle.std.specs.Prelude.{◌≡◌, ◌⊎◌, ◌<◌, ℕ, List, Some, None, ◌∷◌, [], false, true, Contains, MatchOption, MatchResult, MatchBool, IfOk, IsOkUnless, IsSome, length, replicate, vec_len};
-ghost use Rattle.crossbeam_queue.specs.Passes.{view, IsPassOf};
+ghost use Rattle.crossbeam_queue.specs.Passes.{view};
 ghost use Rattle.ivy_model.specs.Rows.{calls_of, numbers_in, row};
 ghost use Rattle.ivy_program.specs.Programs.{Called, one_by_one};
 ghost use Rattle.ivy_ether.specs.Programs.{MayGive, SendsFrom, Runs, Told};

@@ -2,7 +2,6 @@
 ghost use Rattle.std.specs.Prelude.{◌≡◌, ◌++◌, ℕ, List, [], ◌∷◌, Contains, IfOk, OnOk, IsTrue};
 ghost use Rattle.ivy_model.specs.Config.{IsConfig};
 ghost use Rattle.ivy_moves.specs.Marks.{Delivery, Pulse, marks_of, turns};
-ghost use Rattle.ivy_moves.specs.Parts.{AllCanBeMade};
 ghost use Rattle.ivy_join.specs.Exact.{SaysMade};
 ghost use Rattle.ivy_join.specs.Joining.{AddsSent, CanGoOnBy, GoesOnBy};
 

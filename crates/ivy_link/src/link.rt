@@ -2,7 +2,7 @@
 ghost use Rattle.std.specs.Prelude.{◌≡◌, ◌≢◌, ◌↔◌, ℕ, ◌<◌, List, [], ◌∷◌, ◌+◌, ◌++◌, length, map, take, slice_get, true, false, Some, IsTrue, IfOk, IfErr, IsOk, OnOk, OnErr, IsErrOf, IsOkUnless};
 ghost use Rattle.ivy_model.specs.Wants.{RanOut};
 ghost use Rattle.ivy_model.specs.declared.Fault.TheVariants.{Memory, NumbersSpent};
-ghost use Rattle.ivy_wire.specs.Lent.{owned_message, owned_parcel, owned_frame};
+ghost use Rattle.ivy_wire.specs.Lent.{owned_parcel, owned_frame};
 ghost use Rattle.ivy_link.specs.Linked.{peer_at};
 ghost use Rattle.ivy_link.specs.Pulsed.{repeated};
 ghost use Rattle.ivy_link.specs.Sides.{IsCountOf};

@@ -20,7 +20,7 @@ use Rattle.ivy_coherence.specs.Coherent.{Coherent}
 use Rattle.ivy_coherence.specs.PageFaults.{Begun, along, along_where, begun, begun_row}
 use Rattle.ivy_coherence.specs.Hits.{has_to_wait}
 use Rattle.ivy_coherence.specs.Limits.{most_posted}
-use Rattle.ivy_coherence.specs.Rests.{first_word, other_words, words_of}
+use Rattle.ivy_coherence.specs.Rests.{first_word, other_words, row_words}
 use Rattle.ivy_coherence.proofs.Hits.{Lacks, lacks}
 use Rattle.ivy_heap.specs.declared.Answer.TheVariants.{Awaited}
 use Rattle.ivy_memory.specs.declared.asked.Asked.{Asked}
@@ -68,7 +68,7 @@ module _ (c : Config) (config : IsConfig c) (kind : Row) (page : ℕ) (from : 1 
     (to : page < c.pages) (o n : ℕ) where
   abbrev row_beside : ℕ → ℕ → List ℕ → Beside
   row_beside addr offset numbers =
-      record { calls = calls_of (row kind 0 addr numbers); words = words_of kind offset numbers }
+      record { calls = calls_of (row kind 0 addr numbers); words = row_words kind offset numbers }
 
   abbrev first : Word
   first = word_in kind o n

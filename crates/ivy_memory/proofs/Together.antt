@@ -15,7 +15,7 @@ use Rattle.ivy_pagetable.specs.Rows.{out_in}
 use Rattle.ivy_coherence.specs.Coherent.{Coherent}
 use Rattle.ivy_coherence.specs.Several.{first_out, later_outs}
 use Rattle.ivy_coherence.specs.Takes.{are_given, given_there, next_taken}
-use Rattle.ivy_coherence.specs.Takes.{AreTaken}
+use Rattle.ivy_coherence.specs.Takes.{AreOutsTaken}
 use Rattle.ivy_heap.specs.declared.HeapRequest.{HeapRequest}
 use Rattle.ivy_heap.specs.HeapCalls.{HeapSide, closed, reply_told}
 use Rattle.ivy_memory.specs.Memories.{NodeMemory, first_reply, in_progress, polled_as, reply_at, reply_of, reply_there, taken_out, taken_with}
@@ -78,7 +78,7 @@ module _ {S : Type 0} (ops : Ops S) where
       (called : Call) (calls : List Call) (new : Coherent S) → IsSoundMemory ops m
       → m.asked ≡ Some called → m.along ≡ calls → length calls ≡ length more
       → length m.coherence.done_more ≡ length more
-      → AreTaken kind (number ∷ more) m.coherence new
+      → AreOutsTaken kind (number ∷ more) m.coherence new
       → TakesRecords ops (records_of kind node (called ∷ calls) (number ∷ more)) m
       (all_over m new (length more)) × IsSoundMemory ops (all_over m new (length more))
   words_taken kind node number [] m called [] new s asked is many outs h =
@@ -133,7 +133,7 @@ module _ {S : Type 0} (ops : Ops S) where
 module _ {S : Type 0} (ops : Ops S) (n v : NodeMemory S) (same : v ≡ n) (s : IsSoundMemory ops v)
     (kind : Row) (into : List ℕ) (new : Coherent S) (x : CallsAlong) (side : HeapSide)
     (behind : ℕ) (is : behind ≡ length v.along) (outs : length v.coherence.done_more ≡ behind)
-    (taken : AreTaken kind (numbers_in (suc behind) into) v.coherence new)
+    (taken : AreOutsTaken kind (numbers_in (suc behind) into) v.coherence new)
     (gone : x.calls ≡ []) (over : side ≡ closed v.side) where
   abbrev after : NodeMemory S
   after =
@@ -181,12 +181,12 @@ module _ {S : Type 0} (ops : Ops S) (n v : NodeMemory S) (same : v ≡ n) (s : I
 
 -- it is of one node still
 pub taken_config : {S : Type 0} (kind : Row) (numbers : List ℕ) (c new : Coherent S)
-    → AreTaken kind numbers c new → new.config ≡ c.config
+    → AreOutsTaken kind numbers c new → new.config ≡ c.config
 taken_config kind [] c new h = ap (λ (x : Coherent _). x.config) h
 taken_config kind (number ∷ more) c new h = taken_config kind more (next_taken c) new h.1
 
 pub taken_me : {S : Type 0} (kind : Row) (numbers : List ℕ) (c new : Coherent S)
-    → AreTaken kind numbers c new → new.me ≡ c.me
+    → AreOutsTaken kind numbers c new → new.me ≡ c.me
 taken_me kind [] c new h = ap (λ (x : Coherent _). x.me) h
 taken_me kind (number ∷ more) c new h = taken_me kind more (next_taken c) new h.1
 

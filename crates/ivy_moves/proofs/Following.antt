@@ -1,5 +1,5 @@
--- A world of strings follows the ordered world: each turn, delivery and pulse is a move of the
--- ordered world, or none.
+-- A world of strings follows the FIFO world: each turn, delivery and pulse is a move of the
+-- FIFO world, or none.
 use Rattle.std.proofs.Common.{◌≡◌, ◌≢◌, ℕ, ◌+◌, ◌^◌, ◌<◌, ◌≤◌, List, [], ◌∷◌, ◌++◌, length, map}
 use Rattle.std.proofs.Common.{get_or, set, slice_get, All, Contains, Bool, true, false, not, nat_lt}
 use Rattle.std.proofs.Common.{Option, Some, None, MatchOption, Ok, if◌then◌else◌, ◌&&◌, ◌==◌, refl}
@@ -99,7 +99,7 @@ module _ {C : Type 0} where
       → counts v ≡ counts w → fifo_of v posted ≡ fifo_of w posted
   ordered-same v w posted p q = λ k. record { cores = p k; posted = posted; delivered = q k }
 
-  -- where a node's link alone goes on and has delivered nothing, the ordered world rests
+  -- where a node's link alone goes on and has delivered nothing, the FIFO world rests
   link-rests : (w : World C) (posted : ℕ → ℕ → List Message) (i : ℕ) (n : Node C) (link : Linked)
       (fs : List Frame) → i < length (links_of w) → slice_get w.nodes i ≡ Some n
       → ((a : ℕ) → (peer_at link a).delivered ≡ (peer_at n.link a).delivered)
@@ -683,7 +683,7 @@ module _ {C : Type 0} (rules : Core C) (c : Config) (Sound : ℕ → C → Type 
 apart_of : (i j : ℕ) → not (i == j) ≡ true → i ≢ j
 apart_of i j e same = absurd (true≢false (sym e ∙ ap not (eq-eqb i j same)))
 
--- each move of the world whose node does not go on is a move of the ordered world, or none
+-- each move of the world whose node does not go on is a move of the FIFO world, or none
 pub follows : {C : Type 0} (rules : Core C) (c : Config) (Sound : ℕ → C → Type 0) → IsConfig c
     → IsWellBehaved rules c Sound → (w w' : World C) (posted : ℕ → ℕ → List Message) (move : Move)
     → Follows c Sound w posted → moved rules c w move ≡ Some w'

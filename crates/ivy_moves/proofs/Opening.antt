@@ -1,4 +1,4 @@
--- A world whose links are new and in which nothing was sent follows the ordered world in which
+-- A world whose links are new and in which nothing was sent follows the FIFO world in which
 -- nothing was posted.
 use Rattle.std.proofs.Common.{◌≡◌, ◌⊎◌, ℕ, zero, suc, ◌^◌, ◌<◌, ◌≤◌, [], length, map, get_or, replicate, All, refl, sym, ap, subst, ◌∙◌, inl, inr, arith}
 use Rattle.std.proofs.lemmas.List.{length-map, length-replicate, get_or_past}
@@ -71,7 +71,7 @@ module _ {C : Type 0} (c : Config) (Sound : ℕ → C → Type 0) (w : World C)
         (All-nil (IsString c (λ a b. [])));
   }
 
-  -- nothing was posted or delivered in its ordered world
+  -- nothing was posted or delivered in its FIFO world
   pub opening_ordered : fifo_of w (λ i j. [])
       ≡ record {
         cores = map (λ (n : Node C). n.core) w.nodes;

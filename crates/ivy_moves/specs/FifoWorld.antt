@@ -1,4 +1,4 @@
--- The ordered world: each ordered pair of nodes has the list of all messages ever posted between
+-- The FIFO world: each ordered pair of nodes has the list of all messages ever posted between
 -- them and the number of those delivered, and the first that was not delivered yet may be
 -- delivered, once.
 use Rattle.std.specs.Prelude.{◌≡◌, ℕ, ◌+◌, ◌==◌, ◌&&◌, List, slice_get, slice_set, Some, if◌then◌else◌}
@@ -40,7 +40,7 @@ module _ {C : Type 0} (rules : Core C) where
     pub posted : w'.posted ≡ extended w.posted (rules.serve core source message).posted
     pub delivered : w'.delivered ≡ one_more w.delivered source i
 
-  -- one move of the ordered world, or none
+  -- one move of the FIFO world, or none
   pub data Steps (w w' : FifoWorld C) : Type 0 where
     rests : w' ≡ w → Steps w w'
     turns : (i : ℕ) → Turns w i w' → Steps w w'

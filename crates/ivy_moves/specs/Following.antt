@@ -1,4 +1,4 @@
--- How a world of strings follows the ordered world.
+-- How a world of strings follows the FIFO world.
 use Rattle.std.specs.Prelude.{◌≡◌, ◌≢◌, ℕ, ◌<◌, ◌^◌, List, [], length, map, All, slice_get, Some}
 use Rattle.ivy_model.specs.declared.Config.{Config}
 use Rattle.ivy_wire.specs.Data.{Message, Frame}
@@ -14,7 +14,7 @@ module _ {C : Type 0} where
   abbrev pub links_of : World C → List Linked
   links_of w = map (λ (n : Node C). n.link) w.nodes
 
-  -- the ordered world in which these messages were posted, and those delivered that the links count
+  -- the FIFO world in which these messages were posted, and those delivered that the links count
   abbrev pub fifo_of : World C → (ℕ → ℕ → List Message) → FifoWorld C
   fifo_of w posted = record {
     cores = map (λ (n : Node C). n.core) w.nodes;
@@ -56,7 +56,7 @@ module _ {C : Type 0} (c : Config) (Sound : ℕ → C → Type 0) where
     pub sent : w.sent ≡ []
     pub early : (i : ℕ) → early_of w i ≡ []
 
--- the world follows the ordered world from the messages posted so far on, by one move of it or none
+-- the world follows the FIFO world from the messages posted so far on, by one move of it or none
 abbrev pub FollowsStep : {C : Type 0} (rules : Core C) (c : Config) (Sound : ℕ → C → Type 0)
     → World C
     → (ℕ → ℕ → List Message) → World C → Type 0

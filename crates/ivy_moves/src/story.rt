@@ -3,7 +3,7 @@ ghost use Rattle.std.specs.Prelude.{◌≡◌, List, [], ◌∷◌, ◌++◌};
 ghost use Rattle.std.specs.Borrow.{ftrue};
 ghost use Rattle.ivy_model.specs.declared.Record.{Record};
 ghost use Rattle.ivy_model.specs.Rows.{numbers_in, row};
-ghost use Rattle.ivy_moves.specs.Marks.{Mark, Turn, Delivery, Pulse, turns};
+ghost use Rattle.ivy_moves.specs.Marks.{Mark, Delivery, Pulse, turns};
 
 use ivy_model::{Record, Row};
 use std::marker::{Model, PhantomData};

@@ -18,7 +18,7 @@ use Rattle.ivy_process.specs.declared.recalling.Recalled.{Recalled}
 use Rattle.ivy_process.specs.declared.recalling.Recalled.TheVariants.{Told, Open, New}
 use Rattle.ivy_process.specs.Logging.{Served, lines_of, AddsEvents, Streams, StreamsWhole}
 use Rattle.ivy_process.specs.Owned.{Begun, begun, HasResumed, HasWorked, IsRecalled, Notes, OwnStreams, Replies, RepliesFrom, Resumes, ResumesUnless}
-use Rattle.ivy_process.proofs.Logged.{goes_further, streams-begin}
+use Rattle.ivy_process.proofs.Logged.{streams-begin}
 
 did-events : (events : List Event) → events_in (map Did events) ≡ events
 did-events [] = refl

@@ -1,6 +1,5 @@
 ghost use Rattle.std.specs.Prelude.{◌≡◌, ◌<◌, ◌↔◌, ℕ, IsSome, IfSome};
 ghost use Rattle.ivy_program.specs.Limits.{register_count};
-ghost use Rattle.ivy_model.specs.Legal.{IsWidth};
 
 use std::marker::Model;
 

@@ -11,5 +11,6 @@ mod turn;
 pub use ivy_moves::Keep;
 pub use ivy_moves::ivy_link::Verdict;
 pub use ivy_program::{Program, parse};
+pub use rows::words_together;
 pub use site::Site;
 pub use turn::Turn;

@@ -11,8 +11,9 @@ use crate::site::Site;
 use ivy_model::{Fault, Row};
 use std::alloc::Allocator;
 
-/// How many words of a row are wanted, lie in a page of this size from an address on, and have so many bytes.
-fn words_together(page_size: u32, addr: u64, words: usize, len: usize) -> usize
+/// How many words of 8 bytes from an address on can be called together: as many as `words`, as lie in the page of the
+/// address, whose size in bytes this is, and as `len` bytes have room for.
+pub fn words_together(page_size: u32, addr: u64, words: usize, len: usize) -> usize
     requires { 0 < page_size }
     ensures many { result ≡ min words (row_len page_size (addr % page_size) len) }
     ensures fits { (result ≤ words) × (8 * result ≤ len) }

@@ -1,4 +1,4 @@
--- A step of an ordered world lets some history grow, or lowers what is left to be done, or leaves
+-- A step of a FIFO world lets some history grow, or lowers what is left to be done, or leaves
 -- that and each node with a call in progress as they were.
 use Rattle.std.proofs.Common.{◌≡◌, ◌≢◌, ◌≤◌, ◌<◌, ◌+◌, ◌-◌, ◌⊎◌, ℕ, Bool, true, false, List, [], ◌∷◌, ◌++◌, length}
 use Rattle.std.proofs.Common.{slice_get, Option, Some, None, if◌then◌else◌, drop, refl, sym, ap, ◌∙◌, subst, arith, inl, inr, append-nil, append_assoc, length-append}

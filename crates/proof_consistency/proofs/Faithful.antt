@@ -1,4 +1,4 @@
--- The order explains each ordered world that is reached, and goes on from step to step. For every
+-- The order explains each FIFO world that is reached, and goes on from step to step. For every
 -- manager that keeps the laws.
 use Rattle.std.proofs.Common.{◌≡◌, ◌≢◌, ◌⊎◌, inl, inr, ◌<◌, ℕ, zero, suc, Option, List, [], ◌∷◌, ◌++◌, map, set, slice_get, Some, refl, ap, sym, subst, ◌∙◌, arith}
 use Rattle.std.proofs.lemmas.List.{append-nil}

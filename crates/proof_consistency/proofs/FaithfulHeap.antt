@@ -1,4 +1,4 @@
--- A message of the heap keeps the ordered world faithful: a call that node 0 serves stands in the
+-- A message of the heap keeps the FIFO world faithful: a call that node 0 serves stands in the
 -- order from then on, and the answer is owed to its caller wherever it is.
 use Rattle.std.proofs.Common.{◌≡◌, ◌≢◌, ◌<◌, ℕ, List, [], ◌∷◌, ◌++◌, set, slice_get, Some, None, refl, ap, sym, subst, ◌∙◌, inl, inr}
 use Rattle.std.proofs.lemmas.Bool.{cases_eq}

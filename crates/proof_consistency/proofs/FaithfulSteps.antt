@@ -1,4 +1,4 @@
--- Each step of the ordered world keeps it faithful, and adds to the order at its end. For every
+-- Each step of the FIFO world keeps it faithful, and adds to the order at its end. For every
 -- manager that keeps the laws.
 use Rattle.std.proofs.Common.{◌≡◌, ◌≢◌, ℕ, ◌+◌, false, List, [], ◌∷◌, ◌++◌, length, set, slice_get, Some, None, refl, ap, sym, subst, ◌∙◌}
 use Rattle.std.specs.Prelude.{All}
@@ -205,7 +205,7 @@ module _ {S : Type 0} (ops : Ops S) (laws : Laws ops) (c : Config) (config : IsC
         t.message about pages tells)
     tells_on (heap_delivered source x t delivery same) = heap_on same source x t delivery
 
-  -- each step of the ordered world keeps it, and adds to the order at its end
+  -- each step of the FIFO world keeps it, and adds to the order at its end
   pub faithful_next : Steps (host_rules ops) o o' → GoesOn ops c o o' order
   faithful_next step =
       let all =

@@ -1,4 +1,4 @@
--- A word that waits at a node, through one step of the ordered world: it waits on, and no longer
+-- A word that waits at a node, through one step of the FIFO world: it waits on, and no longer
 -- than before, or it was carried out, or a reply is recorded.
 use Rattle.std.proofs.Common.{◌≡◌, ◌≢◌, ◌⊎◌, ◌<◌, ◌≤◌, ◌+◌, ◌==◌, ◌&&◌, if◌then◌else◌, ◌%◌, ℕ, zero, suc, Bool, true, false, List, [], ◌∷◌, length, take, cond, slice_get, slice_set, Option, Some, None, refl, sym, ap, ◌∙◌, subst, inl, inr, arith}
 use Rattle.std.proofs.lemmas.Bool.{cases_Bool, cases_eq, and_parts, and_right, eqb-true, ne_eqb}

@@ -1,4 +1,4 @@
--- What holds of each ordered world that moves lead to, under managing nodes: of its net and of
+-- What holds of each FIFO world that moves lead to, under managing nodes: of its net and of
 -- their managers.
 use Rattle.std.proofs.Common.{◌≡◌, ℕ, List, [], length, refl, subst}
 use Rattle.ivy_model.specs.declared.Config.{Config}

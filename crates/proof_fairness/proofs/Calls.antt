@@ -130,7 +130,7 @@ module _ (c : Config) (programs : List Program) (w : World (Host Managed))
   here : slice_get (fifo_of w f.posted).cores i ≡ Some n.core
   here = core_of w.nodes i n there
 
-  -- a history that is longer in the ordered world is that of the node
+  -- a history that is longer in the FIFO world is that of the node
   is_answered : (g : follows end)
       → HasGrown c of.limits programs of.many i n.core.history (fifo_of end g.posted)
       → IsAnswered w end i

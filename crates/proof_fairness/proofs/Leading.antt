@@ -1,4 +1,4 @@
--- What steps of the ordered world keep, moves and rounds keep; what a round has delivered; and the
+-- What steps of the FIFO world keep, moves and rounds keep; what a round has delivered; and the
 -- turn that records a reply.
 use Rattle.std.proofs.Common.{◌≡◌, ◌⊎◌, ◌<◌, ◌≤◌, ◌+◌, ℕ, zero, suc, List, [], ◌∷◌, ◌++◌, length, slice_get, Some, refl, sym, ap, ◌∙◌, subst, inl, inr, arith, append-nil, append_assoc}
 use Rattle.std.proofs.lemmas.List.{length-append, length-map}

@@ -29,8 +29,8 @@ pub record Keeps (r : Run) : Type 0 where
   pub no_breach : HasNoBreach r.world
   -- each string ever sent spells a frame
   pub spelled : AllSpell r.config r.world
-  -- it follows an ordered world, where each message is delivered once and in order, that moves led
-  -- to from the opening; and in each ordered world that moves lead to from there, whoever waits has
+  -- it follows a FIFO world, where each message is delivered once and in order, that moves led
+  -- to from the opening; and in each FIFO world that moves lead to from there, whoever waits has
   -- its message, and the routes to each page run in no circle and lead to the page from everywhere
   pub ordered : FollowsInOrder managed_ops r.config r.programs r.world
   pub waits : AllAwaited managed_ops r.config r.programs

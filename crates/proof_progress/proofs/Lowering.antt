@@ -101,7 +101,7 @@ answer_less lost (heap_call.Free addr) (reply.Value v) = omega arith
 answer_less lost (heap_call.Free addr) reply.Done = omega arith
 answer_less lost (heap_call.Free addr) (reply.Refused code) = omega arith
 
--- of an ordered world
+-- of a FIFO world
 module _ (c : Config) (o : FifoWorld (Host Managed)) where
   abbrev pub entries : ℕ → ℕ → Entry
   entries i p = (net_of o).entry i p

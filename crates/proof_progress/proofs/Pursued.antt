@@ -224,7 +224,7 @@ module _ {S : Type 0} (ops : Ops S) (laws : Laws ops) (c : Config) (config : IsC
         | inr other ↦ was j n other.1
       ]
 
-  -- each step of the ordered world keeps it
+  -- each step of the FIFO world keeps it
   pub pursued_next : Steps (host_rules ops) o o' → AllPursued c o'
   pursued_next step =
       let all =

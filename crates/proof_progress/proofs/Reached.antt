@@ -1,4 +1,4 @@
--- Each ordered world that moves lead to from the opening is explained by an order of records; no
+-- Each FIFO world that moves lead to from the opening is explained by an order of records; no
 -- call in progress there is one that is refused at once, and each one is pursued.
 use Rattle.std.proofs.Common.{◌≡◌, ℕ, List, [], ◌∷◌, ◌++◌, length, slice_get, Some, sym, ap, ◌∙◌, inl, inr, subst}
 use Rattle.std.proofs.lemmas.Option.{none-some}

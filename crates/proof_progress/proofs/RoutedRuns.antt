@@ -1,4 +1,4 @@
--- In each ordered world that programs reach, whoever waits has its message, and the routes lead to
+-- In each FIFO world that programs reach, whoever waits has its message, and the routes lead to
 -- each page.
 use Rattle.std.proofs.Common.{◌≡◌, ◌<◌, ℕ, List, [], length}
 use Rattle.ivy_model.specs.declared.Config.{Config}

@@ -1,4 +1,4 @@
--- An ordered world in which all was delivered blocks no node. So one in which no turn does anything
+-- A FIFO world in which all was delivered blocks no node. So one in which no turn does anything
 -- either stands still only where the flat memory has no answer.
 use Rattle.std.proofs.Common.{◌≡◌, ◌≢◌, ◌<◌, ◌≤◌, ◌+◌, ◌⊎◌, ℕ, Bool, true, false, nat_le, List, [], ◌∷◌, ◌++◌, length, map, take, drop, slice_get, Option, Some, None, refl, sym, ap, ◌∙◌, inl, inr, subst, arith, append-nil}
 use Rattle.std.proofs.lemmas.Bool.{leb-true, leb-false}

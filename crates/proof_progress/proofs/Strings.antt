@@ -1,4 +1,4 @@
--- Moves of a world that are no turns are deliveries of the ordered world that it follows, and one for
+-- Moves of a world that are no turns are deliveries of the FIFO world that it follows, and one for
 -- each string that is next.
 use Rattle.std.proofs.Common.{◌≡◌, ◌<◌, ◌≤◌, ◌+◌, ℕ, Bool, true, false, List, [], ◌∷◌, ◌++◌, length, map, All, slice_get, slice_set, Contains, Option, Some, None, Ok, if◌then◌else◌, ◌==◌, refl, sym, ap, ◌∙◌, subst, arith}
 use Rattle.std.proofs.lemmas.Bool.{eqb-true}
@@ -178,7 +178,7 @@ module _ {S : Type 0} (ops : Ops S) where
         served_counts n string.0 e next within string.0.body
         (sym (ap (λ d. received_as (host_rules ops) d n string.0) next) ∙ sym received_is ∙ is)
 
-    -- so the ordered world does not rest
+    -- so the FIFO world does not rest
     moves_on : (w' : World (Host S)) (posted' : ℕ → ℕ → List Message)
         → delivery_of (host_rules ops) c w to (Some n) (Some bytes) ≡ Some w'
         → verdict_of c n bytes ≡ verdict.Next → fifo_of w' posted' ≡ fifo_of w posted → ⊥
@@ -202,7 +202,7 @@ module _ {S : Type 0} (ops : Ops S) where
             let more = one_more e is v in
             omega (arith, counts, more)
 
-  -- Deliveries lead from an ordered world to one that the world follows.
+  -- Deliveries lead from a FIFO world to one that the world follows.
   record Came (c : Config) (o : FifoWorld (Host S)) (w : World (Host S)) : Type 0 where
     posted : ℕ → ℕ → List Message
     follows : Follows c (Sound c) w posted
@@ -239,7 +239,7 @@ module _ {S : Type 0} (ops : Ops S) where
         last_on came.after more.after o ∙ ap (λ v. last_of v more.after) came.last ∙ more.last;
   }
 
-  -- a step of the ordered world that is no turn: one delivery, where it does not rest
+  -- a step of the FIFO world that is no turn: one delivery, where it does not rest
   step_came : (o o' : FifoWorld (Host S)) → Steps no_turns o o'
       → (after : List (FifoWorld (Host S))) × AreDeliveries ops o after × (last_of o after ≡ o')
       × ((o' ≡ o → ⊥) → 1 ≤ length after)
@@ -314,7 +314,7 @@ module _ {S : Type 0} (ops : Ops S) where
     verdict_most verdict.Ahead k some = omega arith
     verdict_most verdict.NotMine k some = omega arith
 
-    -- a string that is next is delivered in the ordered world
+    -- a string that is next is delivered in the FIFO world
     next_most : (w mid : World (Host S)) (posted posted' : ℕ → ℕ → List Message) (index to k : ℕ)
         → Follows c (Sound c) w posted
         → ((fifo_of mid posted' ≡ fifo_of w posted → ⊥) → 1 ≤ k)

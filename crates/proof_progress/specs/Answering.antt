@@ -25,7 +25,7 @@ module _ {S : Type 0} (ops : Ops S) where
   CanDeliver o =
       (source node : ℕ) × (next : FifoWorld (Host S)) × Delivers (host_rules ops) o source node next
 
-  -- The law: from each ordered world that programs reach, whatever was delivered, a message can be
+  -- The law: from each FIFO world that programs reach, whatever was delivered, a message can be
   -- delivered next, or nothing is under way, and no node is blocked.
   abbrev pub DeliveriesAnswer : Type 0
   DeliveriesAnswer = (c : Config) (programs : List Program) → IsConfig c

@@ -63,7 +63,7 @@ module _ {S : Type 0} (ops : Ops S) where
   AreDeliveries o (next ∷ rest) =
       ((source node : ℕ) × Delivers (host_rules ops) o source node next) × AreDeliveries next rest
 
-  -- The law: from each ordered world that programs reach there are no more deliveries than that,
+  -- The law: from each FIFO world that programs reach there are no more deliveries than that,
   -- in whatever order they come.
   abbrev pub DeliveriesEnd : Type 0
   DeliveriesEnd = (c : Config) (programs : List Program) → IsConfig c

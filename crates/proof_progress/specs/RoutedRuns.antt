@@ -1,4 +1,4 @@
--- What is promised of each ordered world that programs reach: whoever waits has its message, and
+-- What is promised of each FIFO world that programs reach: whoever waits has its message, and
 -- the routes to each page.
 use Rattle.std.specs.Prelude.{◌≡◌, ◌<◌, ℕ, List}
 use Rattle.ivy_model.specs.declared.Config.{Config}

@@ -1,6 +1,6 @@
 -- That deliveries of strings end: whatever strings are delivered in a world, in whatever order and
 -- however often, and whatever is sent again, while no node takes a turn, no more of them are the next
--- one for their node than a bound by the ordered world that it follows.
+-- one for their node than a bound by the FIFO world that it follows.
 use Rattle.std.specs.Prelude.{◌≡◌, ◌≤◌, ◌+◌, ℕ, List, [], ◌∷◌, length, All, slice_get, Option, Some, None}
 use Rattle.ivy_model.specs.declared.Config.{Config}
 use Rattle.ivy_model.specs.Config.{IsConfig}

@@ -6,7 +6,7 @@ ghost use Rattle.proof_progress.specs.Strings.{StringsEnd};
 
 /// Deliveries alone come to an end. This is a fact, and the call does nothing.
 ///
-/// From each ordered world that moves lead to from the opening of some programs, under either
+/// From each FIFO world that moves lead to from the opening of some programs, under either
 /// manager: whatever is delivered, in whatever order, while no node takes a turn and each message is
 /// delivered once, there are no more deliveries than `most_deliveries` of the nodes and of the work
 /// that the messages under way and put off make. And so in each world of strings that follows such an
@@ -20,7 +20,7 @@ pub fn deliveries_end()
 
 /// Deliveries answer the calls. This is a fact, and the call does nothing.
 ///
-/// From each ordered world that moves lead to from the opening of some programs, under either
+/// From each FIFO world that moves lead to from the opening of some programs, under either
 /// manager, and whatever is delivered: a message can be delivered next, or nothing is under way.
 /// Then each node has no call in progress, or a call that its next turn answers, or an await of a
 /// count that is below its least value; or an await of a count that has come to it, and its next turn

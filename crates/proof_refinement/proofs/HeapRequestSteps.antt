@@ -1,4 +1,4 @@
--- Each step of the ordered world keeps what stands of the calls that node 0 was asked for.
+-- Each step of the FIFO world keeps what stands of the calls that node 0 was asked for.
 use Rattle.std.proofs.Common.{◌≡◌, ◌≢◌, ℕ, true, false, List, [], ◌∷◌, ◌++◌, drop, slice_get, slice_set, Option, Some, None, refl, sym, ap, ◌∙◌, subst, inl, inr}
 use Rattle.std.specs.Prelude.{All}
 use Rattle.std.proofs.lemmas.Bool.{cases_eq}

@@ -1,4 +1,4 @@
--- The messages of the heap under way after a step of the ordered world, told from those before it.
+-- The messages of the heap under way after a step of the FIFO world, told from those before it.
 use Rattle.std.proofs.Common.{◌≡◌, ◌≢◌, ◌≤◌, ℕ, ◌+◌, Bool, true, false, not, List, [], ◌∷◌, ◌++◌}
 use Rattle.std.proofs.Common.{length, drop, slice_get, Some, refl, sym, ap, ◌∙◌, subst, inl, inr}
 use Rattle.std.proofs.Common.{arith, eq-eqb, if◌then◌else◌, ◌==◌, ◌&&◌}

@@ -1,4 +1,4 @@
--- Whatever the moves of a world: what each step of the ordered world keeps holds of the ordered
+-- Whatever the moves of a world: what each step of the FIFO world keeps holds of the ordered
 -- world that it follows.
 -- For every manager.
 use Rattle.std.proofs.Common.{◌≡◌, ◌≢◌, ◌⊎◌, ◌+◌, ℕ, zero, suc, List, [], ◌∷◌, length, map, set, slice_get, Some, option_map, refl, sym, ap, ◌∙◌, subst, inl, inr, arith}
@@ -71,7 +71,7 @@ module _ {S : Type 0} (ops : Ops S) (c : Config) where
     pub follows : Follows c (IsSoundHost ops c) w posted
     pub holds : P (fifo_of w posted)
 
-  -- it holds after each move of an ordered world of which it holds
+  -- it holds after each move of a FIFO world of which it holds
   abbrev pub IsSteady : (FifoWorld (Host S) → Type 0) → Type 0
   IsSteady P =
       (o o' : FifoWorld (Host S)) → P o → AllSound ops c o → Steps (host_rules ops) o o' → P o'

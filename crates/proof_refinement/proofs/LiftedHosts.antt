@@ -1,4 +1,4 @@
--- What each row keeps, each step of an ordered world keeps; and what the flat memory is told by it.
+-- What each row keeps, each step of a FIFO world keeps; and what the flat memory is told by it.
 use Rattle.std.proofs.Common.{◌≡◌, ℕ, Bool, true, false, List, [], ◌∷◌, None, refl, sym, ap, ◌∙◌, subst, arith, if◌then◌else◌}
 use Rattle.ivy_model.specs.declared.Config.{Config}
 use Rattle.ivy_wire.specs.Data.{Parcel}
@@ -39,7 +39,7 @@ TurnTells {ops = ops} P c x f h out (asks_for called page word idle step of insi
 TurnTells P c x f h out (serves_heap called k heap idle step of there is) flat = flat ≡ f
 TurnTells P c x f h out (asks_heap called k idle step of none is) flat = flat ≡ f
 
--- What a step of the ordered world tells the flat memory's pages: one in which a message of the
+-- What a step of the FIFO world tells the flat memory's pages: one in which a message of the
 -- heap is delivered, nothing.
 pub data WorldTells {S : Type 0} (ops : Ops S) (P : (ℕ → S) → Net → (ℕ → List ℕ) → Type 0)
     (c : Config) (f : ℕ → List ℕ) (o o' : FifoWorld (Host S)) (flat : ℕ → List ℕ) : Type 0 where

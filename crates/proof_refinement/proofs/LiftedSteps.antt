@@ -1,4 +1,4 @@
--- What each row keeps, each event of an ordered world keeps.
+-- What each row keeps, each event of a FIFO world keeps.
 use Rattle.std.proofs.Common.{◌≡◌, ◌<◌, ◌≤◌, ℕ, true, false, List, [], ◌∷◌, Option, slice_set, refl, ap, ◌∙◌, subst, if◌then◌else◌}
 use Rattle.ivy_model.specs.declared.Config.{Config}
 use Rattle.ivy_wire.specs.Posts.{parcel_to}

@@ -1,4 +1,4 @@
--- The net of an ordered world, and what is known of each of its nodes and messages, and of the
+-- The net of a FIFO world, and what is known of each of its nodes and messages, and of the
 -- calls of the heap.
 use Rattle.std.proofs.Common.{◌≡◌, ◌≢◌, ◌⊎◌, ◌<◌, ◌≤◌, ◌+◌, ℕ, zero, suc, Bool, true, false, List}
 use Rattle.std.proofs.Common.{[], ◌∷◌, ◌++◌, length, take, filter, All, slice_get, slice_set, Some}

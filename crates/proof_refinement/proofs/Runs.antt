@@ -1,4 +1,4 @@
--- What each row keeps holds in every ordered world that is reached, and each world that moves lead
+-- What each row keeps holds in every FIFO world that is reached, and each world that moves lead
 -- to follows one.
 use Rattle.std.proofs.Common.{◌≡◌, ◌<◌, ℕ, List, [], ◌∷◌, length, slice_get, Some, refl, sym, ap, ◌∙◌, subst, inl, inr, arith}
 use Rattle.std.proofs.lemmas.Option.{none-some, slice_get_within, slice_get_cases}
@@ -43,7 +43,7 @@ module _ {S : Type 0} {ops : Ops S} {P : (ℕ → S) → Net → (ℕ → List �
         (let all = kept-steps laws c kept spare last o h.1.0 h.0 h.1.1 run.1 in (all.0, all.1)),
       )
 
-  -- P of each ordered world that is reached
+  -- P of each FIFO world that is reached
   pub reached_holds : (o : FifoWorld (Host S)) → IsReachedInOrder ops c programs o
       → Holds ops c P spare o
   reached_holds o reached = run_holds reached.0 o reached.1

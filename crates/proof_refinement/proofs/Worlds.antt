@@ -100,7 +100,7 @@ module _ {S : Type 0} {ops : Ops S} {P : (ℕ → S) → Net → (ℕ → List �
       }) led
 
 module _ {S : Type 0} {ops : Ops S} (laws : Laws ops) (c : Config) (limits : IsConfig c) where
-  -- an ordered world whose net is orderly is exclusive
+  -- a FIFO world whose net is orderly is exclusive
   pub exclusive_world : (w : World (Host S)) (posted : ℕ → ℕ → List Message)
       → IsOrderly c (net_of (fifo_of w posted)) → IsExclusive w
   exclusive_world w posted orderly p i j n m at_n at_m writes may_read =

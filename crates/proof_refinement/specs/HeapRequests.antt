@@ -1,4 +1,4 @@
--- The calls of the heap in an ordered world: the messages of the heap that are under way, and what
+-- The calls of the heap in a FIFO world: the messages of the heap that are under way, and what
 -- they tell of the calls that node 0 was asked for.
 use Rattle.std.specs.Prelude.{◌≡◌, ◌≢◌, ◌⊎◌, ◌<◌, ◌+◌, ℕ, length, not, List, [], ◌∷◌, drop, filter, slice_get}
 use Rattle.std.specs.Prelude.{Option, Some, None}

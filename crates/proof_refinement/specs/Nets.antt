@@ -1,4 +1,4 @@
--- The entries, letters and managers of an ordered world. Of its messages those about pages are
+-- The entries, letters and managers of a FIFO world. Of its messages those about pages are
 -- letters; one of the heap is none.
 use Rattle.std.specs.Prelude.{ℕ, List, [], length, take, filter, slice_get, Option, Some, None}
 use Rattle.ivy_wire.specs.Data.{Message}

@@ -1,4 +1,4 @@
--- Runs of ordered worlds from the opening of some programs, and the worlds that follow them.
+-- Runs of FIFO worlds from the opening of some programs, and the worlds that follow them.
 use Rattle.std.specs.Prelude.{◌≡◌, ℕ, List, [], ◌∷◌}
 use Rattle.ivy_model.specs.declared.Config.{Config}
 use Rattle.ivy_wire.specs.Data.{Message}
@@ -12,16 +12,16 @@ use Rattle.ivy_host.specs.Openings.{opening}
 use Rattle.ivy_host.specs.Sound.{IsSoundHost}
 
 module _ {S : Type 0} (ops : Ops S) (c : Config) (programs : List Program) where
-  -- the ordered world of the opening, in which nothing was posted
+  -- the FIFO world of the opening, in which nothing was posted
   abbrev pub first_ordered : FifoWorld (Host S)
   first_ordered = fifo_of (opening ops c programs) (λ i j. [])
 
-  -- moves of the ordered world lead to it from the opening, by these worlds, the latest first
+  -- moves of the FIFO world lead to it from the opening, by these worlds, the latest first
   abbrev pub IsFifoRun : List (FifoWorld (Host S)) → FifoWorld (Host S) → Type 0
   IsFifoRun [] end = end ≡ first_ordered
   IsFifoRun (last ∷ before) end = IsFifoRun before last × Steps (host_rules ops) last end
 
-  -- some moves of the ordered world lead to it from the opening
+  -- some moves of the FIFO world lead to it from the opening
   abbrev pub IsReachedInOrder : FifoWorld (Host S) → Type 0
   IsReachedInOrder o = (before : List (FifoWorld (Host S))) × IsFifoRun before o
 

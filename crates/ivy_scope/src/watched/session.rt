@@ -1,7 +1,6 @@
 //! Watched sessions.
 ghost use Rattle.std.specs.Prelude.{◌≡◌, ◌↔◌, ◌<◌, ◌+◌, All, IsErrOf, IfOk, IfErr, OnOk, length, vec_len};
 ghost use Rattle.ivy_model.specs.Config.{IsConfig, IsNarrow};
-ghost use Rattle.ivy_program.specs.Programs.{IsWritten};
 ghost use Rattle.ivy_session.specs.Faults.{IsSessionFault};
 ghost use Rattle.ivy_workers.specs.Limits.{AreLimits};
 ghost use Rattle.ivy_workers.specs.Stops.{IsStop};

@@ -3,7 +3,7 @@ use Rattle.ivy_model.specs.declared.Row.TheVariants.{Stores}
 use Rattle.ivy_model.specs.Rows.{numbers_in}
 use Rattle.ivy_model.specs.Serves.{overwrite}
 use Rattle.ivy_coherence.specs.Several.{AllCarried, all_carried}
-use Rattle.ivy_coherence.specs.Rests.{words_of, outs_of}
+use Rattle.ivy_coherence.specs.Rests.{row_words, outs_of}
 use Rattle.ivy_coherence.proofs.Rests.{loads_same, loads_carried, stores_kept, stores_carried}
 use Rattle.ivy_coherence.proofs.rest.carry_row.Goals as goal
 
@@ -36,7 +36,7 @@ pub returns-in-Stores-clause-words : goal.returns-in-Stores-clause-words
 returns-in-Stores-clause-words g c =
     let put = rw (c.put-in-Stores.ensures.bytes, c.bytes-in-Stores.ensures, c.bytes-in-Stores-2.ensures)
     at c.put-in-Stores-2.ensures.bytes in
-    ap (words_of c.args.kind c.args.start)
+    ap (row_words c.args.kind c.args.start)
     (stores_kept c.args.words c.args.start c.args.bytes.now c.put-in-Stores-2.new.into
     c.args.page.now c.requires.within c.requires.sized put)
 
@@ -55,7 +55,7 @@ pub returns-in-Stores-clause-page : goal.returns-in-Stores-clause-page
 returns-in-Stores-clause-page g c =
     let put = rw (c.put-in-Stores.ensures.bytes, c.bytes-in-Stores.ensures, c.bytes-in-Stores-2.ensures)
     at c.put-in-Stores-2.ensures.bytes in
-    let all : c.put-in-Stores-2.new.into ≡ (all_carried (words_of c.args.kind c.args.start
+    let all : c.put-in-Stores-2.new.into ≡ (all_carried (row_words c.args.kind c.args.start
     (numbers_in c.args.words (drop c.args.start c.args.bytes.now))) c.args.page.now).bytes =
     rw c.in-Stores.is
     (sym (ap (λ (r : AllCarried). r.bytes) (stores_carried c.args.words c.args.start

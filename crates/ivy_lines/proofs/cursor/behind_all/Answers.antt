@@ -1,4 +1,4 @@
-use Rattle.std.proofs.Common.{rules, ◌≡◌, ◌<◌, take, length, ap, sym, ◌∙◌, ◌++◌}
+use Rattle.std.proofs.Common.{rules, ◌≡◌, ◌<◌, ap, sym, ◌∙◌, ◌++◌}
 use Rattle.ivy_moves.specs.Marks.{marks, marks_of}
 use Rattle.ivy_lines.proofs.Cursors.{first-before, marks-taken-or}
 use Rattle.ivy_lines.proofs.cursor.behind_all.Goals as goal

@@ -1,6 +1,6 @@
-use Rattle.std.proofs.Common.{rules, ◌≡◌, ◌<◌, take, length, ap, sym, ◌∙◌, ◌++◌}
+use Rattle.std.proofs.Common.{rules, ◌≡◌, ◌<◌, ap, sym, ◌∙◌, ◌++◌}
 use Rattle.ivy_moves.specs.Marks.{marks}
-use Rattle.ivy_lines.specs.Own.{event_in, events_in}
+use Rattle.ivy_lines.specs.Own.{event_in}
 use Rattle.ivy_lines.proofs.Cursors.{first-before}
 use Rattle.ivy_lines.proofs.Owned.{entries-taken}
 use Rattle.ivy_lines.proofs.cursor.behind_entries.Goals as goal

@@ -1,7 +1,6 @@
-use Rattle.std.proofs.Common.{rules, ◌≡◌, slice_get, Some, length, refl, sym, ap, ◌∙◌}
+use Rattle.std.proofs.Common.{rules, ◌≡◌, slice_get, Some, length, refl, sym, ◌∙◌}
 use Rattle.std.proofs.lemmas.Bool.{ltb-true}
 use Rattle.std.proofs.lemmas.Option.{slice_get_read}
-use Rattle.ivy_moves.specs.Marks.{marks_of}
 use Rattle.ivy_lines.proofs.Cursors.{entry-further, entry-before}
 use Rattle.ivy_lines.proofs.cursor.Cursor.after_entry.Goals as goal
 

@@ -1,7 +1,7 @@
 use Rattle.std.proofs.Common.{◌≡◌, suc, true, ◌∙◌, sym, ap, subst, arith, rules}
 use Rattle.ivy_model.specs.declared.Config.{Config}
 use Rattle.ivy_model.specs.Rows.{numbers_in}
-use Rattle.ivy_coherence.specs.Takes.{AreTaken}
+use Rattle.ivy_coherence.specs.Takes.{AreOutsTaken}
 use Rattle.ivy_memory.specs.Memories.{NodeMemory}
 use Rattle.ivy_memory.specs.Rows.{CallsAlong}
 use Rattle.ivy_memory.proofs.Together.{all_sound, all_taken, given_so, taken_config, taken_me}
@@ -15,7 +15,7 @@ invariant_of-self g c =
     let words : c.returned_row-words.result ≡ suc c.left-behind.result =
     omega (arith, there.0, c.returned_row-words.ensures.many) in
     let taken =
-    subst (λ k. AreTaken c.args.kind (numbers_in k c.returned_row-words.new.into)
+    subst (λ k. AreOutsTaken c.args.kind (numbers_in k c.returned_row-words.new.into)
     c.self.inside.coherence c.returned_row-words.new.self) words c.returned_row-words.ensures.taken in (
       all_sound g.M.Manager.ops c.args.self.now _ c.self.view_is c.self.invariant.0 c.args.kind
           c.returned_row-words.new.into c.returned_row-words.new.self c.clear.new.self c.close.new.self
@@ -34,7 +34,7 @@ returns-clause-taken g c = λ node.
     let words : c.returned_row-words.result ≡ suc c.left-behind.result =
     omega (arith, there.0, c.returned_row-words.ensures.many) in
     let taken =
-    subst (λ k. AreTaken c.args.kind (numbers_in k c.returned_row-words.new.into)
+    subst (λ k. AreOutsTaken c.args.kind (numbers_in k c.returned_row-words.new.into)
     c.self.inside.coherence c.returned_row-words.new.self) words c.returned_row-words.ensures.taken in
     all_taken g.M.Manager.ops c.args.self.now _ c.self.view_is c.self.invariant.0 c.args.kind
     c.returned_row-words.new.into c.returned_row-words.new.self c.clear.new.self c.close.new.self
