@@ -49,25 +49,34 @@ pub const FIXED: u32 = 0;
 /// Managers that follow hints.
 pub const DYNAMIC: u32 = 1;
 
-/// The kinds of calls.
+/// A load: the kinds of calls are numbered from it on.
 pub const LOAD: u32 = 0;
 
+/// A store.
 pub const STORE: u32 = 1;
 
+/// A swap.
 pub const SWAP: u32 = 2;
 
+/// A compare-and-swap.
 pub const COMPARE_AND_SWAP: u32 = 3;
 
+/// A fetch-and-add.
 pub const FETCH_AND_ADD: u32 = 4;
 
+/// The value of an eventcount.
 pub const COUNT: u32 = 5;
 
+/// An eventcount gets one more.
 pub const ADVANCE: u32 = 6;
 
+/// A wait until an eventcount is at least a value.
 pub const AWAIT: u32 = 7;
 
+/// A block of the heap is taken.
 pub const ALLOCATE: u32 = 8;
 
+/// A block of the heap is given back.
 pub const FREE: u32 = 9;
 
 /// The configuration of these numbers, where there is one within its limits.

@@ -84,6 +84,7 @@ impl<'a> Request<'a> {
         }
     }
 
+    /// What is to be done.
     pub fn task(&self) -> Task {
         match self.given.command.name {
             "run" => Task::Run,
@@ -93,6 +94,7 @@ impl<'a> Request<'a> {
         }
     }
 
+    /// The pages, their size and the manager that the options name.
     pub fn settings(&self) -> Settings {
         let manager = match self.given.word("--manager") {
             Some("fixed") => Kind::Fixed,
@@ -125,6 +127,7 @@ impl<'a> Request<'a> {
         self.given.word("--until")
     }
 
+    /// The limits of a session that the options name.
     pub fn limits(&self) -> Limits {
         Limits {
             capacity: self.number("--capacity"),
@@ -133,6 +136,7 @@ impl<'a> Request<'a> {
         }
     }
 
+    /// What else a session is to tell.
     pub fn wishes(&self) -> Wishes<'a> {
         Wishes {
             strict: self.given.has("--strict"),

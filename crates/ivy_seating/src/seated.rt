@@ -160,6 +160,7 @@ impl<'e, S: Setup, A: Allocator + Copy> Seated<'e, S, A> {
     /// The node's owner makes a call, and its first turn [1, 17, 18]. It gives the reply, where that is there then; else
     /// later turns ask for it. A refused call was not made, and changes nothing. Err 18 exactly where a call before has no
     /// reply, or the program is no own code.
+    #[inline(always)]
     pub fn call(&mut self, call: Call) -> Result<Option<Reply>, Fault>
         requires width { HasWidth call }
         ensures ether { self.new.ether ≡ self.old.ether }

@@ -205,6 +205,7 @@ impl<A: Allocator + Copy> Site<A> {
     ///
     /// It is [`Site::hand`] and [`Site::program_turn`] in one. Err 18 exactly where a call before has no reply, or the
     /// node's program is no own code.
+    #[inline(always)]
     pub fn call(&mut self, call: Call) -> Result<Option<Reply>, Fault>
         requires width { HasWidth call }
         ensures same { IsSameNode self.old self.new }

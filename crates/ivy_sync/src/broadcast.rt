@@ -11,7 +11,9 @@ use ivy_calls::{CallError, SharedMemory, alloc, load, store};
 /// Nobody else writes the word before the barrier, and nobody at all after it, until all have met again.
 #[derive(Clone, Copy, Debug, PartialEq, Eq)]
 pub struct Broadcast {
+    /// The address of its word, a multiple of 8.
     pub addr: u64,
+    /// Where all meet.
     pub barrier: Barrier,
 }
 

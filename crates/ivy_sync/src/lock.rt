@@ -14,6 +14,7 @@ use ivy_calls::{CallError, SharedMemory, store, swap};
 /// where [`Lock::alloc`] made it.
 #[derive(Clone, Copy, Debug, PartialEq, Eq)]
 pub struct Lock {
+    /// The address of its word, a multiple of 8.
     pub addr: u64,
 }
 

@@ -13,7 +13,9 @@ use ivy_calls::{CallError, SharedMemory, advance, await_, cas};
 /// The word is a lock that nobody leaves: at no point do two nodes have begun.
 #[derive(Clone, Copy, Debug, PartialEq, Eq)]
 pub struct Once {
+    /// The address of its word, a multiple of 8.
     pub word: u64,
+    /// The eventcount that is 1 once it is done.
     pub done: u64,
 }
 

@@ -9,9 +9,13 @@ use ivy_calls::{CallError, SharedMemory, advance, alloc, await_, load, store};
 /// 0 at first, that say how many values were sent and taken.
 #[derive(Clone, Copy, Debug, PartialEq, Eq)]
 pub struct Queue {
+    /// The address of its first word, a multiple of 8.
     pub at: u64,
+    /// So many words it has.
     pub size: u64,
+    /// The eventcount of what was sent.
     pub sent: u64,
+    /// The eventcount of what was taken.
     pub taken: u64,
 }
 

@@ -12,7 +12,9 @@ use ivy_calls::{CallError, SharedMemory, alloc, load, store};
 /// Nobody else writes these words. Before they are written again, all have to meet once more.
 #[derive(Clone, Copy, Debug, PartialEq, Eq)]
 pub struct Reduction {
+    /// The address of the first word, a multiple of 8.
     pub addr: u64,
+    /// Where all meet.
     pub barrier: Barrier,
 }
 

@@ -13,7 +13,9 @@ use ivy_calls::{CallError, SharedMemory, advance, await_, fetch_add};
 /// A node comes in in the order of the tickets, and waits with one call, however long it takes.
 #[derive(Clone, Copy, Debug, PartialEq, Eq)]
 pub struct TicketLock {
+    /// The address of the word with the next ticket, a multiple of 8.
     pub next: u64,
+    /// The eventcount with the ticket whose turn it is.
     pub turn: u64,
 }
 

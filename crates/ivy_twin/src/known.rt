@@ -64,6 +64,7 @@ impl<T> TableRule<(), View<T>, ()> for Twins {
 /// The table, whose one word is never written.
 pub type Cell<T, A> = Table<(), View<T>, (), Twins, A>;
 
+/// What one holder knows of the lists.
 pub type Pass<T> = Seat<(), View<T>>;
 
 /// The next list begins.
