@@ -18,13 +18,13 @@ use Rattle.ivy_wire.specs.DecodeErrors.{is_sound_content}
 use Rattle.ivy_wire.specs.Reading.{content_at}
 use Rattle.ivy_wire.proofs.Fields.{IsBytes, IsBytes-drop, field_1, field_4, only_1, only_4, only_8}
 
--- the content that a sound text has in it
+-- the content that a text has in it; it fits where the text is sound
 pub record HasContent (c : Config) (k : FrameKind) (rest : List ℕ) (content : Content) : Type 0
   where
     pub read : content_at k rest ≡ Some content
     pub kind : kind_of content ≡ k
     pub text : rest ≡ content_text content
-    pub fits : FitsContent c content
+    pub fits : is_sound_content c k rest ≡ true → FitsContent c content
 
 pub both : (a b : Bool) → a && b ≡ true → (a ≡ true) × (b ≡ true)
 both true b e = (refl, e)
@@ -65,39 +65,38 @@ page_of c rest e = grind (arith, nat_tests)
 
 pub content_spelled : (c : Config) (kind : FrameKind) (rest : List ℕ) → IsBytes rest
     → (kind ≡ kinds.Ack → ⊥) → 9 + length rest ≡ text_len c kind
-    → is_sound_content c kind rest ≡ true → (content : Content) × HasContent c kind rest content
+    → (content : Content) × HasContent c kind rest content
 unfolding content_at is_sound_content
-content_spelled c kinds.Ack rest h some len sound = absurd (some refl)
-content_spelled c kinds.ReadReq rest h some len sound = (
+content_spelled c kinds.Ack rest h some len = absurd (some refl)
+content_spelled c kinds.ReadReq rest h some len = (
   contents.ReadReq (big_number 4 rest),
   record {
     read = refl;
     kind = refl;
     text = only_4 rest h (omega arith);
-    fits = page_of c rest sound;
+    fits = λ sound. page_of c rest sound;
   },
 )
-content_spelled c kinds.WriteReq rest h some len sound = (
+content_spelled c kinds.WriteReq rest h some len = (
   contents.WriteReq (big_number 4 rest),
   record {
     read = refl;
     kind = refl;
     text = only_4 rest h (omega arith);
-    fits = page_of c rest sound;
+    fits = λ sound. page_of c rest sound;
   },
 )
-content_spelled c kinds.ReadRep rest h some len sound = (
+content_spelled c kinds.ReadRep rest h some len = (
   contents.ReadRep (big_number 4 rest) (drop 4 rest),
   record {
     read = refl;
     kind = refl;
     text = field_4 rest h (omega arith);
-    fits = (page_of c rest sound, omega (arith, length-drop 4 rest));
+    fits = λ sound. (page_of c rest sound, omega (arith, length-drop 4 rest));
   },
 )
-content_spelled c kinds.WriteRep rest h some len sound =
+content_spelled c kinds.WriteRep rest h some len =
     let copies : ℕ = big_number 4 (drop 4 rest) in
-    let p = both (ltb (big_number 4 rest) c.pages) (ltb copies (2 ^ c.nodes)) sound in
     let second : drop 4 rest ≡ big_bytes 4 copies ++ drop 8 rest =
     field_4 (drop 4 rest) (IsBytes-drop 4 rest h) (omega (arith, length-drop 4 rest))
     ∙ ap (λ (t : List ℕ). big_bytes 4 copies ++ t) (drop-drop 4 4 rest) in (
@@ -107,41 +106,39 @@ content_spelled c kinds.WriteRep rest h some len sound =
         kind = refl;
         text = field_4 rest h (omega arith)
             ∙ ap (λ (t : List ℕ). big_bytes 4 (big_number 4 rest) ++ t) second;
-        fits = (
-          page_of c rest p.0,
-          below copies (2 ^ c.nodes) p.1,
-          omega (arith, length-drop 8 rest),
-        );
+        fits = λ sound.
+            let p = both (ltb (big_number 4 rest) c.pages) (ltb copies (2 ^ c.nodes)) sound in
+            (page_of c rest p.0, below copies (2 ^ c.nodes) p.1, omega (arith, length-drop 8 rest));
       },
     )
-content_spelled c kinds.Inval rest h some len sound = (
+content_spelled c kinds.Inval rest h some len = (
   contents.Inval (big_number 4 rest),
   record {
     read = refl;
     kind = refl;
     text = only_4 rest h (omega arith);
-    fits = page_of c rest sound;
+    fits = λ sound. page_of c rest sound;
   },
 )
-content_spelled c kinds.InvalAck rest h some len sound = (
+content_spelled c kinds.InvalAck rest h some len = (
   contents.InvalAck (big_number 4 rest),
   record {
     read = refl;
     kind = refl;
     text = only_4 rest h (omega arith);
-    fits = page_of c rest sound;
+    fits = λ sound. page_of c rest sound;
   },
 )
-content_spelled c kinds.AllocReq rest h some len sound = (
+content_spelled c kinds.AllocReq rest h some len = (
   contents.AllocReq (big_number 8 rest),
   record {
     read = refl;
     kind = refl;
     text = only_8 rest h (omega arith);
-    fits = big_from-lt 0 8 rest h;
+    fits = λ sound. big_from-lt 0 8 rest h;
   },
 )
-content_spelled c kinds.AllocRep rest h some len sound =
+content_spelled c kinds.AllocRep rest h some len =
     let tail = IsBytes-drop 1 rest h in (
       contents.AllocRep (get_or rest 0 0) (big_number 8 (drop 1 rest)),
       record {
@@ -150,26 +147,26 @@ content_spelled c kinds.AllocRep rest h some len sound =
         text = field_1 rest (omega arith)
             ∙ ap (λ (t : List ℕ). get_or rest 0 0 ∷ t)
             (only_8 (drop 1 rest) tail (omega (arith, length-drop 1 rest)));
-        fits = reply_fits (get_or rest 0 0) (big_number 8 (drop 1 rest))
+        fits = λ sound. reply_fits (get_or rest 0 0) (big_number 8 (drop 1 rest))
             (big_from-lt 0 8 (drop 1 rest) tail) sound;
       },
     )
-content_spelled c kinds.FreeReq rest h some len sound = (
+content_spelled c kinds.FreeReq rest h some len = (
   contents.FreeReq (big_number 8 rest),
   record {
     read = refl;
     kind = refl;
     text = only_8 rest h (omega arith);
-    fits = big_from-lt 0 8 rest h;
+    fits = λ sound. big_from-lt 0 8 rest h;
   },
 )
-content_spelled c kinds.FreeRep rest h some len sound = (
+content_spelled c kinds.FreeRep rest h some len = (
   contents.FreeRep (get_or rest 0 0),
   record {
     read = refl;
     kind = refl;
     text = only_1 rest (omega arith);
-    fits = freed_fits (get_or rest 0 0) sound;
+    fits = λ sound. freed_fits (get_or rest 0 0) sound;
   },
 )
 

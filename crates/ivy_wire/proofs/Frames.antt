@@ -20,24 +20,11 @@ use Rattle.ivy_wire.specs.Data.{Message}
 use Rattle.ivy_wire.specs.Data.{Frame}
 use Rattle.ivy_wire.specs.Lengths.{frame_version}
 use Rattle.ivy_wire.specs.Spelling.{code_of, kind_of, frame_kind, content_text, message_text, spelling, text_len, FitsMessage, Fits, Spells}
-use Rattle.ivy_wire.specs.DecodeErrors.{kind_byte, source_at, dest_at, len_at, frame_number_at, ack_at, text_at, kind_at, is_sound_content, is_sound_text, checked_in, checked_kind, checked}
+use Rattle.ivy_wire.specs.DecodeErrors.{kind_byte, source_at, dest_at, len_at, frame_number_at, ack_at, text_at, kind_at, is_sound_content, is_sound_text, checked_in, checked_kind, checked, HasHead}
 use Rattle.ivy_wire.specs.Reading.{content_at, message_at, frame_at}
 use Rattle.ivy_model.proofs.Limits.{page_has_words}
 use Rattle.ivy_wire.proofs.Fields.{IsBytes, IsBytes-drop, field_1, field_2, field_8}
 use Rattle.ivy_wire.proofs.Contents.{both, content_spelled, content_again}
-
--- what the tests ask of a string of this kind
-pub record IsSound (c : Config) (kind : FrameKind) (bytes : List ℕ) : Type 0 where
-  pub long : 24 ≤ length bytes
-  pub magic : (get_or bytes 0 0 ≡ 73) × (get_or bytes 1 0 ≡ 86)
-  pub version : get_or bytes 2 0 ≡ frame_version
-  pub known : kind_at (kind_byte bytes) ≡ Some kind
-  pub source : source_at bytes < c.nodes
-  pub dest : dest_at bytes < c.nodes
-  pub apart : source_at bytes ≢ dest_at bytes
-  pub len : length bytes ≡ 24 + len_at bytes
-  pub text_len : len_at bytes ≡ text_len c kind
-  pub text : is_sound_text c kind (frame_number_at bytes) (text_at bytes) ≡ true
 
 guard : {A : Type 0} (b : Bool) (d : Fault) (r : Result A Fault) (y : A) → cond b (Err d) r ≡ Ok y
     → (b ≡ false) × (r ≡ Ok y)
@@ -61,16 +48,15 @@ flipped : (b : Bool) → not b ≡ false → b ≡ true
 flipped true e = refl
 flipped false e = absurd cc
 
-record IsSoundIn (c : Config) (kind : FrameKind) (bytes : List ℕ) : Type 0 where
+record HasHeadIn (c : Config) (kind : FrameKind) (bytes : List ℕ) : Type 0 where
   source : source_at bytes < c.nodes
   dest : dest_at bytes < c.nodes
   apart : source_at bytes ≢ dest_at bytes
   len : length bytes ≡ 24 + len_at bytes
   text_len : len_at bytes ≡ text_len c kind
-  text : is_sound_text c kind (frame_number_at bytes) (text_at bytes) ≡ true
 
 sound_in : (c : Config) (kind k : FrameKind) (bytes : List ℕ) → checked_in c kind bytes ≡ Ok k
-    → (kind ≡ k) × IsSoundIn c kind bytes
+    → (kind ≡ k) × HasHeadIn c kind bytes
 unfolding checked_in
 sound_in c kind k bytes e =
     let g1 =
@@ -95,20 +81,20 @@ sound_in c kind k bytes e =
         text_len =
             eqb-true (len_at bytes) (text_len c kind)
             (flipped (eqb (len_at bytes) (text_len c kind)) g3.0);
-        text = g4.0;
       },
     )
 
 sound_kind : (c : Config) (o : Option FrameKind) (k : FrameKind) (bytes : List ℕ)
-    → checked_kind c o bytes ≡ Ok k → (o ≡ Some k) × IsSoundIn c k bytes
+    → checked_kind c o bytes ≡ Ok k → (o ≡ Some k) × HasHeadIn c k bytes
 unfolding checked_kind
 sound_kind c None k bytes e = absurd cc
 sound_kind c (Some kind) k bytes e =
     let p = sound_in c kind k bytes e in
-    (ap Some p.0, subst (λ x. IsSoundIn c x bytes) p.0 p.1)
+    (ap Some p.0, subst (λ x. HasHeadIn c x bytes) p.0 p.1)
 
+-- what passes all tests has a right head
 pub sound_checked : (c : Config) (k : FrameKind) (bytes : List ℕ) → checked c bytes ≡ Ok k
-    → IsSound c k bytes
+    → HasHead c k bytes
 unfolding checked
 sound_checked c k bytes e =
     let g1 = guard (ltb (length bytes) 24) ShortFrame _ k e in
@@ -130,7 +116,6 @@ sound_checked c k bytes e =
       apart = p.1.apart;
       len = p.1.len;
       text_len = p.1.text_len;
-      text = p.1.text;
     }
 
 -- a test that refuses for another fault leaves the question to the tests after it
@@ -175,23 +160,28 @@ never_memory c bytes e =
     let p4 = pass (not (eqb (get_or bytes 2 0) frame_version)) BadVersion _ (λ n. cc) p3 in
     kind_never_memory c (kind_at (kind_byte bytes)) bytes p4
 
-checked_in_again : (c : Config) (kind : FrameKind) (bytes : List ℕ) → IsSound c kind bytes
-    → checked_in c kind bytes ≡ Ok kind
+-- the test of number and body, the last one
+abbrev text_checked : Config → FrameKind → List ℕ → Result FrameKind Fault
+text_checked c kind bytes =
+    cond (is_sound_text c kind (frame_number_at bytes) (text_at bytes)) (Ok kind) (Err BadBody)
+
+last_in : (c : Config) (kind : FrameKind) (bytes : List ℕ) → HasHead c kind bytes
+    → checked_in c kind bytes ≡ text_checked c kind bytes
 unfolding checked_in
-checked_in_again c kind bytes s =
+last_in c kind bytes s =
     rw (
       lt-leb c.nodes (source_at bytes) s.source,
       lt-leb c.nodes (dest_at bytes) s.dest,
       ne_eqb (source_at bytes) (dest_at bytes) s.apart,
       eq-eqb (length bytes) (24 + len_at bytes) s.len,
       eq-eqb (len_at bytes) (text_len c kind) s.text_len,
-      s.text,
     ) refl
 
-pub checked_again : (c : Config) (kind : FrameKind) (bytes : List ℕ) → IsSound c kind bytes
-    → checked c bytes ≡ Ok kind
+-- where the head is right, that test alone is left
+last_left : (c : Config) (kind : FrameKind) (bytes : List ℕ) → HasHead c kind bytes
+    → checked c bytes ≡ text_checked c kind bytes
 unfolding checked checked_kind
-checked_again c kind bytes s =
+last_left c kind bytes s =
     let e = s.len in
     rw (
       le-ltb (length bytes) 24 s.long,
@@ -200,44 +190,36 @@ checked_again c kind bytes s =
       s.magic.1,
       s.version,
       s.known,
-    ) (checked_in_again c kind bytes s)
+    ) (last_in c kind bytes s)
 
--- ---- from a sound string to its frame
+-- ---- from a string whose head is right to its frame
 
--- the message of a text that is sound
-pub record HasMessage (c : Config) (k : FrameKind) (number : ℕ) (text : List ℕ)
+-- the message of a text; it fits where the test of number and text passed
+pub record HasMessage (c : Config) (k : FrameKind) (number : ℕ) (text : List ℕ) (sound : Bool)
     (message : Option Message) : Type 0 where
   pub read : message_at k text ≡ message
   pub kind : frame_kind message ≡ k
   pub spelled : text ≡ message_text message
-  pub fits : MatchOption message (number ≡ 0) (λ m. (1 ≤ number) × FitsMessage c m)
+  pub fits : sound ≡ true
+      → MatchOption message (number ≡ 0) (λ m. (1 ≤ number) × FitsMessage c m)
 
 pub no_text : (text : List ℕ) → length text ≡ 0 → text ≡ []
 no_text [] e = refl
 no_text (x ∷ xs) e = absurd (omega arith)
 
+abbrev is_sound : Config → FrameKind → ℕ → List ℕ → Bool
+is_sound c kind number text =
+    not (eqb number 0)
+    && (ltb (get_or text 0 0) c.nodes
+    && (not (eqb (big_number 8 (drop 1 text)) 0) && is_sound_content c kind (drop 9 text)))
+
 some_message : (c : Config) (kind : FrameKind) (number : ℕ) (text : List ℕ) → IsBytes text
     → (kind ≡ kinds.Ack → ⊥) → 10 ≤ length text → length text ≡ text_len c kind
-    → not (eqb number 0)
-    && (ltb (get_or text 0 0) c.nodes
-    && (not (eqb (big_number 8 (drop 1 text)) 0) && is_sound_content c kind (drop 9 text))) ≡ true
-    → (m : Option Message) × HasMessage c kind number text m
+    → (m : Option Message) × HasMessage c kind number text (is_sound c kind number text) m
 unfolding message_at
-some_message c kind number text h other long len sound =
-    let p = both (not (eqb number 0))
-    (ltb (get_or text 0 0) c.nodes
-    && (not (eqb (big_number 8 (drop 1 text)) 0) && is_sound_content c kind (drop 9 text)))
-    sound in
-    let q = both (ltb (get_or text 0 0) c.nodes)
-    (not (eqb (big_number 8 (drop 1 text)) 0) && is_sound_content c kind (drop 9 text)) p.1 in
-    let r = both (not (eqb (big_number 8 (drop 1 text)) 0)) (is_sound_content c kind (drop 9 text))
-    q.1 in
+some_message c kind number text h other long len =
     let b = content_spelled c kind (drop 9 text) (IsBytes-drop 9 text h) other
-    (omega (arith, length-drop 9 text)) r.1 in
-    let counted = eqb-false number 0 (unflipped (eqb number 0) p.0) in
-    let called =
-    eqb-false (big_number 8 (drop 1 text)) 0
-    (unflipped (eqb (big_number 8 (drop 1 text)) 0) r.0) in
+    (omega (arith, length-drop 9 text)) in
     let rest : drop 8 (drop 1 text) ≡ content_text b.0 = drop-drop 8 1 text ∙ b.1.text in (
       Some (record { origin = get_or text 0 0; call = big_number 8 (drop 1 text); content = b.0 }),
       record {
@@ -254,33 +236,46 @@ some_message c kind number text h other long len sound =
             ∙ ap (λ (t : List ℕ). get_or text 0 0 ∷ t)
             (field_8 (drop 1 text) (IsBytes-drop 1 text h) (omega (arith, length-drop 1 text))
             ∙ ap (λ (t : List ℕ). big_bytes 8 (big_number 8 (drop 1 text)) ++ t) rest);
-        fits = (
-          omega (arith, counted),
-          record {
-            origin = ltb-true (get_or text 0 0) c.nodes q.0;
-            call_from = omega (arith, called);
-            call_to = big_from-lt 0 8 (drop 1 text) (IsBytes-drop 1 text h);
-            content = b.1.fits;
-          },
-        );
+        fits = λ sound.
+            let p = both (not (eqb number 0))
+            (ltb (get_or text 0 0) c.nodes
+            && (not (eqb (big_number 8 (drop 1 text)) 0)
+            && is_sound_content c kind (drop 9 text))) sound in
+            let q = both (ltb (get_or text 0 0) c.nodes)
+            (not (eqb (big_number 8 (drop 1 text)) 0) && is_sound_content c kind (drop 9 text))
+            p.1 in
+            let r = both (not (eqb (big_number 8 (drop 1 text)) 0))
+            (is_sound_content c kind (drop 9 text)) q.1 in
+            let counted = eqb-false number 0 (unflipped (eqb number 0) p.0) in
+            let called =
+            eqb-false (big_number 8 (drop 1 text)) 0
+            (unflipped (eqb (big_number 8 (drop 1 text)) 0) r.0) in (
+              omega (arith, counted),
+              record {
+                origin = ltb-true (get_or text 0 0) c.nodes q.0;
+                call_from = omega (arith, called);
+                call_to = big_from-lt 0 8 (drop 1 text) (IsBytes-drop 1 text h);
+                content = b.1.fits r.1;
+              },
+            );
       },
     )
 
 message_spelled : (c : Config) (kind : FrameKind) (number : ℕ) (text : List ℕ) → IsBytes text
-    → length text ≡ text_len c kind → is_sound_text c kind number text ≡ true
-    → (m : Option Message) × HasMessage c kind number text m
+    → length text ≡ text_len c kind
+    → (m : Option Message) × HasMessage c kind number text (is_sound_text c kind number text) m
 unfolding message_at content_at is_sound_text
-message_spelled c kinds.Ack number text h len sound = (
+message_spelled c kinds.Ack number text h len = (
   None,
   record {
     read = refl;
     kind = refl;
     spelled = no_text text len;
-    fits = eqb-true number 0 sound;
+    fits = λ sound. eqb-true number 0 sound;
   },
 )
-message_spelled c kind number text h len sound =
-    some_message c kind number text h (λ e. cc) (omega arith) len sound
+message_spelled c kind number text h len =
+    some_message c kind number text h (λ e. cc) (omega arith) len
 
 kind_code : (n : ℕ) (k : FrameKind) → kind_at n ≡ Some k → n ≡ code_of k
 unfolding kind_at
@@ -386,11 +381,12 @@ respelled bytes a b v k len text =
     ++ (big_bytes 8 (frame_number_at bytes) ++ (big_bytes 8 (ack_at bytes) ++ text)))
 
 spelled_so : (c : Config) (kind : FrameKind) (bytes : List ℕ) (m : Option Message) → IsBytes bytes
-    → IsSound c kind bytes → HasMessage c kind (frame_number_at bytes) (text_at bytes) m
+    → HasHead c kind bytes → (sound : Bool)
+    → HasMessage c kind (frame_number_at bytes) (text_at bytes) sound m
     → length (text_at bytes) ≡ len_at bytes
     → bytes ≡ respelled bytes 73 86 frame_version (code_of (frame_kind m)) (length (message_text m))
     (message_text m)
-spelled_so c kind bytes m h s has len =
+spelled_so c kind bytes m h s sound has len =
     let e1 : get_or bytes 3 0 ≡ code_of (frame_kind m) =
     kind_code (get_or bytes 3 0) kind s.known ∙ ap code_of (sym has.kind) in
     let e2 : len_at bytes ≡ length (message_text m) = sym len ∙ ap length has.spelled in
@@ -406,33 +402,59 @@ spelled_so c kind bytes m h s has len =
     (length (message_text m)) x)
     has.spelled
 
--- a sound string spells the frame in it
-pub frame_spelled : (c : Config) (kind : FrameKind) (bytes : List ℕ) → IsBytes bytes
-    → IsSound c kind bytes → Spells c (frame_at kind bytes) bytes
+-- the bytes are the spelling of the frame in them, which fits where the last test passes
+record IsSpelling (c : Config) (bytes : List ℕ) (sound : Bool) (f : Frame) : Type 0 where
+  text : bytes ≡ spelling f
+  fits : sound ≡ true → Fits c f
+
+head_spells : (c : Config) (kind : FrameKind) (bytes : List ℕ) → IsBytes bytes
+    → HasHead c kind bytes
+    → IsSpelling c bytes (is_sound_text c kind (frame_number_at bytes) (text_at bytes))
+    (frame_at kind bytes)
 unfolding frame_at
-frame_spelled c kind bytes h s =
+head_spells c kind bytes h s =
+    let sound = is_sound_text c kind (frame_number_at bytes) (text_at bytes) in
     let text_len_is : length (text_at bytes) ≡ len_at bytes = text_rest bytes s.len in
     let m = message_spelled c kind (frame_number_at bytes) (text_at bytes) (text_bytes bytes h)
-    (text_len_is ∙ s.text_len) s.text in
-    let whole = spelled_so c kind bytes m.0 h s m.1 text_len_is in
-    subst (λ x. Spells c
+    (text_len_is ∙ s.text_len) in
+    let whole = spelled_so c kind bytes m.0 h s _ m.1 text_len_is in
+    subst (λ x. IsSpelling c bytes sound
     (record {
       source = source_at bytes;
       dest = dest_at bytes;
       number = frame_number_at bytes;
       ack = ack_at bytes;
       body = x;
-    }) bytes) (sym m.1.read) (record {
-      fits = record {
-        source = s.source;
-        dest = s.dest;
-        apart = s.apart;
-        number = number_small bytes h;
-        ack = ack_small bytes h;
-        body = m.1.fits;
-      };
+    })) (sym m.1.read) (record {
       text = whole;
+      fits = λ passed.
+          record {
+            source = s.source;
+            dest = s.dest;
+            apart = s.apart;
+            number = number_small bytes h;
+            ack = ack_small bytes h;
+            body = m.1.fits passed;
+          };
     })
+
+-- a string whose head is right spells the frame in it, where that fits
+pub frame_spelled : (c : Config) (kind : FrameKind) (bytes : List ℕ) → IsBytes bytes
+    → HasHead c kind bytes → Fits c (frame_at kind bytes) → Spells c (frame_at kind bytes) bytes
+frame_spelled c kind bytes h s fits =
+    record { fits = fits; text = (head_spells c kind bytes h s).text }
+
+not_passed : {A : Type 0} (b : Bool) (x y : A) → (b ≡ true → ⊥) → cond b x y ≡ y
+not_passed true x y fails = absurd (fails refl)
+not_passed false x y fails = refl
+
+-- and is refused for its body where it does not
+pub unfit_refused : (c : Config) (kind : FrameKind) (bytes : List ℕ) → IsBytes bytes
+    → HasHead c kind bytes → (Fits c (frame_at kind bytes) → ⊥) → checked c bytes ≡ Err BadBody
+unfit_refused c kind bytes h s unfit =
+    last_left c kind bytes s
+    ∙ not_passed (is_sound_text c kind (frame_number_at bytes) (text_at bytes)) (Ok kind)
+    (Err BadBody) (λ passed. unfit ((head_spells c kind bytes h s).fits passed))
 
 -- ---- from a frame to its spelling, and back
 
@@ -469,10 +491,15 @@ message_again c number (Some m) limits fits =
       len = omega (arith, b.len);
     }
 
-pub sound_spelling : (c : Config) (f : Frame) → IsConfig c → Fits c f
-    → IsSound c (frame_kind f.body) (spelling f) × (frame_at (frame_kind f.body) (spelling f) ≡ f)
+-- what is spelled has a right head and passes the last test, and the frame in it is the one spelled
+pub record IsRead (c : Config) (f : Frame) (bytes : List ℕ) : Type 0 where
+  pub head : HasHead c (frame_kind f.body) bytes
+  pub text : is_sound_text c (frame_kind f.body) (frame_number_at bytes) (text_at bytes) ≡ true
+  pub frame : frame_at (frame_kind f.body) bytes ≡ f
+
+pub spelling_read : (c : Config) (f : Frame) → IsConfig c → Fits c f → IsRead c f (spelling f)
 unfolding len_at frame_number_at ack_at text_at frame_at
-sound_spelling c f limits fits =
+spelling_read c f limits fits =
     let m = message_again c f.number f.body limits fits.body in
     let text = message_text f.body in
     let small = text_small c (frame_kind f.body) limits in
@@ -484,8 +511,9 @@ sound_spelling c f limits fits =
     let number : big_number 8 (big_bytes 8 f.number ++ (big_bytes 8 f.ack ++ text)) ≡ f.number =
     big_number-reads_back 8 f.number (big_bytes 8 f.ack ++ text) fits.number in
     let ack : big_number 8 (big_bytes 8 f.ack ++ text) ≡ f.ack =
-    big_number-reads_back 8 f.ack text fits.ack in (
-      record {
+    big_number-reads_back 8 f.ack text fits.ack in
+    record {
+      head = record {
         long = omega arith;
         magic = (refl, refl);
         version = refl;
@@ -495,18 +523,24 @@ sound_spelling c f limits fits =
         apart = fits.apart;
         len = omega (arith, len);
         text_len = len ∙ m.len;
-        text = ap (λ n. is_sound_text c (frame_kind f.body) n text) number ∙ m.sound;
-      },
-      rw (number, ack, m.read) refl,
-    )
+      };
+      text = ap (λ n. is_sound_text c (frame_kind f.body) n text) number ∙ m.sound;
+      frame = rw (number, ack, m.read) refl;
+    }
 
--- what is spelled passes the tests, and the frame in it is the one that was spelled
+pub spelled_read : (c : Config) (f : Frame) (bytes : List ℕ) → IsConfig c → Spells c f bytes
+    → IsRead c f bytes
+spelled_read c f bytes limits s =
+    subst (IsRead c f) (sym s.text) (spelling_read c f limits s.fits)
+
+-- it passes all tests
 pub spelled_once : (c : Config) (f : Frame) (bytes : List ℕ) → IsConfig c → Spells c f bytes
     → (checked c bytes ≡ Ok (frame_kind f.body)) × (frame_at (frame_kind f.body) bytes ≡ f)
 spelled_once c f bytes limits s =
-    let p = sound_spelling c f limits s.fits in (
-      ap (checked c) s.text ∙ checked_again c (frame_kind f.body) (spelling f) p.0,
-      ap (frame_at (frame_kind f.body)) s.text ∙ p.1,
+    let r = spelled_read c f bytes limits s in (
+      last_left c (frame_kind f.body) bytes r.head
+          ∙ ap (λ b. cond b (Ok (frame_kind f.body)) (Err BadBody)) r.text,
+      r.frame,
     )
 
 -- what stands in the head of a string that spells a frame
@@ -532,12 +566,6 @@ head_spelled c f bytes number ack s is owed = (
   owed ∙ ap ack_at s.text ∙ ack_spelled c f s.fits,
 )
 
--- and its message
-pub spelled_sound : (c : Config) (f : Frame) (bytes : List ℕ) → IsConfig c → Spells c f bytes
-    → IsSound c (frame_kind f.body) bytes
-spelled_sound c f bytes limits s =
-    sound_checked c (frame_kind f.body) bytes (spelled_once c f bytes limits s).0
-
 same_kind : (x y : FrameKind) → (let o : Option FrameKind = Some x in o) ≡ Some y → x ≡ y
 same_kind x y e = cc
 
@@ -545,8 +573,9 @@ pub kind_spelled : (c : Config) (f : Frame) (bytes : List ℕ) → IsConfig c �
     → (o : Option FrameKind) (kind : FrameKind) → o ≡ Some kind → o ≡ kind_at (kind_byte bytes)
     → kind ≡ frame_kind f.body
 kind_spelled c f bytes limits s o kind is at =
-    same_kind kind (frame_kind f.body) (sym is ∙ at ∙ (spelled_sound c f bytes limits s).known)
+    same_kind kind (frame_kind f.body) (sym is ∙ at ∙ (spelled_read c f bytes limits s).head.known)
 
+-- and its message
 pub message_spelled_in : (c : Config) (f : Frame) (bytes : List ℕ) → IsConfig c
     → (s : Spells c f bytes) → message_at (frame_kind f.body) (text_at bytes) ≡ f.body
 unfolding frame_at

@@ -7,7 +7,7 @@ use Rattle.ivy_wire.specs.Data.{Content, Message, Frame}
 use Rattle.ivy_wire.specs.declared.frame.Content.TheVariants as contents
 use Rattle.ivy_wire.specs.Spelling.{content_text, message_text, text_len, frame_kind, Fits}
 use Rattle.ivy_wire.specs.Heads.{content_head, content_page, body_head, body_page}
-use Rattle.ivy_wire.proofs.Frames.{sound_spelling}
+use Rattle.ivy_wire.proofs.Frames.{spelling_read}
 
 content_parts : (b : Content) → content_head b ++ content_page b ≡ content_text b
 content_parts (contents.ReadReq page) = refl
@@ -47,4 +47,4 @@ body_few (Some m) = let few = content_few m.content in omega arith
 pub body_len : (c : Config) (f : Frame) → IsConfig c → Fits c f
     → length (message_text f.body) ≡ text_len c (frame_kind f.body)
 body_len c f limits fits =
-    let s = (sound_spelling c f limits fits).0 in omega (arith, s.len, s.text_len)
+    let s = (spelling_read c f limits fits).head in omega (arith, s.len, s.text_len)

@@ -7,7 +7,7 @@ use Rattle.ivy_wire.specs.Spelling.{frame_kind, spelling, Spells}
 use Rattle.ivy_wire.specs.DecodeErrors.{len_at}
 use Rattle.ivy_wire.specs.Reading.{frame_at}
 use Rattle.ivy_wire.specs.Grammar.{HasOneSpelling, SpellsAtMostOne, NoneBeginsAnother}
-use Rattle.ivy_wire.proofs.Frames.{sound_checked, spelled_once, no_text}
+use Rattle.ivy_wire.proofs.Frames.{spelled_once, spelled_read, no_text}
 
 pub has_one_spelling : HasOneSpelling
 has_one_spelling c f fits = (spelling f, record { fits = fits; text = refl }, λ other s. s.text)
@@ -38,9 +38,8 @@ len_before (a ∷ b ∷ c ∷ d ∷ e ∷ f ∷ g ∷ h ∷ rest) more long = re
 
 pub none_begins_another : NoneBeginsAnother
 none_begins_another c f g bytes more limits sf sg =
-    let a = sound_checked c (frame_kind f.body) bytes (spelled_once c f bytes limits sf).0 in
-    let b = sound_checked c (frame_kind g.body) (bytes ++ more)
-    (spelled_once c g (bytes ++ more) limits sg).0 in
+    let a = (spelled_read c f bytes limits sf).head in
+    let b = (spelled_read c g (bytes ++ more) limits sg).head in
     let none : more ≡ [] =
     no_text more
     (omega (arith, a.len, b.len, len_before bytes more a.long, length-append bytes more)) in (

@@ -1,5 +1,5 @@
 //! From bytes to a frame.
-ghost use Rattle.std.specs.Prelude.{◌≡◌, ℕ, ◌+◌, ◌<◌, ◌≤◌, ◌↔◌, List, length, drop, Some, None, option_map, IsTrue, IfNone, IfOk, IsOk, IsOkAnd, MatchResult, MatchOption, IsOkUnless};
+ghost use Rattle.std.specs.Prelude.{◌≡◌, ℕ, ◌+◌, ◌<◌, ◌≤◌, ◌↔◌, List, length, drop, Some, None, option_map, IsTrue, IfNone, IfOk, IfErr, IsOk, IsOkAnd, MatchResult, MatchOption, IsOkUnless};
 ghost use Rattle.ivy_model.specs.Config.{IsConfig};
 ghost use Rattle.ivy_wire.specs.Lengths.{header_len, call_len};
 ghost use Rattle.ivy_wire.specs.Spelling.{text_len, Spells};
@@ -8,7 +8,7 @@ ghost use Rattle.ivy_wire.specs.Reading.{content_at, message_at, frame_at};
 ghost use Rattle.ivy_wire.specs.Destinations.{dest_of, IsDestination};
 ghost use Rattle.ivy_wire.specs.Lent.{head_of, owned_content, owned_body, owned_frame};
 ghost use Rattle.ivy_model.specs.declared.Config.{Config};
-ghost use Rattle.ivy_wire.specs.DecodeErrors.{kind_at, is_sound_content, is_sound_text, checked_in, checked, len_at, frame_number_at, ack_at, text_at};
+ghost use Rattle.ivy_wire.specs.DecodeErrors.{kind_at, HasHead, checked, len_at, frame_number_at, ack_at, text_at};
 
 use crate::frame::{CALL_LEN, Content, Frame, FrameKind, HEADER_LEN, KINDS, Message, VERSION};
 use crate::page::Page;
@@ -33,47 +33,6 @@ fn kind_at(code: u8) -> Option<FrameKind>
     ensures { result ≡ kind_at code }
 {
     KINDS.get(usize::from(code)).copied()
-}
-
-#[tactic(auto, unfolding(crate::specs::DecodeErrors::is_sound_content))]
-fn is_sound_content(config: &Config, kind: FrameKind, rest: &[u8]) -> bool
-    requires limits { IsConfig config.now }
-    requires len { call_len + length rest.now ≡ text_len config.now kind }
-    ensures { result ≡ is_sound_content config.now kind rest.now }
-{
-    match kind {
-        FrameKind::Ack | FrameKind::AllocReq | FrameKind::FreeReq => true,
-        FrameKind::ReadReq
-        | FrameKind::WriteReq
-        | FrameKind::ReadRep
-        | FrameKind::Inval
-        | FrameKind::InvalAck => BigEndian::read_u32(rest) < config.pages,
-        FrameKind::WriteRep => {
-            BigEndian::read_u32(rest) < config.pages
-                && u64::from(BigEndian::read_u32(&rest[4..])) < 1 << config.nodes
-        }
-        FrameKind::AllocRep => {
-            rest[0] == 0
-                || ((rest[0] == Fault::ZeroSize.number() || rest[0] == Fault::NoRoom.number())
-                    && BigEndian::read_u64(&rest[1..]) == 0)
-        }
-        FrameKind::FreeRep => rest[0] == 0 || rest[0] == Fault::NotABlock.number(),
-    }
-}
-
-#[tactic(auto, unfolding(crate::specs::DecodeErrors::is_sound_text))]
-fn is_sound_text(config: &Config, kind: FrameKind, number: u64, text: &[u8]) -> bool
-    requires limits { IsConfig config.now }
-    requires len { length text.now ≡ text_len config.now kind }
-    ensures { result ≡ is_sound_text config.now kind number text.now }
-{
-    if kind.code() == 0 {
-        return number == 0;
-    }
-    number != 0
-        && text[0] < config.nodes
-        && BigEndian::read_u64(&text[1..]) != 0
-        && is_sound_content(config, kind, &text[CALL_LEN..])
 }
 
 #[tactic(auto, unfolding(crate::specs::DecodeErrors::len_at))]
@@ -109,42 +68,18 @@ fn text_at(bytes: &[u8]) -> &[u8]
     &bytes[HEADER_LEN..]
 }
 
-/// The tests of nodes, length and body, for a string of this kind that is long enough.
-#[tactic(auto, unfolding(crate::specs::DecodeErrors::checked_in))]
-fn checked_in(config: &Config, kind: FrameKind, bytes: &[u8]) -> Result<FrameKind, Fault>
-    requires limits { IsConfig config.now }
-    requires len { header_len + len_at bytes.now ≤ length bytes.now }
-    ensures { result ≡ checked_in config.now kind bytes.now }
-{
-    let source = bytes[4];
-    let dest = bytes[5];
-    if source >= config.nodes || dest >= config.nodes || source == dest {
-        return Err(Fault::BadNode);
-    }
-    let len = len_at(bytes);
-    if bytes.len() != HEADER_LEN + usize::from(len) {
-        return Err(Fault::BadBody);
-    }
-    if len != kind.text_len(config) {
-        return Err(Fault::BadBody);
-    }
-    if is_sound_text(config, kind, frame_number_at(bytes), text_at(bytes)) {
-        Ok(kind)
-    } else {
-        Err(Fault::BadBody)
-    }
-}
-
-/// The kind of the frame, or what is wrong with the string.
-#[tactic(auto, unfolding(crate::specs::DecodeErrors::checked, crate::specs::DecodeErrors::checked_kind))]
-fn checked(config: &Config, bytes: &[u8]) -> Result<FrameKind, Fault>
+/// The kind of the frame, where all that comes before number and body is right. Else what is wrong.
+#[tactic(auto, unfolding(crate::specs::DecodeErrors::checked, crate::specs::DecodeErrors::checked_kind, crate::specs::DecodeErrors::checked_in))]
+fn checked_head(config: &Config, bytes: &[u8]) -> Result<FrameKind, Fault>
     requires { IsConfig config.now }
-    ensures { result ≡ checked config.now bytes.now }
+    ensures found { IfOk result (λ kind. HasHead config.now kind bytes.now) }
+    ensures fault { IfErr result (λ fault. checked config.now bytes.now ≡ Err fault) }
 {
     if bytes.len() < HEADER_LEN {
         return Err(Fault::ShortFrame);
     }
-    if bytes.len() < HEADER_LEN + usize::from(len_at(bytes)) {
+    let len = len_at(bytes);
+    if bytes.len() < HEADER_LEN + usize::from(len) {
         return Err(Fault::ShortFrame);
     }
     if bytes[0] != b'I' || bytes[1] != b'V' {
@@ -153,10 +88,18 @@ fn checked(config: &Config, bytes: &[u8]) -> Result<FrameKind, Fault>
     if bytes[2] != VERSION {
         return Err(Fault::BadVersion);
     }
-    match kind_at(bytes[3]) {
-        None => Err(Fault::BadKind),
-        Some(kind) => checked_in(config, kind, bytes),
+    let Some(kind) = kind_at(bytes[3]) else {
+        return Err(Fault::BadKind);
+    };
+    let source = bytes[4];
+    let dest = bytes[5];
+    if source >= config.nodes || dest >= config.nodes || source == dest {
+        return Err(Fault::BadNode);
     }
+    if bytes.len() != HEADER_LEN + usize::from(len) || len != kind.text_len(config) {
+        return Err(Fault::BadBody);
+    }
+    Ok(kind)
 }
 
 #[tactic(auto, unfolding(crate::specs::Reading::content_at))]
@@ -274,8 +217,13 @@ pub fn read<'a>(config: &Config, bytes: &'a [u8]) -> Result<Frame<&'a [u8]>, Fau
     // A string that spells none is refused with the first test that it fails.
     ensures fault { MatchResult (checked config.now bytes.now) (λ _. IsOk result) (λ e. result ≡ Err e) }
 {
-    let kind = checked(config, bytes)?;
-    Ok(frame_at(config, kind, bytes))
+    let kind = checked_head(config, bytes)?;
+    let frame = frame_at(config, kind, bytes);
+    if frame.fits(config) {
+        Ok(frame)
+    } else {
+        Err(Fault::BadBody)
+    }
 }
 
 /// The frame that the whole string spells, with a copy of its page [1, 11 to 16].

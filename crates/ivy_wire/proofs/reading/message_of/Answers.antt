@@ -4,7 +4,7 @@ use Rattle.ivy_wire.specs.Reading.{message_at}
 use Rattle.ivy_wire.specs.DecodeErrors.{text_at}
 use Rattle.ivy_wire.specs.Data.{Frame}
 use Rattle.ivy_wire.specs.Spelling.{frame_kind, text_len, Spells}
-use Rattle.ivy_wire.proofs.Frames.{spelled_long, spelled_sound, kind_spelled, message_spelled_in}
+use Rattle.ivy_wire.proofs.Frames.{spelled_long, spelled_read, kind_spelled, message_spelled_in}
 use Rattle.ivy_wire.proofs.reading.message_of.Goals as goal
 
 pub bounds-bytes-3 : goal.bounds-bytes-3
@@ -26,7 +26,8 @@ module _ (c : goal.After-text_at) (f : Frame) (s : Spells c.args.config.now f c.
 pub message_at-requires-clause-len : goal.message_at-requires-clause-len
 message_at-requires-clause-len c =
     let f : Frame = c.requires.spelled.0 in
-    let s = spelled_sound c.args.config.now f c.args.bytes.now c.requires.limits c.requires.spelled.1 in
+    let s =
+    (spelled_read c.args.config.now f c.args.bytes.now c.requires.limits c.requires.spelled.1).head in
     let long = c.text_at.ensures.len in
     omega (
       arith,
@@ -52,4 +53,4 @@ pub returns-in_err-kind : goal.returns-in_err-kind
 returns-in_err-kind c = λ f s.
     absurd (no_kind (frame_kind f.body) c.kind_at.result c.in_err-kind.was
     (c.kind_at.ensures
-    ∙ (spelled_sound c.args.config.now f c.args.bytes.now c.requires.limits s).known))
+    ∙ (spelled_read c.args.config.now f c.args.bytes.now c.requires.limits s).head.known))

@@ -1,41 +1,61 @@
-use Rattle.std.proofs.Common.{◌≡◌, ap, sym, ◌∙◌, arith, Result, Ok, Err}
+use Rattle.std.proofs.Common.{◌≡◌, sym, subst, ◌∙◌, refl, arith, Result, Ok, Err, Bool, true, false}
 use Rattle.ivy_model.specs.declared.Fault.{Fault}
+use Rattle.ivy_model.specs.declared.Fault.TheVariants.{BadBody}
 use Rattle.ivy_wire.specs.declared.frame.FrameKind.{FrameKind}
-use Rattle.ivy_wire.specs.Spelling.{frame_kind}
-use Rattle.ivy_wire.specs.Reading.{frame_at}
-use Rattle.ivy_wire.proofs.Frames.{sound_checked, frame_spelled, spelled_once}
+use Rattle.ivy_wire.specs.DecodeErrors.{checked}
+use Rattle.ivy_wire.specs.Data.{Frame}
+use Rattle.ivy_wire.specs.Spelling.{frame_kind, Fits, Spells}
+use Rattle.ivy_wire.specs.Lent.{owned_frame}
+use Rattle.ivy_wire.proofs.Frames.{frame_spelled, unfit_refused, spelled_once}
+use Rattle.ivy_wire.proofs.Laws.{spells_at_most_one}
 use Rattle.ivy_wire.proofs.reading.read.Goals as goal
-
-ok_is : (x y : FrameKind) → (let r : Result FrameKind Fault = Ok x in r) ≡ Ok y → x ≡ y
-ok_is x y e = cc
 
 err_is_not_ok : (d : Fault) (y : FrameKind) → (let r : Result FrameKind Fault = Err d in r) ≡ Ok y
     → ⊥
 err_is_not_ok d y e = cc
 
-pub frame_at-requires-clause-len : goal.frame_at-requires-clause-len
-frame_at-requires-clause-len c =
-    let s = sound_checked c.args.config.now c.in_ok-kind.kind c.args.bytes.now
-    (sym c.in_ok-kind.ensures) in
-    omega (arith, s.len, s.text_len)
+no_truth : (let b : Bool = false in b) ≡ true → ⊥
+no_truth e = cc
 
-pub returns-clause-found : goal.returns-clause-found
-returns-clause-found c =
-    let s = sound_checked c.args.config.now c.in_ok-kind.kind c.args.bytes.now
-    (sym c.in_ok-kind.ensures) in
-    rw c.frame_at.ensures
+spelled : (c : goal.Then-fits)
+    → Spells c.args.config.now (owned_frame c.frame_at-frame.result) c.args.bytes.now
+spelled c =
+    subst (λ (f : Frame). Spells c.args.config.now f c.args.bytes.now) (sym c.frame_at-frame.ensures)
     (frame_spelled c.args.config.now c.in_ok-kind.kind c.args.bytes.now
-    (λ i. omega (arith, c.type_inv.bytes i)) s)
+    (λ i. omega (arith, c.type_inv.bytes i)) c.in_ok-kind.ensures.found
+    (subst (Fits c.args.config.now) c.frame_at-frame.ensures (c.if-fits.ensures.0 refl)))
 
-pub returns-clause-only : goal.returns-clause-only
-returns-clause-only c = λ frame spells.
-    let once = spelled_once c.args.config.now frame c.args.bytes.now c.requires.limits spells in
-    let same : c.in_ok-kind.kind ≡ frame_kind frame.body =
-    ok_is c.in_ok-kind.kind (frame_kind frame.body) (c.in_ok-kind.ensures ∙ once.0) in
-    c.frame_at.ensures ∙ ap (λ k. frame_at k c.args.bytes.now) same ∙ once.1
+pub returns-then-fits-clause-found : goal.returns-then-fits-clause-found
+returns-then-fits-clause-found c = spelled c
+
+pub returns-then-fits-clause-only : goal.returns-then-fits-clause-only
+returns-then-fits-clause-only c = λ frame spells.
+    spells_at_most_one c.args.config.now (owned_frame c.frame_at-frame.result) frame
+    c.args.bytes.now c.requires.limits (spelled c) spells
+
+pub returns-then-fits-clause-fault : goal.returns-then-fits-clause-fault
+returns-then-fits-clause-fault c =
+    rw (spelled_once c.args.config.now (owned_frame c.frame_at-frame.result) c.args.bytes.now
+    c.requires.limits (spelled c)).0 refl
+
+refused : (c : goal.Else-fits) → checked c.args.config.now c.args.bytes.now ≡ Err BadBody
+refused c =
+    unfit_refused c.args.config.now c.in_ok-kind.kind c.args.bytes.now
+    (λ i. omega (arith, c.type_inv.bytes i)) c.in_ok-kind.ensures.found
+    (λ fits. no_truth
+    (c.if-fits.ensures.1 (subst (Fits c.args.config.now) (sym c.frame_at-frame.ensures) fits)))
+
+pub returns-else-fits-clause-only : goal.returns-else-fits-clause-only
+returns-else-fits-clause-only c = λ frame spells.
+    err_is_not_ok BadBody (frame_kind frame.body)
+    (sym (refused c)
+    ∙ (spelled_once c.args.config.now frame c.args.bytes.now c.requires.limits spells).0)
+
+pub returns-else-fits-clause-fault : goal.returns-else-fits-clause-fault
+returns-else-fits-clause-fault c = rw (refused c) refl
 
 pub returns-in_err-kind-clause-only : goal.returns-in_err-kind-clause-only
 returns-in_err-kind-clause-only c = λ frame spells.
-    let once = spelled_once c.args.config.now frame c.args.bytes.now c.requires.limits spells in
     absurd (err_is_not_ok c.in_err-kind.field-0.0 (frame_kind frame.body)
-    (c.in_err-kind.ensures ∙ once.0))
+    (sym c.in_err-kind.ensures.fault
+    ∙ (spelled_once c.args.config.now frame c.args.bytes.now c.requires.limits spells).0))
