@@ -59,10 +59,11 @@ void ivy_leave(ivy_process *process);
 uint32_t ivy_call(ivy_process *process, uint32_t kind, uint32_t width, uint64_t place, uint64_t operand, uint64_t expected,
                   uint64_t *value);
 
-/* Lets what came in, where progress is made in calls. */
+/* Serves what has come in, where progress is made in calls. */
 void ivy_progress_now(ivy_process *process);
 
-/* The same, where a refusal is a mistake of the program: it ends with status 4 and a line on stderr. */
+/* Calls by kind, as ivy_call makes them, where a refusal is a mistake of the program: it ends with status 4 and a line
+ * on stderr. */
 uint64_t ivy_load(ivy_process *process, uint32_t width, uint64_t address);
 void ivy_store(ivy_process *process, uint32_t width, uint64_t address, uint64_t value);
 uint64_t ivy_swap(ivy_process *process, uint32_t width, uint64_t address, uint64_t value);

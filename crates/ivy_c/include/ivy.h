@@ -2,8 +2,9 @@
  *
  * A node starts no thread, takes no lock, reads no clock, opens no socket and keeps no global state. The program around
  * it, the driver, moves strings of bytes between the nodes, by any transport, and says when to send again. Each node
- * runs the proved code of Ivy: whatever a transport loses, repeats, reorders or forges, the replies of all nodes are
- * those of one flat memory, as long as each string that is delivered was made by one of the nodes.
+ * runs the proved code of Ivy: whatever a transport loses, repeats or reorders, the replies of all nodes are those of
+ * one flat memory, as long as each string that is delivered was made by one of the nodes. A forged string is safe to
+ * deliver, but may do what a peer may do.
  *
  * THE DRIVER OWES
  *   1. All nodes have one configuration. Frames do not name it, so compare it before the first frame.
