@@ -80,6 +80,7 @@ impl<A: Allocator> History<A> {
 
     /// Makes a place for one more record. Err only where the allocator has no memory, or there are 2^64 - 1 records.
     /// The records stay the same.
+    #[inline(always)]
     pub fn reserve(&mut self) -> Result<(), AllocError>
         ensures room { OnOk result (IsTrue self.new.has_room) }
         ensures records { self.new.records ≡ self.old.records }
@@ -95,6 +96,7 @@ impl<A: Allocator> History<A> {
     }
 
     /// One more record, in the place that [`History::reserve`] made.
+    #[inline(always)]
     pub fn push(&mut self, one: Record)
         requires { IsTrue self.old.has_room }
         ensures records { self.new.records ≡ self.old.records ++ one ∷ [] }

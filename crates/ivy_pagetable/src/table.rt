@@ -121,6 +121,7 @@ impl<A: Allocator> PageTable<A> {
     }
 
     /// The bytes of the page, to be written.
+    #[inline(always)]
     pub fn page_mut(&mut self, page: u32) -> &mut [u8]
         requires { page < length self.old.entries }
         ensures* writes_back { sem 𝓛 (LendsPage A.row A.Allocator self.entry page result) }

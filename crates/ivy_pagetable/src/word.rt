@@ -111,6 +111,7 @@ impl Word {
 
     /// Whether the word is written, and so needs the access to write; the others need the access
     /// to read.
+    #[inline(always)]
     pub fn needs_write(self) -> bool
         ensures { result ≡ needs_write self }
     {
@@ -125,6 +126,7 @@ impl Word {
     }
 
     /// Its number of bytes.
+    #[inline(always)]
     pub fn width(self) -> u8
         ensures { result ≡ width_of self }
     {
@@ -139,6 +141,7 @@ impl Word {
     }
 
     /// The place of its first byte in the page.
+    #[inline(always)]
     pub fn offset(self) -> u32
         ensures { result ≡ offset_of self }
     {
@@ -154,6 +157,7 @@ impl Word {
         }
     }
 
+    #[inline(always)]
     pub(crate) fn number(self, bytes: &[u8]) -> u64
         requires { IsWord (length bytes.now) self }
         ensures number { result ≡ number_at (width_of self) (offset_of self) bytes.now }
@@ -223,6 +227,7 @@ impl Word {
 
 const COUNT_WIDTH: u8 = 8;
 
+#[inline(always)]
 fn number_at(bytes: &[u8], width: u8, offset: u32) -> u64
     requires width { IsWidth width }
     requires within { offset + width ≤ length bytes.now }
@@ -236,6 +241,7 @@ fn number_at(bytes: &[u8], width: u8, offset: u32) -> u64
     BigEndian::read_uint(word, usize::from(width))
 }
 
+#[inline(always)]
 fn overwrite(bytes: &mut [u8], width: u8, offset: u32, value: u64)
     requires width { IsWidth width }
     requires within { offset + width ≤ length bytes.old }
