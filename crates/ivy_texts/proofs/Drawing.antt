@@ -7,8 +7,8 @@ use Rattle.rand_pcg.specs.Pcg.{pcg32}
 use Rattle.ivy_model.specs.declared.Config.{Config}
 use Rattle.ivy_model.specs.Config.{IsConfig}
 use Rattle.ivy_wire.specs.Data.{Frame}
-use Rattle.ivy_wire.specs.Spelling.{Spells, frame_kind}
-use Rattle.ivy_wire.proofs.Frames.{spelled_once, sound_checked}
+use Rattle.ivy_wire.specs.Spelling.{Spells}
+use Rattle.ivy_wire.proofs.Frames.{spelled_long}
 use Rattle.ivy_moves.specs.declared.Move.TheVariants.{Turn}
 use Rattle.ivy_texts.specs.Drawn.{drawn, drawn_by, delivery, pulse}
 
@@ -40,5 +40,5 @@ pub long_strings : (c : Config) (strings : List (List ℕ)) → IsConfig c
 long_strings c strings limits spelled =
     All-weaker (Contains strings) (λ (s : List ℕ). 24 ≤ length s) (λ s here.
     let f : (f : Frame) × Spells c f s = spelled s here in
-    (sound_checked c (frame_kind f.0.body) s (spelled_once c f.0 s limits f.1).0).long) strings
+    spelled_long c f.0 s f.1) strings
     (All-contains_itself strings)

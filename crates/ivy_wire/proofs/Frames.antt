@@ -5,7 +5,7 @@ use Rattle.std.proofs.Common.{drop, Option, Some, None, Result, Ok, Err, refl, s
 use Rattle.std.proofs.Common.{eq-eqb, ◌∙◌, arith}
 use Rattle.std.specs.Prelude.{MatchOption, option_map}
 use Rattle.std.proofs.lemmas.List.{length-drop, drop-drop}
-use Rattle.std.proofs.lemmas.Bool.{eqb-true, ltb-true, lt-ltb, eqb-false, ltb-false, leb-false, le-ltb, lt-leb, ne_eqb}
+use Rattle.std.proofs.lemmas.Bool.{eqb-true, ltb-true, lt-ltb, eqb-false, le-ltb, lt-leb, ne_eqb}
 use Rattle.byteorder.specs.Endian.{big_number, big_bytes}
 use Rattle.byteorder.specs.Numbers.{big_number-reads_back, big_from-lt}
 use Rattle.ivy_model.specs.declared.Config.{Config}
@@ -26,97 +26,9 @@ use Rattle.ivy_model.proofs.Limits.{page_has_words}
 use Rattle.ivy_wire.proofs.Fields.{IsBytes, IsBytes-drop, field_1, field_2, field_8}
 use Rattle.ivy_wire.proofs.Contents.{both, content_spelled, content_again}
 
-guard : {A : Type 0} (b : Bool) (d : Fault) (r : Result A Fault) (y : A) → cond b (Err d) r ≡ Ok y
-    → (b ≡ false) × (r ≡ Ok y)
-guard true d r y e = absurd cc
-guard false d r y e = (refl, e)
-
-last_guard : (b : Bool) (d : Fault) (x y : FrameKind) → cond b (Ok x) (Err d) ≡ Ok y
-    → (b ≡ true) × (x ≡ y)
-last_guard true d x y e = (refl, cc)
-last_guard false d x y e = absurd cc
-
-neither : (a b : Bool) → a || b ≡ false → (a ≡ false) × (b ≡ false)
-neither true b e = absurd cc
-neither false b e = (refl, e)
-
 unflipped : (b : Bool) → not b ≡ true → b ≡ false
 unflipped true e = absurd cc
 unflipped false e = refl
-
-flipped : (b : Bool) → not b ≡ false → b ≡ true
-flipped true e = refl
-flipped false e = absurd cc
-
-record HasHeadIn (c : Config) (kind : FrameKind) (bytes : List ℕ) : Type 0 where
-  source : source_at bytes < c.nodes
-  dest : dest_at bytes < c.nodes
-  apart : source_at bytes ≢ dest_at bytes
-  len : length bytes ≡ 24 + len_at bytes
-  text_len : len_at bytes ≡ text_len c kind
-
-sound_in : (c : Config) (kind k : FrameKind) (bytes : List ℕ) → checked_in c kind bytes ≡ Ok k
-    → (kind ≡ k) × HasHeadIn c kind bytes
-unfolding checked_in
-sound_in c kind k bytes e =
-    let g1 =
-    guard (leb c.nodes (source_at bytes)
-    || (leb c.nodes (dest_at bytes) || eqb (source_at bytes) (dest_at bytes))) BadNode _ k e in
-    let g2 = guard (not (eqb (length bytes) (24 + len_at bytes))) BadBody _ k g1.1 in
-    let g3 = guard (not (eqb (len_at bytes) (text_len c kind))) BadBody _ k g2.1 in
-    let g4 =
-    last_guard (is_sound_text c kind (frame_number_at bytes) (text_at bytes)) BadBody kind k
-    g3.1 in
-    let n1 =
-    neither (leb c.nodes (source_at bytes))
-    (leb c.nodes (dest_at bytes) || eqb (source_at bytes) (dest_at bytes)) g1.0 in
-    let n2 = neither (leb c.nodes (dest_at bytes)) (eqb (source_at bytes) (dest_at bytes)) n1.1 in (
-      g4.1,
-      record {
-        source = leb-false c.nodes (source_at bytes) n1.0;
-        dest = leb-false c.nodes (dest_at bytes) n2.0;
-        apart = eqb-false (source_at bytes) (dest_at bytes) n2.1;
-        len = eqb-true (length bytes) (24 + len_at bytes)
-            (flipped (eqb (length bytes) (24 + len_at bytes)) g2.0);
-        text_len =
-            eqb-true (len_at bytes) (text_len c kind)
-            (flipped (eqb (len_at bytes) (text_len c kind)) g3.0);
-      },
-    )
-
-sound_kind : (c : Config) (o : Option FrameKind) (k : FrameKind) (bytes : List ℕ)
-    → checked_kind c o bytes ≡ Ok k → (o ≡ Some k) × HasHeadIn c k bytes
-unfolding checked_kind
-sound_kind c None k bytes e = absurd cc
-sound_kind c (Some kind) k bytes e =
-    let p = sound_in c kind k bytes e in
-    (ap Some p.0, subst (λ x. HasHeadIn c x bytes) p.0 p.1)
-
--- what passes all tests has a right head
-pub sound_checked : (c : Config) (k : FrameKind) (bytes : List ℕ) → checked c bytes ≡ Ok k
-    → HasHead c k bytes
-unfolding checked
-sound_checked c k bytes e =
-    let g1 = guard (ltb (length bytes) 24) ShortFrame _ k e in
-    let g2 = guard (ltb (length bytes) (24 + len_at bytes)) ShortFrame _ k g1.1 in
-    let g3 =
-    guard (not (eqb (get_or bytes 0 0) 73 && eqb (get_or bytes 1 0) 86)) BadMagic _ k g2.1 in
-    let g4 = guard (not (eqb (get_or bytes 2 0) frame_version)) BadVersion _ k g3.1 in
-    let p = sound_kind c (kind_at (kind_byte bytes)) k bytes g4.1 in
-    let m = both (eqb (get_or bytes 0 0) 73) (eqb (get_or bytes 1 0) 86)
-    (flipped (eqb (get_or bytes 0 0) 73 && eqb (get_or bytes 1 0) 86) g3.0) in
-    record {
-      long = ltb-false (length bytes) 24 g1.0;
-      magic = (eqb-true (get_or bytes 0 0) 73 m.0, eqb-true (get_or bytes 1 0) 86 m.1);
-      version = eqb-true (get_or bytes 2 0) frame_version
-          (flipped (eqb (get_or bytes 2 0) frame_version) g4.0);
-      known = p.0;
-      source = p.1.source;
-      dest = p.1.dest;
-      apart = p.1.apart;
-      len = p.1.len;
-      text_len = p.1.text_len;
-    }
 
 -- a test that refuses for another fault leaves the question to the tests after it
 pass : {A : Type 0} (b : Bool) (d : Fault) (r : Result A Fault) → d ≢ Memory
