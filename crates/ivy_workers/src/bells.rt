@@ -1,7 +1,8 @@
 //! What the two workers of a node sleep on.
+use crate::pulses::Pulses;
 use std::hint::spin_loop;
-use std::sync::Wait;
 use std::sync::atomic::{AtomicBool, AtomicU64, Ordering};
+use std::sync::{Mutex, Wait};
 use std::time::Duration;
 
 /// So often a program worker looks whether the wire worker has the lock that it wants.
@@ -55,15 +56,17 @@ pub(crate) struct Bells {
     wanted: AtomicBool,
     /// Whether the program worker waits, and makes the turns on the wire meanwhile.
     polled: AtomicBool,
-    /// Whether the program worker lost a frame, for which the wire worker has made no round of pulses yet.
-    lost: AtomicBool,
+    /// So many turns on the wire are still to be made while nothing is on the ether, so that pulses are made.
+    round: AtomicU64,
+    /// When the node pulses, and to whom, whichever worker makes its turns on the wire.
+    pub(crate) pulses: Mutex<Pulses>,
     /// So many turns on the wire were begun.
     wire_turns: AtomicU64,
 }
 
 impl Bells {
-    /// Nothing was served, and nothing waits.
-    pub(crate) fn new() -> Bells {
+    /// Nothing was served, and nothing waits. Each so many turns on the wire make a pulse due.
+    pub(crate) fn new(pulse_every: u64) -> Bells {
         Bells {
             program: Bell::new(UP),
             wire: Bell::new(UP),
@@ -71,7 +74,8 @@ impl Bells {
             waiting: AtomicU64::new(0),
             wanted: AtomicBool::new(false),
             polled: AtomicBool::new(false),
-            lost: AtomicBool::new(false),
+            round: AtomicU64::new(0),
+            pulses: Mutex::new(Pulses::new(pulse_every)),
             wire_turns: AtomicU64::new(0),
         }
     }
@@ -133,20 +137,21 @@ impl Bells {
         self.polled.store(polled, Ordering::SeqCst);
     }
 
-    /// The program worker lost a frame, so that the wire worker has to pulse.
-    pub(crate) fn lose(&self) {
-        self.lost.store(true, Ordering::SeqCst);
-        ring(&self.wire);
+    /// So many turns on the wire are still to be made while nothing is on the ether, so that pulses are made.
+    pub(crate) fn round(&self) -> u64 {
+        self.round.load(Ordering::SeqCst)
     }
 
-    /// Whether the program worker lost a frame, for which no round of pulses was made yet.
-    pub(crate) fn has_lost(&self) -> bool {
-        self.lost.load(Ordering::SeqCst)
+    /// So many of these are to be made at least.
+    pub(crate) fn begin_round(&self, turns: u64) {
+        self.round.fetch_max(turns, Ordering::SeqCst);
     }
 
-    /// A round of pulses is made for what was lost. It tells whether anything was.
-    pub(crate) fn take_lost(&self) -> bool {
-        self.has_lost() && self.lost.swap(false, Ordering::SeqCst)
+    /// One of these was made, if any is left. The node's site is locked.
+    pub(crate) fn go_round(&self) {
+        if self.round() > 0 {
+            self.round.fetch_sub(1, Ordering::SeqCst);
+        }
     }
 
     /// A turn on the wire begins, unless so many were made.

@@ -43,7 +43,7 @@ fn run_wire<T: Seat, A: Allocator + Copy, R: Wait, G: Turnstile>(
         let Some(traffic) = wire.turn(seated) else {
             return;
         };
-        watch.note(wire.shared, traffic);
+        watch.note(traffic);
         watch.rest(wire);
     }
     wire.shared.stop(wire.rt, Fault::TurnLimit);

@@ -9,8 +9,8 @@ pub struct Limits {
     pub capacity: u64,
     /// How many turns a node's program has at most, and how many the node makes on the wire, at least 1.
     pub turns: u64,
-    /// Each such turn of a worker on the wire makes a pulse due, at least 1. It comes with its next turn there that begins
-    /// with no frame of its node to be put.
+    /// Each such turn of a node on the wire makes a pulse due, at least 1. It comes with its next turn there that begins
+    /// with no frame to be put.
     pub pulse_every: u64,
 }
 

@@ -8,7 +8,7 @@ use crate::line::Line;
 use crate::traffic::Traffic;
 use ivy_model::Fault;
 use std::alloc::Allocator;
-use std::sync::atomic::{AtomicBool, AtomicU64, Ordering};
+use std::sync::atomic::{AtomicBool, Ordering};
 use std::sync::{Mutex, Wait};
 use std::thread;
 use std::thread::Threads;
@@ -58,7 +58,7 @@ struct Standing {
     stop: Option<Stop>,
 }
 
-/// How a session stands, how many frames were lost, whom the frames on the ether are for, and what the workers sleep on.
+/// How a session stands, whom the frames on the ether are for, and what the workers sleep on.
 #[derive(Drop)]
 pub struct Shared<A: Allocator> {
     programs: u64,
@@ -69,7 +69,8 @@ pub struct Shared<A: Allocator> {
     over: AtomicBool,
     stopped: AtomicBool,
     standing: Mutex<Standing>,
-    losses: AtomicU64,
+    /// Whether any frame was lost.
+    lossy: AtomicBool,
     line: Line<A>,
     bells: Vec<Bells, A>,
 }
@@ -83,7 +84,7 @@ impl<A: Allocator + Copy> Shared<A> {
         let mut bells = Vec::new(alloc);
         for _ in 0..programs {
             bells.reserve(1)?;
-            bells.push_reserved(Bells::new());
+            bells.push_reserved(Bells::new(limits.pulse_every));
         }
         let many = processors(rt);
         Ok(Shared {
@@ -98,7 +99,7 @@ impl<A: Allocator + Copy> Shared<A> {
                 ended: 0,
                 stop: None,
             }),
-            losses: AtomicU64::new(0),
+            lossy: AtomicBool::new(false),
             line,
             bells,
         })
@@ -148,14 +149,14 @@ impl<A: Allocator> Shared<A> {
         self.over.load(Ordering::SeqCst)
     }
 
-    /// In so many turns a wire worker pulses to each other node, but for a bound.
+    /// In so many turns on the wire a node pulses to each other one, but for a bound.
     pub(crate) fn round(&self) -> u64 {
         self.programs
             .saturating_mul(self.pulse_every)
             .min(MOST_ROUND)
     }
 
-    /// So many turns a wire worker makes that nobody has woken for a while, so that a pulse comes.
+    /// So many turns are made on the wire where nobody has woken the wire worker for a while, so that a pulse comes.
     pub(crate) fn nap_round(&self) -> u64 {
         self.pulse_every.min(MOST_ROUND)
     }
@@ -187,15 +188,16 @@ impl<A: Allocator> Shared<A> {
         &self.line
     }
 
-    /// So many frames were lost, of those that anybody knows of.
-    pub(crate) fn losses(&self) -> u64 {
-        self.losses.load(Ordering::SeqCst)
+    /// Whether any frame was lost.
+    pub(crate) fn is_lossy(&self) -> bool {
+        self.lossy.load(Ordering::SeqCst)
     }
 
-    /// A frame is lost. All wire workers pulse, so that it is sent again.
-    fn lose(&self) {
-        self.losses.fetch_add(1, Ordering::SeqCst);
-        self.wake_all();
+    /// A frame is lost. A node makes a round of pulses, so that it is sent again.
+    fn begin_round(&self, bells: &Bells) {
+        self.lossy.store(true, Ordering::SeqCst);
+        bells.begin_round(self.round());
+        bells.ring_wire();
     }
 
     fn has_frame(&self, node: u8) -> bool {
@@ -242,14 +244,25 @@ impl<A: Allocator> Shared<A> {
         }
     }
 
-    /// Wakes the worker of the node that waits for a place and may have it, the next one after this node round.
-    fn wake_for_place(&self, after: u8) {
+    /// Whether a node that waits for that may go on: there is a place for its frame, or nothing is on the ether, so that
+    /// it is to pulse.
+    fn may_go_on(&self, node: u8) -> bool {
+        match self.bells(node) {
+            None => false,
+            Some(bells) if bells.waiting().is_some() => self.has_place(node),
+            Some(bells) => bells.round() > 0 && self.line.first().is_none(),
+        }
+    }
+
+    /// Wakes the worker of a node that waits for a place, or until nothing is on the ether, and may go on: the next one
+    /// after this node round.
+    fn wake_next(&self, after: u8) {
         let mut place = usize::from(after);
         for _ in 0..self.bells.len() {
             let next = place.saturating_add(1);
             place = if next < self.bells.len() { next } else { 0 };
             let node = place.min(255) as u8;
-            if self.has_frame(node) && self.has_place(node) {
+            if self.may_go_on(node) {
                 self.wake_wire(Some(node));
                 return;
             }
@@ -266,7 +279,11 @@ impl<A: Allocator> Shared<A> {
     /// Tells the workers what a node's turn on the wire came to: `own` are its bells.
     pub(crate) fn tell(&self, own: &Bells, node: u8, traffic: Traffic) {
         match traffic {
-            Traffic::Lost | Traffic::Nothing => return,
+            Traffic::Lost => {
+                self.begin_round(own);
+                return;
+            }
+            Traffic::Nothing => return,
             Traffic::Sent { to } => self.put(to),
             Traffic::Returned { to } => {
                 self.line.strike_out();
@@ -280,12 +297,15 @@ impl<A: Allocator> Shared<A> {
             }
             Traffic::Dropped => {
                 self.line.strike_out();
-                self.lose();
+                for bells in &self.bells {
+                    self.begin_round(bells);
+                }
             }
         }
-        self.wake_wire(self.line.first());
-        if self.line.places() < FEW_PLACES {
-            self.wake_for_place(node);
+        let first = self.line.first();
+        self.wake_wire(first);
+        if (first.is_none() && self.is_lossy()) || self.line.places() < FEW_PLACES {
+            self.wake_next(node);
             self.wake_wire(self.turner());
         }
     }
@@ -303,7 +323,7 @@ impl<A: Allocator> Shared<A> {
             over: _,
             stopped: _,
             standing,
-            losses: _,
+            lossy: _,
             line: _,
             bells: _,
         } = self;

@@ -2,7 +2,6 @@
 use crate::bells::ring;
 use crate::gate::{Role, Turnstile};
 use crate::seat::Seat;
-use crate::traffic::Traffic;
 use crate::watch::{Patience, rest_program};
 use crate::wire::Wire;
 use std::alloc::Allocator;
@@ -72,6 +71,7 @@ impl<'r, 's, 'g, 'a, T: Seat, A: Allocator + Copy, R: Wait, G: Turnstile> Progra
     }
 
     /// Locks the node's place for a turn. None where the session stops, or no turn is left.
+    #[inline(always)]
     pub fn enter(&mut self) -> Option<MutexGuard<'s, T>> {
         let wire = &self.wire;
         if self.turns == 0 || wire.shared.is_stopped() {
@@ -87,6 +87,7 @@ impl<'r, 's, 'g, 'a, T: Seat, A: Allocator + Copy, R: Wait, G: Turnstile> Progra
 
     /// Leaves the node's place after a turn. Where the program rests next, this worker makes the node's turns on the wire
     /// from now on, and else the wire worker does, which is woken if there is something to do.
+    #[inline(always)]
     pub fn leave(&mut self, seated: MutexGuard<'s, T>, rests: bool) {
         let bells = self.wire.bells;
         let news = bells.set_waiting(seated.waiting());
@@ -94,7 +95,7 @@ impl<'r, 's, 'g, 'a, T: Seat, A: Allocator + Copy, R: Wait, G: Turnstile> Progra
         if rests != self.polls {
             self.polls = rests;
             bells.poll(rests);
-            if !rests && self.wire.has_traffic() {
+            if !rests && self.wire.has_work() {
                 ring(&bells.wire);
             }
         } else if news && !rests {
@@ -119,7 +120,7 @@ impl<'r, 's, 'g, 'a, T: Seat, A: Allocator + Copy, R: Wait, G: Turnstile> Progra
         if wire.bells.served() != self.served || wire.shared.is_stopped() {
             return false;
         }
-        if wire.has_traffic() {
+        if wire.has_work() {
             return self.turn_on_wire();
         }
         rest_program(wire, &mut self.patience, self.served)
@@ -129,13 +130,6 @@ impl<'r, 's, 'g, 'a, T: Seat, A: Allocator + Copy, R: Wait, G: Turnstile> Progra
     fn turn_on_wire(&mut self) -> bool {
         let wire = &mut self.wire;
         let seated = lock_soon(wire.rt, wire.seat, lock_looks(wire.shared.looks()));
-        match wire.turn(seated) {
-            None => false,
-            Some(Traffic::Lost) => {
-                wire.bells.lose();
-                true
-            }
-            Some(_) => true,
-        }
+        wire.turn(seated).is_some()
     }
 }

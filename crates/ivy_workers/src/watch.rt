@@ -2,7 +2,6 @@
 use crate::bells::{get_up, lie_down, ring, sleep};
 use crate::gate::Turnstile;
 use crate::seat::Seat;
-use crate::shared::Shared;
 use crate::traffic::Traffic;
 use crate::wire::Wire;
 use std::alloc::Allocator;
@@ -16,8 +15,8 @@ const NAP: u64 = 2_000;
 /// So often that time is doubled at most.
 const DOUBLINGS: u32 = 5;
 
-/// So many microseconds a wire worker sleeps at most where the ether has no place for what the node has to put, and where
-/// it lost a frame and makes its round as soon as nothing is on the ether.
+/// So many microseconds a worker sleeps at most where the ether has no place for what the node has to put, and where a
+/// frame was lost and it makes a round of pulses as soon as nothing is on the ether.
 const SHORT_NAP: u64 = 500;
 
 /// So many microseconds a program worker sleeps at most.
@@ -66,6 +65,14 @@ impl Patience {
     }
 }
 
+/// So many microseconds a worker sleeps at most, which sleeps so long where nothing holds it up.
+fn nap<T: Seat, A: Allocator + Copy, R: Wait, G: Turnstile>(
+    wire: &Wire<'_, '_, '_, '_, T, A, R, G>,
+    most: u64,
+) -> u64 {
+    if wire.is_held_up() { SHORT_NAP } else { most }
+}
+
 /// Looks for a while whether the node has served a frame more, has something to do on the wire, or the session is stopped.
 fn comes_for_program<T: Seat, A: Allocator + Copy, R: Wait, G: Turnstile>(
     wire: &Wire<'_, '_, '_, '_, T, A, R, G>,
@@ -73,7 +80,7 @@ fn comes_for_program<T: Seat, A: Allocator + Copy, R: Wait, G: Turnstile>(
     served: u64,
 ) -> bool {
     for _ in 0..looks {
-        if wire.bells.served() != served || wire.has_traffic() || wire.shared.is_stopped() {
+        if wire.bells.served() != served || wire.has_work() || wire.shared.is_stopped() {
             return true;
         }
         spin_loop();
@@ -82,7 +89,8 @@ fn comes_for_program<T: Seat, A: Allocator + Copy, R: Wait, G: Turnstile>(
 }
 
 /// A program worker, which had nothing to do when its node had served so many frames, waits until it has served one
-/// more, or has something to do on the wire, or for a while. It says whether anything came.
+/// more, or has something to do on the wire, or for a while. It says whether anything came. Where nothing did, and frames are
+/// lost, a pulse is to be made.
 pub(crate) fn rest_program<T: Seat, A: Allocator + Copy, R: Wait, G: Turnstile>(
     wire: &Wire<'_, '_, '_, '_, T, A, R, G>,
     patience: &mut Patience,
@@ -99,16 +107,16 @@ pub(crate) fn rest_program<T: Seat, A: Allocator + Copy, R: Wait, G: Turnstile>(
         get_up(bell);
         return true;
     }
-    sleep(wire.rt, bell, PROGRAM_NAP)
+    let rung = sleep(wire.rt, bell, nap(wire, PROGRAM_NAP));
+    if !rung && wire.shared.is_lossy() && !wire.is_held_up() {
+        wire.bells.begin_round(wire.shared.nap_round());
+    }
+    rung
 }
 
 /// What a wire worker knows of what there is to do for it.
 #[derive(Drop)]
 pub(crate) struct Watch {
-    /// So many turns it still makes while nothing is on the ether, so that pulses are made.
-    turns: u64,
-    /// It has pulsed for so many losses.
-    losses: u64,
     /// So often in a row nobody woke it.
     naps: u32,
     /// So many frames the node has served since its program worker was woken.
@@ -120,8 +128,6 @@ impl Watch {
     /// Of a wire worker that has made no turn yet.
     pub(crate) fn new(most_looks: u32) -> Watch {
         Watch {
-            turns: 0,
-            losses: 0,
             naps: 0,
             unheard: 0,
             patience: Patience::new(most_looks),
@@ -129,32 +135,21 @@ impl Watch {
     }
 
     /// It has made a turn.
-    pub(crate) fn note<A: Allocator>(&mut self, shared: &Shared<A>, traffic: Traffic) {
-        match traffic {
-            Traffic::Lost => self.turns = shared.round(),
-            Traffic::Taken { served } => {
-                self.naps = 0;
-                if served {
-                    self.unheard = self.unheard.saturating_add(1);
-                }
+    pub(crate) fn note(&mut self, traffic: Traffic) {
+        if let Traffic::Taken { served } = traffic {
+            self.naps = 0;
+            if served {
+                self.unheard = self.unheard.saturating_add(1);
             }
-            Traffic::Nothing => self.turns = self.turns.saturating_sub(1),
-            Traffic::Sent { .. } | Traffic::Returned { .. } | Traffic::Dropped => {}
         }
     }
 
-    /// Whether there is something to do: a frame to put or to take, unless the program worker does so. Where nobody can
-    /// take anything a frame has to be lost. While nothing is on the ether, it is the turns that bring the next pulses.
+    /// Whether there is something to do on the wire, unless the program worker does so, or the session is over.
     fn is_due<T: Seat, A: Allocator + Copy, R: Wait, G: Turnstile>(
         &self,
         wire: &Wire<'_, '_, '_, '_, T, A, R, G>,
     ) -> bool {
-        let (shared, bells) = (wire.shared, wire.bells);
-        if shared.is_over() || shared.losses() != self.losses || bells.has_lost() {
-            return true;
-        }
-        let pulses = self.turns > 0 && bells.waiting().is_none() && shared.line().first().is_none();
-        pulses || (!bells.is_polled() && wire.has_traffic())
+        wire.shared.is_over() || (!wire.bells.is_polled() && wire.has_work())
     }
 
     /// Looks for a while whether there is something to do.
@@ -172,18 +167,11 @@ impl Watch {
     }
 
     /// Waits until there is something to do, or for a while. The program worker is woken before, once for what was
-    /// served since. Where a frame was lost a round of pulses is what there is to do, and a pulse where nobody has woken
-    /// it for a while.
+    /// served since.
     pub(crate) fn rest<T: Seat, A: Allocator + Copy, R: Wait, G: Turnstile>(
         &mut self,
         wire: &Wire<'_, '_, '_, '_, T, A, R, G>,
     ) {
-        let shared = wire.shared;
-        let lost = shared.losses() != self.losses;
-        if wire.bells.take_lost() || lost {
-            self.losses = shared.losses();
-            self.turns = shared.round();
-        }
         let is_due = self.is_due(wire);
         if self.unheard > MOST_UNHEARD || (self.unheard > 0 && !is_due) {
             self.unheard = 0;
@@ -199,18 +187,13 @@ impl Watch {
         }
     }
 
-    /// Sleeps until there is something to do, or for a while in which nobody wakes it.
+    /// Sleeps until there is something to do, or for a while in which nobody wakes it: then a pulse is to be made.
     fn sleep<T: Seat, A: Allocator + Copy, R: Wait, G: Turnstile>(
         &mut self,
         wire: &Wire<'_, '_, '_, '_, T, A, R, G>,
     ) {
-        let (rt, shared, bells) = (wire.rt, wire.shared, wire.bells);
-        let has_lost = self.turns > shared.nap_round();
-        let most = if has_lost || bells.waiting().is_some() {
-            SHORT_NAP
-        } else {
-            NAP << self.naps.min(DOUBLINGS)
-        };
+        let (rt, bells) = (wire.rt, wire.bells);
+        let most = nap(wire, NAP << self.naps.min(DOUBLINGS));
         for _ in rt.forever() {
             lie_down(&bells.wire);
             if self.is_due(wire) {
@@ -225,6 +208,7 @@ impl Watch {
             }
         }
         self.naps = self.naps.saturating_add(1);
-        self.turns = self.turns.max(shared.nap_round());
+        bells.begin_round(wire.shared.nap_round());
+        bells.ring_wire();
     }
 }

@@ -2,7 +2,6 @@
 use crate::bells::Bells;
 use crate::gate::{Role, Turnstile};
 use crate::limits::Limits;
-use crate::pulses::Pulses;
 use crate::seat::Seat;
 use crate::shared::Shared;
 use crate::traffic::Traffic;
@@ -20,7 +19,6 @@ pub(crate) struct Wire<'r, 's, 'g, 'a, T, A: Allocator, R, G> {
     pub(crate) bells: &'a Bells,
     pub(crate) node: u8,
     most_turns: u64,
-    pulses: Pulses,
     /// How often anything had been noted of the frames on the ether before the last turn, if that found none.
     empty_at: Option<u64>,
 }
@@ -53,7 +51,6 @@ impl<'r, 's, 'g, 'a, T: Seat, A: Allocator + Copy, R: Wait, G: Turnstile> Wire<
             bells,
             node,
             most_turns: limits.turns,
-            pulses: Pulses::new(limits.pulse_every),
             empty_at: None,
         })
     }
@@ -69,7 +66,12 @@ impl<'r, 's, 'g, 'a, T: Seat, A: Allocator + Copy, R: Wait, G: Turnstile> Wire<
         }
         let changes = self.shared.line().changes();
         self.gate.pass(self.node, Role::Wire, seated.records());
-        let turn = seated.wire_turn(self.rt, &mut self.pulses);
+        let mut pulses = self.bells.pulses.lock(self.rt);
+        let turn = seated.wire_turn(self.rt, &mut pulses);
+        drop(pulses);
+        if turn == Ok(Traffic::Nothing) {
+            self.bells.go_round();
+        }
         let news = self.bells.set_waiting(seated.waiting());
         drop(seated);
         match turn {
@@ -89,19 +91,25 @@ impl<'r, 's, 'g, 'a, T: Seat, A: Allocator + Copy, R: Wait, G: Turnstile> Wire<
     }
 
     /// Whether there is a frame to put for which there is a place, or the first frame to take, unless another worker has
-    /// it in hand, or to put back, where its node can't take it.
-    pub(crate) fn has_traffic(&self) -> bool {
+    /// it in hand, or to put back, where its node can't take it. While nothing is on the ether, it is the turns that bring
+    /// the next pulses.
+    pub(crate) fn has_work(&self) -> bool {
         let first = self.shared.line().first();
         if self.bells.waiting().is_some() {
             return self.shared.has_place(self.node)
                 || (first == Some(self.node) && self.shared.turner().is_none());
         }
         match first {
-            None => false,
+            None => self.bells.round() > 0,
             Some(node) if node == self.node => {
                 self.empty_at != Some(self.shared.line().changes())
             }
             Some(_) => self.shared.turner() == Some(self.node),
         }
+    }
+
+    /// Whether the node has a frame to put, or makes a round of pulses for what was lost, as soon as the ether lets it.
+    pub(crate) fn is_held_up(&self) -> bool {
+        self.bells.waiting().is_some() || self.bells.round() > self.shared.nap_round()
     }
 }
