@@ -1,70 +1,11 @@
 //! Calls and what they were answered, as words.
 ghost use Rattle.std.specs.Prelude.{◌∷◌, codes, IfSome, map};
-ghost use Rattle.ivy_program.specs.Lines.{IsNumberWord};
-ghost use Rattle.ivy_texts.specs.Spelled.{SpellsCall};
 ghost use Rattle.ivy_lines.specs.Own.{SpellsAnswered};
 
-use crate::log::parse_byte;
 use ivy_calls::Answer;
-use ivy_model::{Call, Reply};
+use ivy_model::Reply;
 use ivy_program::parse_number;
-
-fn parse_width(word: &str) -> Option<u8>
-    ensures { IfSome result (IsNumberWord word.now) }
-{
-    let width = parse_byte(word)?;
-    [1, 2, 4, 8].contains(&width).then_some(width)
-}
-
-/// The call that words name, where they are one.
-pub(crate) fn parse_call(words: &[&str]) -> Option<Call>
-    ensures { IfSome result (SpellsCall (map (λ w. w.now) words.now)) }
-{
-    Some(match *words {
-        ["load", width, addr] => Call::Load {
-            width: parse_width(width)?,
-            addr: parse_number(addr)?,
-        },
-        ["store", width, addr, value] => Call::Store {
-            width: parse_width(width)?,
-            addr: parse_number(addr)?,
-            value: parse_number(value)?,
-        },
-        ["swap", width, addr, value] => Call::Swap {
-            width: parse_width(width)?,
-            addr: parse_number(addr)?,
-            value: parse_number(value)?,
-        },
-        ["cas", width, addr, expected, value] => Call::Cas {
-            width: parse_width(width)?,
-            addr: parse_number(addr)?,
-            expected: parse_number(expected)?,
-            value: parse_number(value)?,
-        },
-        ["fadd", width, addr, value] => Call::FetchAdd {
-            width: parse_width(width)?,
-            addr: parse_number(addr)?,
-            value: parse_number(value)?,
-        },
-        ["count", k] => Call::Count {
-            k: parse_number(k)?,
-        },
-        ["advance", k] => Call::Advance {
-            k: parse_number(k)?,
-        },
-        ["await", k, least] => Call::Await {
-            k: parse_number(k)?,
-            least: parse_number(least)?,
-        },
-        ["alloc", size] => Call::Alloc {
-            size: parse_number(size)?,
-        },
-        ["free", addr] => Call::Free {
-            addr: parse_number(addr)?,
-        },
-        _ => return None,
-    })
-}
+use ivy_texts::{parse_byte, parse_call};
 
 /// The call that words name, where it was carried out and gave no number.
 fn parse_done(words: &[&str]) -> Option<Answer>

@@ -12,6 +12,7 @@ use hex::FromHexError;
 use ivy_model::{Config, Fault, Kind};
 use ivy_moves::Event;
 use ivy_program::{few_words, parse_number};
+use ivy_texts::parse_byte;
 use ivy_wire::Bytes;
 use std::alloc::Allocator;
 
@@ -50,13 +51,6 @@ pub(crate) fn decode<A: Allocator>(alloc: A, word: &str) -> Result<Option<Vec<u8
         Err(FromHexError::OutOfMemory) => Err(Fault::Memory),
         Err(_) => Ok(None),
     }
-}
-
-/// A number of one byte.
-pub(crate) fn parse_byte(word: &str) -> Option<u8>
-    ensures { IfSome result (IsNumberWord word.now) }
-{
-    u8::try_from(parse_number(word)?).ok()
 }
 
 /// A number of four bytes.

@@ -8,14 +8,14 @@ ghost use Rattle.ivy_texts.specs.Spelled.{worded};
 ghost use Rattle.ivy_lines.specs.declared.own.Entry.TheVariants.{Asked, Answered};
 ghost use Rattle.ivy_lines.specs.Own.{entry_line, own_head_line, SpellsEntry, SpellsOwnHead, SpellsOwnLog};
 
-use crate::calls::{parse_answer, parse_call};
+use crate::calls::parse_answer;
 use crate::log::{HEAD_WORDS, Head, parse_event, parse_node, whole_lines};
 use crate::print::manager_word;
 use ivy_calls::Answer;
 use ivy_model::{Call, Fault};
 use ivy_moves::Event;
 use ivy_program::few_words;
-use ivy_texts::{CallText, Decimal, ReplyText};
+use ivy_texts::{CallText, Decimal, ReplyText, parse_call};
 use ivy_wire::Bytes;
 use std::alloc::{AllocError, Allocator};
 use std::fmt::Write;

@@ -12,7 +12,7 @@ mod schedule;
 mod settings;
 
 pub use drawn::{draw, generator_of};
-pub use order::{Order, Sizes, parse_order};
+pub use order::{Order, Sizes, parse_byte, parse_call, parse_order};
 pub use print::{
     CallText, Decimal, MoveText, RecordText, ReplyText, kind_name, print_end, print_output,
     print_verdict,

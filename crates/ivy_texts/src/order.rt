@@ -44,8 +44,8 @@ fn parse_sizes(words: &[&str]) -> Option<Sizes>
     }
 }
 
-/// A number of one byte.
-fn parse_byte(word: &str) -> Option<u8>
+/// The number that a word spells, where it is one of a byte.
+pub fn parse_byte(word: &str) -> Option<u8>
     ensures { IfSome result (IsNumberWord word.now) }
 {
     u8::try_from(parse_number(word)?).ok()
@@ -59,8 +59,8 @@ fn parse_width(word: &str) -> Option<u8>
     [1, 2, 4, 8].contains(&width).then_some(width)
 }
 
-/// The call that words name, where they are one.
-fn parse_call(words: &[&str]) -> Option<Call>
+/// The call that words name, as in a record of an order, where they are one. Its width is 1, 2, 4 or 8.
+pub fn parse_call(words: &[&str]) -> Option<Call>
     ensures spelled { IfSome result (SpellsCall (map (λ w. w.now) words.now)) }
     ensures width { IfSome result HasWidth }
 {
