@@ -1,7 +1,7 @@
 //! What a turn on the wire came to.
 use ivy_moves::ivy_link::Verdict;
 
-/// What a turn of a node's wire worker came to.
+/// What a turn of a node on the wire came to.
 #[derive(Clone, Copy, Debug, PartialEq, Eq)]
 pub enum WireTurn {
     /// The first frame that waited was put on the ether.

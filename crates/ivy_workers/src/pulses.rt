@@ -1,13 +1,13 @@
-//! When a node's wire worker pulses, and to whom.
+//! When a node pulses, and to whom.
 use ivy_model::MOST_NODES;
 
 /// Whoever owes a node the acknowledgement of so many messages pulses to it.
 const MOST_OWED: u64 = 32;
 
-/// What a wire worker knows of the messages of another node.
+/// What a node's workers know of the messages of another node.
 #[derive(Clone, Copy)]
 struct Peer {
-    /// So many had been sent to it when the worker looked last, and so many of its own delivered.
+    /// So many had been sent to it when a worker looked last, and so many of its own delivered.
     sent: u64,
     delivered: u64,
     /// So many of these were acknowledged, at least: a frame made to a node says how many of its messages came.
@@ -26,7 +26,7 @@ impl Peer {
     }
 }
 
-/// When a node's wire worker pulses, and to whom: after so many turns to the next node, and to each that is owed the
+/// When a node pulses, and to whom: after so many turns to the next node, and to each that is owed the
 /// acknowledgement of many messages.
 #[derive(Drop)]
 pub struct Pulses {
