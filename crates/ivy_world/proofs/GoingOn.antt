@@ -19,21 +19,13 @@ use Rattle.ivy_moves.proofs.Kept.{stays-there}
 use Rattle.ivy_moves.proofs.Places.{set-there}
 use Rattle.ivy_site.specs.SiteView.{SiteView}
 use Rattle.ivy_site.specs.Sites.{early_at, IsMadeByEvents, SiteDelivers, without_ready, GoesOnOnce, SiteGoesOn, FollowsDelivery, AfterDelivery}
-use Rattle.ivy_world.specs.WorldSites.{programs_of, world_of, AreSites}
+use Rattle.ivy_world.specs.WorldSites.{world_of, AreSites, AfterMove}
 use Rattle.ivy_site.proofs.Made.{delivery_made, delivery_early, all_taken}
 use Rattle.ivy_world.proofs.Making.{IsGone, Went, node_there, quiet, changed_world, changed_are, same_map, delivery_gone, delivered_went}
 
--- what a call of `make` did: the move, with one site changed
-pub record Moved (c : Config) (sites sites' : List SiteView) (sent sent' : List (List ℕ))
-    (step : Move) : Type 0 where
-  pub made : worlds.Moves (host_rules managed_ops) c (world_of sites sent) step
-      (world_of sites' sent')
-  pub are : AreSites c sites'
-  pub programs : programs_of sites' ≡ programs_of sites
-
 -- a move whose node does not go on
 pub went_there : (c : Config) (sites sites' : List SiteView) (sent sent' : List (List ℕ)) (step : Move)
-    → Went c sites sites' sent sent' step → Moved c sites sites' sent sent' step
+    → Went c sites sites' sent sent' step → AfterMove c sites sites' sent sent' step
 went_there c sites sites' sent sent' step w = record {
   made = stays-there (host_rules managed_ops) c (world_of sites sent) (world_of sites' sent') step
       w.made;
@@ -216,7 +208,7 @@ module _ (c : Config) (limits : IsConfig c) (sites : List SiteView) (sent : List
   -- a delivery to the site, what it goes on with, and its strings put on the wire
   pub deliveries : (index : ℕ) (done : SiteView) (bytes : List ℕ) (v : Verdict) → AreSites c sites
       → slice_get sent index ≡ Some bytes → AfterDelivery bytes v was done
-      → Moved c sites (sites_with done) sent (sent ++ done.waiting) (move.Deliver index i)
+      → AfterMove c sites (sites_with done) sent (sent ++ done.waiting) (move.Deliver index i)
   deliveries index done bytes v h found d =
       let config : was.config ≡ c = h.config i was there in
       let well : IsConfig was.config = subst IsConfig (sym config) limits in
@@ -246,7 +238,7 @@ pub delivery_went : (c : Config) (sites : List SiteView) (sent : List (List ℕ)
     → slice_get sent index ≡ Some bytes → AfterDelivery bytes v old done
     → step ≡ move.Deliver index i → site ≡ record done { waiting = [] }
     → more ≡ sent ++ done.waiting
-    → Moved c sites (set sites i site) sent more step
+    → AfterMove c sites (set sites i site) sent more step
 delivery_went c sites sent index i old done site bytes v step more limits h there found d is same
     added =
     rw is (rw same

@@ -1,11 +1,12 @@
 -- A turn that does nothing.
-use Rattle.std.proofs.Common.{◌≡◌, ℕ, zero, suc, List, [], ◌∷◌, ◌++◌, set, slice_get, Some, None, refl, sym, ap, ◌∙◌, append-nil, inl, inr}
+use Rattle.std.proofs.Common.{◌≡◌, ℕ, List, [], ◌∷◌, ◌++◌, set, slice_get, Some, None, refl, sym, ap, ◌∙◌, append-nil, inl, inr}
 use Rattle.std.specs.Prelude.{IsSome}
-use Rattle.std.proofs.lemmas.Option.{same_Some, none-some}
+use Rattle.std.proofs.lemmas.Option.{same_Some}
 use Rattle.proof_headline.proofs.of_proof_transitions.Places.{get_map}
 use Rattle.ivy_model.specs.declared.Config.{Config}
 use Rattle.ivy_moves.specs.declared.Move.{Move}
 use Rattle.ivy_moves.specs.declared.Move.TheVariants as move
+use Rattle.ivy_moves.proofs.Places.{set_same}
 use Rattle.ivy_site.specs.ivy_host.Hosts.{turn_of}
 use Rattle.ivy_site.specs.ivy_host.Managers.{managed_ops}
 use Rattle.ivy_site.specs.declared.turn.Turn as turn
@@ -15,11 +16,6 @@ use Rattle.ivy_site.specs.Sites.{AfterTurn}
 use Rattle.ivy_world.specs.WorldSites.{world_of, AreSites}
 use Rattle.ivy_world.specs.Settling.{HasStopped}
 use Rattle.ivy_world.specs.Rounds.{HasIdleTurn, DoesNothing}
-
-set_same : {X : Type 0} (xs : List X) (i : ℕ) (x : X) → slice_get xs i ≡ Some x → set xs i x ≡ xs
-set_same [] i x e = absurd (none-some x e)
-set_same (y ∷ xs) zero x e = ap (λ z. z ∷ xs) (sym (same_Some y x e))
-set_same (y ∷ xs) (suc i) x e = ap (λ l. y ∷ l) (set_same xs i x e)
 
 -- what the site was and is where its turn is not one that does anything
 quiet_turn : (t : turn.Turn) (old done : SiteView) → AfterTurn t old done

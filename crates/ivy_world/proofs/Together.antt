@@ -25,9 +25,9 @@ use Rattle.proof_headline.proofs.Headline.{explained-on}
 use Rattle.ivy_world.specs.Handed.{BeginsBlock, BeginsTogether, HasHadTurn, IsRefusedBlock}
 use Rattle.ivy_world.specs.Rounds.{IsPassed}
 use Rattle.ivy_world.specs.Runs.{IsRefusedBy}
-use Rattle.ivy_world.specs.WorldSites.{world_of, run_of, HaveBegun, IsRefusedRow, IsRunning}
+use Rattle.ivy_world.specs.WorldSites.{world_of, run_of, HaveBegun, IsRefusedRow, IsRunning, AfterMove}
 use Rattle.ivy_world.proofs.Coming.{passed_further}
-use Rattle.ivy_world.proofs.GoingOn.{Moved, went_there}
+use Rattle.ivy_world.proofs.GoingOn.{went_there}
 use Rattle.ivy_world.proofs.Handed.{handed_passed, handed_run, handed_running}
 use Rattle.ivy_world.proofs.Making.{node_there, turn_refused, turn_went}
 use Rattle.ivy_world.proofs.Worlds.{running_each, runs_on}
@@ -70,9 +70,9 @@ module _ (c : Config) (sites : List SiteView) (sent : List (List ℕ)) (passed n
     mid_running = handed_running c sites sent node old there (made ∷ []) h
 
     -- the turn, over the sites to which the calls were handed
-    turned : Moved c mid end sent (sent ++ done.waiting) (move.Turn node)
+    turned : AfterMove c mid end sent (sent ++ done.waiting) (move.Turn node)
     turned =
-        subst (λ l. Moved c mid l sent (sent ++ done.waiting) (move.Turn node))
+        subst (λ l. AfterMove c mid l sent (sent ++ done.waiting) (move.Turn node))
         (set-set sites node handed (record done { waiting = [] }))
         (went_there c mid (set mid node (record done { waiting = [] })) sent (sent ++ done.waiting)
         (move.Turn node)

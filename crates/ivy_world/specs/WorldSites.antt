@@ -8,11 +8,12 @@ use Rattle.ivy_site.specs.Sites.{first_keeping, early_at, IsMadeByEvents, IsSpen
 use Rattle.ivy_model.specs.declared.Config.{Config}
 use Rattle.ivy_model.specs.Config.{IsConfig}
 use Rattle.ivy_model.specs.Wants.{RanOut}
-use Rattle.ivy_site.specs.ivy_host.Managers.{Managed}
+use Rattle.ivy_site.specs.ivy_host.Managers.{Managed, managed_ops}
 use Rattle.ivy_program.specs.Programs.{Program}
 use Rattle.ivy_moves.specs.declared.keep.Keep.TheVariants.{History}
+use Rattle.ivy_moves.specs.declared.Move.{Move}
 use Rattle.ivy_moves.specs.Worlds as worlds
-use Rattle.ivy_site.specs.ivy_host.Hosts.{Host}
+use Rattle.ivy_site.specs.ivy_host.Hosts.{Host, host_rules}
 use Rattle.ivy_site.specs.Calls.{BeginsRow}
 use Rattle.ivy_site.specs.SiteView.{SiteView}
 use Rattle.proof_headline.specs.RunState.{Run}
@@ -38,6 +39,14 @@ pub record AreSites (c : Config) (sites : List SiteView) : Type 0 where
   pub keep : (i : ℕ) (s : SiteView) → slice_get sites i ≡ Some s → s.keep ≡ History
   pub none_waits : (i : ℕ) (s : SiteView) → slice_get sites i ≡ Some s → s.waiting ≡ []
   pub made : (i : ℕ) (s : SiteView) → slice_get sites i ≡ Some s → IsMadeByEvents s
+
+-- sites and strings after a move: they are those of the world that it makes, of the same programs
+pub record AfterMove (c : Config) (sites sites' : List SiteView) (sent sent' : List (List ℕ))
+    (step : Move) : Type 0 where
+  pub made : worlds.Moves (host_rules managed_ops) c (world_of sites sent) step
+      (world_of sites' sent')
+  pub are : AreSites c sites'
+  pub programs : programs_of sites' ≡ programs_of sites
 
 -- the sites of the programs as they begin, from this number on
 abbrev pub first_sites_from : Config → ℕ → List Program → List SiteView

@@ -22,7 +22,7 @@ ghost use Rattle.proof_headline.specs.proof_progress.Still.{HasNothingUnderWay};
 ghost use Rattle.ivy_world.specs.Settling.{StandsStill, HasSettledBy, Settles, HasSettled, IsFoundStill};
 ghost use Rattle.ivy_world.specs.Rounds.{DoesNothing, DoesSomething, IsComing, NoneComes, IsRoundMove, IsInRound, StaysStill, HasMadeOne, HasRefusedOne};
 ghost use Rattle.ivy_model.specs.Wants.{RanOut};
-ghost use Rattle.ivy_world.specs.WorldSites.{programs_of, world_of, AreSites, HaveBegun, IsMemory, IsRefusedRow, IsWorldWant, AreFirst};
+ghost use Rattle.ivy_world.specs.WorldSites.{world_of, AreSites, AfterMove, HaveBegun, IsMemory, IsRefusedRow, IsWorldWant, AreFirst};
 
 use crate::rest::Rest;
 use crate::round::{Round, is_delivered, next_move};
@@ -97,10 +97,8 @@ fn make<A: Allocator + Copy>(
     requires each { length sites.old.items ≡ config.now.nodes }
     requires limits { IsConfig config.now }
     requires spelled { AllSpell config.now (world_of sites.old.items sent.old.items) }
-    ensures ok { OnOk result (Moves (host_rules managed_ops) config.now (world_of sites.old.items sent.old.items) step (world_of sites.new.items sent.new.items)) }
-    ensures sites { AreSites config.now sites.new.items }
+    ensures after { OnOk result (AfterMove config.now sites.old.items sites.new.items sent.old.items sent.new.items step) }
     ensures each { length sites.new.items ≡ config.now.nodes }
-    ensures programs { programs_of sites.new.items ≡ programs_of sites.old.items }
     ensures idle { result ≡ Ok false → DoesNothing (world_of sites.old.items sent.old.items) step × (sites.new.items ≡ sites.old.items) × (sent.new.items ≡ sent.old.items) }
     ensures did { result ≡ Ok true → DoesSomething (world_of sites.old.items sent.old.items) step }
     ensures err { OnErr result ((sites.new.items ≡ sites.old.items) × (sent.new.items ≡ sent.old.items)) }

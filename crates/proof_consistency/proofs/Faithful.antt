@@ -21,6 +21,7 @@ use Rattle.proof_refinement.specs.ivy_host.Hosts.{Host, answered_by}
 use Rattle.proof_refinement.specs.ivy_host.Sound.{IsSoundHost}
 use Rattle.proof_refinement.specs.proof_transitions.Orderly.{IsOrderly}
 use Rattle.proof_refinement.specs.HeapRequests.{heap_way}
+use Rattle.proof_refinement.proofs.of_proof_transitions.Places.{get_map}
 use Rattle.proof_refinement.proofs.LiftedWorlds.{net_of, IsSoundWorld}
 use Rattle.proof_consistency.specs.Copied.{IsCopied}
 use Rattle.proof_consistency.proofs.OwedCalls.{pending-calls}
@@ -70,9 +71,9 @@ set-places (z ∷ xs) (suc i) (suc j) y x e =
 -- what stands in a list that was mapped
 pub map-places : {X Y : Type 0} (f : X → Y) (xs : List X) (i : ℕ) (y : Y)
     → slice_get (map f xs) i ≡ Some y → (x : X) × (slice_get xs i ≡ Some x) × (f x ≡ y)
-map-places f [] i y e = absurd (none-some y e)
-map-places f (x ∷ xs) zero y e = (x, refl, same_Some (f x) y e)
-map-places f (x ∷ xs) (suc i) y e = map-places f xs i y e
+map-places {X = X} f xs i y e =
+    let found : (x : X) × (slice_get xs i ≡ Some x) × (y ≡ f x) = get_map f xs y i e in
+    (found.0, found.1, sym found.2)
 
 module _ {S : Type 0} (ops : Ops S) (c : Config) where
   -- the order explains what the nodes were answered

@@ -115,9 +115,9 @@ collect-requires-in-Pulse g c =
     let ok = c.in_ok-reserve-in-Pulse.ensures.ok in
     record { room = omega (arith, few, none, room, len, ok) }
 
-pub returns-in_ok-turn-in-Turn-clause-ok : goal.returns-in_ok-turn-in-Turn-clause-ok
-returns-in_ok-turn-in-Turn-clause-ok g c =
-    (went_there _ _ _ _ _ _
+pub returns-in_ok-turn-in-Turn-clause-after : goal.returns-in_ok-turn-in-Turn-clause-after
+returns-in_ok-turn-in-Turn-clause-after g c =
+    went_there _ _ _ _ _ _
     (turn_went c.args.config.now c.args.sites.now.items c.args.sent.now.items c.in-Turn.node
     c.index_mut-site.result.now c.program_turn.new.self c.collect.new.site
     c.in_ok-turn-in-Turn.turn c.args.step c.collect.new.sent.items c.requires.sites
@@ -125,40 +125,16 @@ returns-in_ok-turn-in-Turn-clause-ok g c =
     c.index_mut-site.result.now refl (search rules) c.index_mut-site.ensures.value)
     c.in_ok-turn-in-Turn.ensures.done c.in-Turn.is c.collect.ensures.site
     (c.collect.ensures.sent
-    ∙ ap (λ l. l ++ c.program_turn.new.self.waiting) c.reserve.ensures.items))).made
+    ∙ ap (λ l. l ++ c.program_turn.new.self.waiting) c.reserve.ensures.items))
 
-pub returns-in_ok-turn-in-Turn-clause-sites : goal.returns-in_ok-turn-in-Turn-clause-sites
-returns-in_ok-turn-in-Turn-clause-sites g c =
-    (went_there _ _ _ _ _ _
-    (turn_went c.args.config.now c.args.sites.now.items c.args.sent.now.items c.in-Turn.node
-    c.index_mut-site.result.now c.program_turn.new.self c.collect.new.site
-    c.in_ok-turn-in-Turn.turn c.args.step c.collect.new.sent.items c.requires.sites
-    (slice_get_read c.args.sites.now.items (length c.args.sites.now.items) c.in-Turn.node
-    c.index_mut-site.result.now refl (search rules) c.index_mut-site.ensures.value)
-    c.in_ok-turn-in-Turn.ensures.done c.in-Turn.is c.collect.ensures.site
-    (c.collect.ensures.sent
-    ∙ ap (λ l. l ++ c.program_turn.new.self.waiting) c.reserve.ensures.items))).are
-
-pub returns-in_ok-turn-in-Turn-clause-programs : goal.returns-in_ok-turn-in-Turn-clause-programs
-returns-in_ok-turn-in-Turn-clause-programs g c =
-    (went_there _ _ _ _ _ _
-    (turn_went c.args.config.now c.args.sites.now.items c.args.sent.now.items c.in-Turn.node
-    c.index_mut-site.result.now c.program_turn.new.self c.collect.new.site
-    c.in_ok-turn-in-Turn.turn c.args.step c.collect.new.sent.items c.requires.sites
-    (slice_get_read c.args.sites.now.items (length c.args.sites.now.items) c.in-Turn.node
-    c.index_mut-site.result.now refl (search rules) c.index_mut-site.ensures.value)
-    c.in_ok-turn-in-Turn.ensures.done c.in-Turn.is c.collect.ensures.site
-    (c.collect.ensures.sent
-    ∙ ap (λ l. l ++ c.program_turn.new.self.waiting) c.reserve.ensures.items))).programs
-
-pub returns-in_ok-deliver_spelled-in-Deliver-clause-ok : goal.returns-in_ok-deliver_spelled-in-Deliver-clause-ok
-returns-in_ok-deliver_spelled-in-Deliver-clause-ok g c =
+pub returns-in_ok-deliver_spelled-in-Deliver-clause-after : goal.returns-in_ok-deliver_spelled-in-Deliver-clause-after
+returns-in_ok-deliver_spelled-in-Deliver-clause-after g c =
     let found : slice_get c.args.sent.now.items c.in-Deliver.index ≡ Some c.index.result.now =
     ap (λ l. slice_get l c.in-Deliver.index) (sym c.reserve-in-Deliver.ensures.items)
     ∙ (slice_get_read c.reserve-in-Deliver.new.self.items
     (length c.reserve-in-Deliver.new.self.items) c.in-Deliver.index c.index.result.now refl
     (search rules) c.index.ensures) in
-    (delivery_went c.args.config.now c.args.sites.now.items c.args.sent.now.items c.in-Deliver.index
+    delivery_went c.args.config.now c.args.sites.now.items c.args.sent.now.items c.in-Deliver.index
     c.in-Deliver.to c.index_mut-site-in-Deliver.result.now c.deliver_spelled.new.self
     c.collect-in-Deliver.new.site c.index.result.now c.in_ok-deliver_spelled-in-Deliver.field-0
     c.args.step c.collect-in-Deliver.new.sent.items c.requires.limits c.requires.sites
@@ -168,50 +144,11 @@ returns-in_ok-deliver_spelled-in-Deliver-clause-ok g c =
     c.in_ok-deliver_spelled-in-Deliver.ensures.done c.in-Deliver.is
     c.collect-in-Deliver.ensures.site
     (c.collect-in-Deliver.ensures.sent
-    ∙ ap (λ l. l ++ c.deliver_spelled.new.self.waiting) c.reserve-in-Deliver.ensures.items)).made
+    ∙ ap (λ l. l ++ c.deliver_spelled.new.self.waiting) c.reserve-in-Deliver.ensures.items)
 
-pub returns-in_ok-deliver_spelled-in-Deliver-clause-sites : goal.returns-in_ok-deliver_spelled-in-Deliver-clause-sites
-returns-in_ok-deliver_spelled-in-Deliver-clause-sites g c =
-    let found : slice_get c.args.sent.now.items c.in-Deliver.index ≡ Some c.index.result.now =
-    ap (λ l. slice_get l c.in-Deliver.index) (sym c.reserve-in-Deliver.ensures.items)
-    ∙ (slice_get_read c.reserve-in-Deliver.new.self.items
-    (length c.reserve-in-Deliver.new.self.items) c.in-Deliver.index c.index.result.now refl
-    (search rules) c.index.ensures) in
-    (delivery_went c.args.config.now c.args.sites.now.items c.args.sent.now.items c.in-Deliver.index
-    c.in-Deliver.to c.index_mut-site-in-Deliver.result.now c.deliver_spelled.new.self
-    c.collect-in-Deliver.new.site c.index.result.now c.in_ok-deliver_spelled-in-Deliver.field-0
-    c.args.step c.collect-in-Deliver.new.sent.items c.requires.limits c.requires.sites
-    (slice_get_read c.args.sites.now.items (length c.args.sites.now.items) c.in-Deliver.to
-    c.index_mut-site-in-Deliver.result.now refl (search rules)
-    c.index_mut-site-in-Deliver.ensures.value) found
-    c.in_ok-deliver_spelled-in-Deliver.ensures.done c.in-Deliver.is
-    c.collect-in-Deliver.ensures.site
-    (c.collect-in-Deliver.ensures.sent
-    ∙ ap (λ l. l ++ c.deliver_spelled.new.self.waiting) c.reserve-in-Deliver.ensures.items)).are
-
-pub returns-in_ok-deliver_spelled-in-Deliver-clause-programs : goal.returns-in_ok-deliver_spelled-in-Deliver-clause-programs
-returns-in_ok-deliver_spelled-in-Deliver-clause-programs g c =
-    let found : slice_get c.args.sent.now.items c.in-Deliver.index ≡ Some c.index.result.now =
-    ap (λ l. slice_get l c.in-Deliver.index) (sym c.reserve-in-Deliver.ensures.items)
-    ∙ (slice_get_read c.reserve-in-Deliver.new.self.items
-    (length c.reserve-in-Deliver.new.self.items) c.in-Deliver.index c.index.result.now refl
-    (search rules) c.index.ensures) in
-    (delivery_went c.args.config.now c.args.sites.now.items c.args.sent.now.items c.in-Deliver.index
-    c.in-Deliver.to c.index_mut-site-in-Deliver.result.now c.deliver_spelled.new.self
-    c.collect-in-Deliver.new.site c.index.result.now c.in_ok-deliver_spelled-in-Deliver.field-0
-    c.args.step c.collect-in-Deliver.new.sent.items c.requires.limits c.requires.sites
-    (slice_get_read c.args.sites.now.items (length c.args.sites.now.items) c.in-Deliver.to
-    c.index_mut-site-in-Deliver.result.now refl (search rules)
-    c.index_mut-site-in-Deliver.ensures.value) found
-    c.in_ok-deliver_spelled-in-Deliver.ensures.done c.in-Deliver.is
-    c.collect-in-Deliver.ensures.site
-    (c.collect-in-Deliver.ensures.sent
-    ∙ ap (λ l. l ++ c.deliver_spelled.new.self.waiting)
-    c.reserve-in-Deliver.ensures.items)).programs
-
-pub returns-in_ok-pulse-in-Pulse-clause-ok : goal.returns-in_ok-pulse-in-Pulse-clause-ok
-returns-in_ok-pulse-in-Pulse-clause-ok g c =
-    (went_there _ _ _ _ _ _
+pub returns-in_ok-pulse-in-Pulse-clause-after : goal.returns-in_ok-pulse-in-Pulse-clause-after
+returns-in_ok-pulse-in-Pulse-clause-after g c =
+    went_there _ _ _ _ _ _
     (pulse_went c.args.config.now c.args.sites.now.items c.args.sent.now.items c.in-Pulse.from
     c.in-Pulse.to c.index_mut-site-in-Pulse.result.now c.pulse.new.self
     c.collect-in-Pulse.new.site c.args.step c.collect-in-Pulse.new.sent.items c.requires.sites
@@ -220,33 +157,7 @@ returns-in_ok-pulse-in-Pulse-clause-ok g c =
     c.index_mut-site-in-Pulse.ensures.value) (search rules) (search rules)
     c.in_ok-pulse-in-Pulse.ensures.done c.in-Pulse.is c.collect-in-Pulse.ensures.site
     (c.collect-in-Pulse.ensures.sent
-    ∙ ap (λ l. l ++ c.pulse.new.self.waiting) c.reserve-in-Pulse.ensures.items))).made
-
-pub returns-in_ok-pulse-in-Pulse-clause-sites : goal.returns-in_ok-pulse-in-Pulse-clause-sites
-returns-in_ok-pulse-in-Pulse-clause-sites g c =
-    (went_there _ _ _ _ _ _
-    (pulse_went c.args.config.now c.args.sites.now.items c.args.sent.now.items c.in-Pulse.from
-    c.in-Pulse.to c.index_mut-site-in-Pulse.result.now c.pulse.new.self
-    c.collect-in-Pulse.new.site c.args.step c.collect-in-Pulse.new.sent.items c.requires.sites
-    (slice_get_read c.args.sites.now.items (length c.args.sites.now.items) c.in-Pulse.from
-    c.index_mut-site-in-Pulse.result.now refl (search rules)
-    c.index_mut-site-in-Pulse.ensures.value) (search rules) (search rules)
-    c.in_ok-pulse-in-Pulse.ensures.done c.in-Pulse.is c.collect-in-Pulse.ensures.site
-    (c.collect-in-Pulse.ensures.sent
-    ∙ ap (λ l. l ++ c.pulse.new.self.waiting) c.reserve-in-Pulse.ensures.items))).are
-
-pub returns-in_ok-pulse-in-Pulse-clause-programs : goal.returns-in_ok-pulse-in-Pulse-clause-programs
-returns-in_ok-pulse-in-Pulse-clause-programs g c =
-    (went_there _ _ _ _ _ _
-    (pulse_went c.args.config.now c.args.sites.now.items c.args.sent.now.items c.in-Pulse.from
-    c.in-Pulse.to c.index_mut-site-in-Pulse.result.now c.pulse.new.self
-    c.collect-in-Pulse.new.site c.args.step c.collect-in-Pulse.new.sent.items c.requires.sites
-    (slice_get_read c.args.sites.now.items (length c.args.sites.now.items) c.in-Pulse.from
-    c.index_mut-site-in-Pulse.result.now refl (search rules)
-    c.index_mut-site-in-Pulse.ensures.value) (search rules) (search rules)
-    c.in_ok-pulse-in-Pulse.ensures.done c.in-Pulse.is c.collect-in-Pulse.ensures.site
-    (c.collect-in-Pulse.ensures.sent
-    ∙ ap (λ l. l ++ c.pulse.new.self.waiting) c.reserve-in-Pulse.ensures.items))).programs
+    ∙ ap (λ l. l ++ c.pulse.new.self.waiting) c.reserve-in-Pulse.ensures.items))
 
 pub returns-in_ok-turn-in-Turn-clause-idle : goal.returns-in_ok-turn-in-Turn-clause-idle
 returns-in_ok-turn-in-Turn-clause-idle g c =

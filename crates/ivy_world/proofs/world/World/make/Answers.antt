@@ -31,10 +31,10 @@ pub invariant_of-self-2 : goal.invariant_of-self-2
 invariant_of-self-2 g c = (
   runs_on c.self.inside.config c.self.inside.sites.items c.make.new.sites.items
       c.self.inside.sent.items c.make.new.sent.items c.args.step c.self.invariant.0
-      c.in_ok-did.ensures.sites c.in_ok-did.ensures.each c.in_ok-did.ensures.programs
-      c.in_ok-did.ensures.ok,
+      c.in_ok-did.ensures.after.are c.in_ok-did.ensures.each c.in_ok-did.ensures.after.programs
+      c.in_ok-did.ensures.after.made,
   passed_further c.self.inside.config _ _ c.args.step c.self.inside.passed
-      c.in_ok-did.ensures.ok c.self.invariant.1,
+      c.in_ok-did.ensures.after.made c.self.invariant.1,
 )
 
 pub returns-clause-named : goal.returns-clause-named
