@@ -81,6 +81,7 @@ fn word<W: Word, M: SharedMemory>(memory: &mut M, call: Call) -> Result<W, CallE
 /// The number in the word at `addr`.
 ///
 /// Refused with 3 where `addr` is no multiple of the width, else 4 past the heap, else 5 in page 0.
+#[inline(always)]
 pub fn load<W: Word, M: SharedMemory>(memory: &mut M, addr: u64) -> Result<W, CallError>
     ensures asks { IfOk result (λ found. Adds (Call.Load W.WIDTH addr) (Reply.Value (W.number_of found)) (M.answers memory.old) (M.answers memory.new)) }
     ensures fails { IfErr result (λ error. Fails (M.can_fail memory.old) (Call.Load W.WIDTH addr) error (M.answers memory.old) (M.answers memory.new)) }
@@ -97,6 +98,7 @@ pub fn load<W: Word, M: SharedMemory>(memory: &mut M, addr: u64) -> Result<W, Ca
 /// Writes the value into the word at `addr`.
 ///
 /// Refused with 3 where `addr` is no multiple of the width, else 4 past the heap, else 5 in page 0.
+#[inline(always)]
 pub fn store<W: Word, M: SharedMemory>(memory: &mut M, addr: u64, value: W) -> Result<(), CallError>
     ensures asks { IfOk result (λ _. Adds (Call.Store W.WIDTH addr (W.number_of value)) (Reply.Done) (M.answers memory.old) (M.answers memory.new)) }
     ensures fails { IfErr result (λ error. Fails (M.can_fail memory.old) (Call.Store W.WIDTH addr (W.number_of value)) error (M.answers memory.old) (M.answers memory.new)) }

@@ -341,7 +341,6 @@ impl<M: Manager, A: Allocator> Coherence<M, A> {
     }
 
     #[tactic(auto, unfolding(crate::specs::PageFaults::begun))]
-    #[inline(always)]
     /// The access of [`Coherence::need`], whatever the table and the entry, where no word of this node waits.
     ///
     /// It stands apart, so that a word that hits does nothing that only other words need.

@@ -169,7 +169,7 @@ impl<'e, S: Setup, A: Allocator + Copy> Seated<'e, S, A> {
         ensures busy { (IsFree self.old.site.node.core.process → ⊥) → result ≡ Err Fault.Busy }
         ensures want { IsFree self.old.site.node.core.process → IfErr result RanOut }
     {
-        let reply = self.site.call(call)?;
+        let reply = self.site.call_in_place(call)?;
         self.ether.hand(&mut self.pass, call);
         Ok(reply)
     }

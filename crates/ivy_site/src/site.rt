@@ -205,7 +205,6 @@ impl<A: Allocator + Copy> Site<A> {
     ///
     /// It is [`Site::hand`] and [`Site::program_turn`] in one. Err 18 exactly where a call before has no reply, or the
     /// node's program is no own code.
-    #[inline(always)]
     pub fn call(&mut self, call: Call) -> Result<Option<Reply>, Fault>
         requires width { HasWidth call }
         ensures same { IsSameNode self.old self.new }
@@ -217,23 +216,23 @@ impl<A: Allocator + Copy> Site<A> {
     {
         // Each arm is compiled for its kind of call, so that the most frequent ones take no further look at it.
         match call {
-            Call::Load { width: 8, addr } => self.call_once(Call::Load { width: 8, addr }),
+            Call::Load { width: 8, addr } => self.call_in_place(Call::Load { width: 8, addr }),
             Call::Store {
                 width: 8,
                 addr,
                 value,
-            } => self.call_once(Call::Store {
+            } => self.call_in_place(Call::Store {
                 width: 8,
                 addr,
                 value,
             }),
-            other => self.call_once(other),
+            other => self.call_in_place(other),
         }
     }
 
-    /// What [`Site::call`] does.
+    /// What [`Site::call`] does, compiled in its caller, for one that knows which kind of call it makes.
     #[inline(always)]
-    fn call_once(&mut self, call: Call) -> Result<Option<Reply>, Fault>
+    pub fn call_in_place(&mut self, call: Call) -> Result<Option<Reply>, Fault>
         requires width { HasWidth call }
         ensures same { IsSameNode self.old self.new }
         ensures done { MatchResult result (λ reply. BeginsCall call reply self.old self.new) (λ _. self.new ≡ self.old) }

@@ -4,7 +4,7 @@ use Rattle.ivy_site.specs.Handed.{site_handed}
 use Rattle.ivy_site.specs.Inside.{host_of}
 use Rattle.ivy_site.proofs.Handed.{free_idle, handed_site}
 use Rattle.ivy_site.proofs.Turned.{spent_turn, called_turn, called_site}
-use Rattle.ivy_site.proofs.site.Site.call_once.Goals as goal
+use Rattle.ivy_site.proofs.site.Site.call_in_place.Goals as goal
 
 pub make-requires-clause-idle : goal.make-requires-clause-idle
 make-requires-clause-idle g c =
