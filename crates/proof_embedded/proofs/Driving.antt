@@ -28,8 +28,8 @@ use Rattle.ivy_embedded.specs.Nodes.{Embedded, first_embedded, strings_of, waiti
 use Rattle.ivy_embedded.specs.Exports.{AfterBegin, AfterCall, ChangesWaiting, Takes}
 use Rattle.ivy_embedded.specs.declared.status.TheConstants.{DONE, SHORT_BUFFER, NO_FRAME}
 use Rattle.proof_headline.specs.Keeping.{Keeps}
-use Rattle.ivy_world.specs.WorldSites.{programs_of, world_of, run_of, IsRunning, first_sites_from}
-use Rattle.ivy_world.proofs.GoingOn.{Moved as HasMoved, went_there, delivery_went}
+use Rattle.ivy_world.specs.WorldSites.{programs_of, world_of, run_of, IsRunning, first_sites_from, AfterMove}
+use Rattle.ivy_world.proofs.GoingOn.{went_there, delivery_went}
 use Rattle.ivy_world.proofs.Making.{turn_went, pulse_went}
 use Rattle.ivy_world.proofs.Handed.{handed_running}
 use Rattle.ivy_world.proofs.Worlds.{first_running-of, running_each, runs_on}
@@ -61,7 +61,7 @@ module _ (c : Config) (sites : List SiteView) (sent : List (List ℕ)) (i : ℕ)
     running : IsRunning c (set sites i (with_strings [] new)) (sent ++ more)
 
   here : (new : SiteView) (more : List (List ℕ)) (step : Move)
-      → HasMoved c sites (set sites i (with_strings [] new)) sent (sent ++ more) step
+      → AfterMove c sites (set sites i (with_strings [] new)) sent (sent ++ more) step
       → IsRunning c (set sites i (with_strings [] new)) (sent ++ more)
   here new more step m =
       runs_on c sites (set sites i (with_strings [] new)) sent (sent ++ more) step h m.are
