@@ -1,5 +1,5 @@
 //! The report of a session whose programs need not have ended.
-ghost use Rattle.std.specs.Prelude.{◌≡◌, ◌↔◌, ◌<◌, IsTrue, IfSome, length, map, slice_get};
+ghost use Rattle.std.specs.Prelude.{◌≡◌, ◌↔◌, ◌<◌, IsTrue, IfSome, Some, length, map, slice_get};
 ghost use Rattle.ivy_moves.specs.Keeping.{keeps_history, keeps_events, read_of};
 ghost use Rattle.ivy_moves.specs.Marks.{marks};
 ghost use Rattle.ivy_program.specs.Steps.{HasEnded};
@@ -49,13 +49,21 @@ impl<A: Allocator + Copy> ReportSoFar<A> {
         self.sites.len() as u64
     }
 
+    /// The site of a node, which is one of the session's.
+    fn site(&self, node: u64) -> &Site<A>
+        requires { node < length self.now }
+        ensures { slice_get self.now node ≡ Some (so_far_of result.now) }
+    {
+        &self.sites[node as usize]
+    }
+
     /// What a node was answered so far, in order, where its site kept that; else nothing. The node is one of the
     /// session's.
     pub fn history(&self, node: u64) -> &[Record]
         requires { node < length self.now }
         ensures { IfSome (slice_get self.now node) (λ n. result.now ≡ read_of (keeps_history n.keep) n.node.core.history) }
     {
-        self.sites[node as usize].history()
+        self.site(node).history()
     }
 
     /// What a node's program printed so far; the node is one of the session's.
@@ -63,7 +71,7 @@ impl<A: Allocator + Copy> ReportSoFar<A> {
         requires { node < length self.now }
         ensures { IfSome (slice_get self.now node) (λ n. result.now ≡ n.node.core.process.state.output) }
     {
-        self.sites[node as usize].output()
+        self.site(node).output()
     }
 
     /// The events of a node, in order, where its site kept them; else none. The node is one of the session's.
@@ -71,7 +79,7 @@ impl<A: Allocator + Copy> ReportSoFar<A> {
         requires { node < length self.now }
         ensures { IfSome (slice_get self.now node) (λ n. marks result.now ≡ read_of (keeps_events n.keep) n.events) }
     {
-        self.sites[node as usize].events()
+        self.site(node).events()
     }
 
     /// The call that a node has in progress; the node is one of the session's.
@@ -79,7 +87,7 @@ impl<A: Allocator + Copy> ReportSoFar<A> {
         requires { node < length self.now }
         ensures { IfSome (slice_get self.now node) (λ n. result ≡ n.node.core.memory.asked) }
     {
-        self.sites[node as usize].asked()
+        self.site(node).asked()
     }
 
     /// Whether a node's program has ended; the node is one of the session's.
@@ -87,7 +95,7 @@ impl<A: Allocator + Copy> ReportSoFar<A> {
         requires { node < length self.now }
         ensures { IfSome (slice_get self.now node) (λ n. IsTrue result ↔ HasEnded n.node.core.process) }
     {
-        self.sites[node as usize].ended()
+        self.site(node).ended()
     }
 
     /// Whether all that the nodes sent to each other was delivered.
