@@ -8,6 +8,7 @@ use Rattle.ivy_model.specs.declared.Config.{Config}
 use Rattle.ivy_model.specs.declared.Fault.{Fault}
 use Rattle.ivy_model.specs.Config.{IsConfig}
 use Rattle.ivy_program.specs.Programs.{Program, IsWritten}
+use Rattle.ivy_moves.specs.declared.keep.Keep.{Keep}
 use Rattle.ivy_moves.specs.Marks.{Mark}
 use Rattle.ivy_moves.specs.Nodes.{Node, Effect}
 use Rattle.ivy_moves.specs.Parts.{AllHappen, AreParts}
@@ -30,7 +31,8 @@ use Rattle.ivy_session.specs.ivy_seating.ivy_site.SiteView.{SiteView}
 use Rattle.ivy_scope.specs.declared.watched.watch.End.{End}
 use Rattle.ivy_scope.specs.declared.watched.watch.End.TheVariants.{Standstill}
 use Rattle.ivy_scope.specs.Delivered.{AreSitesDelivered}
-use Rattle.ivy_scope.specs.SoFar.{NodeSoFar, so_far_of, IsNodeSoFar, IsReportSoFar, IsHandedSoFar, at_world, AreDelivered, AreUnblockedSoFar}
+use Rattle.ivy_scope.specs.Played.{IsPlayed}
+use Rattle.ivy_scope.specs.SoFar.{NodeSoFar, so_far_of, AllKeepSoFar, IsNodeSoFar, IsReportSoFar, IsHandedSoFar, at_world, AreDelivered, AreUnblockedSoFar}
 use Rattle.ivy_scope.specs.Told.{AreToldSoFar}
 
 module _ (c : Config) (programs : List Program) (limits : IsConfig c)
@@ -113,11 +115,18 @@ pub so_far_written : (c : Config) (programs : List Program) (nodes : List NodeSo
 so_far_written c programs nodes all r =
     subst (λ ps. IsReportSoFar c ps nodes) (written_from r.0 0 programs all) r.1
 
-pub if_written : {X : Type 0} (c : Config) (programs : List Program)
-    (r : Result (List NodeSoFar × X) Fault) → All IsWritten programs
-    → IfOk r (λ x. IsHandedSoFar c programs x.0) → IfOk r (λ x. IsReportSoFar c programs x.0)
-if_written c programs (Ok x) all report = so_far_written c programs x.0 all report
-if_written c programs (Err fault) all report = tt
+pub if_written : (c : Config) (programs : List Program) (keep : Keep)
+    (r : Result (List NodeSoFar × End) Fault) → All IsWritten programs
+    → IfOk r (IsPlayed c programs keep) → IfOk r (λ x. IsReportSoFar c programs x.0)
+if_written c programs keep (Ok x) all played = so_far_written c programs x.0 all played.handed
+if_written c programs keep (Err fault) all played = tt
+
+-- each node kept the lists that it was to keep
+pub if_kept : (c : Config) (programs : List Program) (keep : Keep)
+    (r : Result (List NodeSoFar × End) Fault) → IfOk r (IsPlayed c programs keep)
+    → IfOk r (λ x. AllKeepSoFar keep x.0)
+if_kept c programs keep (Ok x) played = played.kept
+if_kept c programs keep (Err fault) played = tt
 
 -- what is said of sites, said of the report's nodes
 pub delivered_so_far : (sites : List SiteView) → AreSitesDelivered sites
@@ -162,9 +171,10 @@ module _ (c : Config) (programs : List Program) (nodes : List NodeSoFar)
       }
 
 -- so it is where a standstill is told
-pub if_still : (c : Config) (programs : List Program) (r : Result (List NodeSoFar × End) Fault)
-    → IfOk r (λ x. IsReportSoFar c programs x.0)
-    → IfOk r (λ x. x.1 ≡ Standstill → AreDelivered x.0)
-    → IfOk r (λ x. x.1 ≡ Standstill → AreUnblockedSoFar c x.0)
-if_still c programs (Ok x) report still = λ is. unblocked_so_far c programs x.0 report (still is)
-if_still c programs (Err fault) report still = tt
+pub if_still : (c : Config) (programs : List Program) (keep : Keep)
+    (r : Result (List NodeSoFar × End) Fault) → All IsWritten programs
+    → IfOk r (IsPlayed c programs keep) → IfOk r (λ x. x.1 ≡ Standstill → AreUnblockedSoFar c x.0)
+if_still c programs keep (Ok x) all played = λ is.
+    unblocked_so_far c programs x.0 (so_far_written c programs x.0 all played.handed)
+    (played.still is)
+if_still c programs keep (Err fault) all played = tt

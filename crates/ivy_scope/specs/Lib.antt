@@ -1,4 +1,5 @@
 pub mod Delivered
+pub mod Played
 pub mod SoFar
 pub mod Statuses
 pub mod Told

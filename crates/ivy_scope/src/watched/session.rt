@@ -6,7 +6,8 @@ ghost use Rattle.ivy_workers.specs.Limits.{AreLimits};
 ghost use Rattle.ivy_workers.specs.Stops.{IsStop};
 ghost use Rattle.ivy_session.specs.ivy_seating.ivy_ether.Views.{beginner};
 ghost use Rattle.ivy_session.specs.ivy_seating.ivy_ether.Words.{IsNewcomer};
-ghost use Rattle.ivy_scope.specs.SoFar.{AllKeepSoFar, AreDelivered, AreUnblockedSoFar, IsReportSoFar, IsHandedSoFar};
+ghost use Rattle.ivy_scope.specs.Played.{IsPlayed};
+ghost use Rattle.ivy_scope.specs.SoFar.{AllKeepSoFar, AreDelivered, AreUnblockedSoFar, IsReportSoFar};
 
 use crate::watched::closing::collect;
 use crate::watched::notes::Notes;
@@ -83,9 +84,7 @@ where
     requires nodes { nodes ≡ length S.programs }
     requires home { ether.now ≡ H.ether }
     requires starter { starter.ether ≡ ether.now }
-    ensures report { IfOk result (λ r. IsHandedSoFar S.config S.programs r.0) }
-    ensures keep { IfOk result (λ r. AllKeepSoFar keep r.0) }
-    ensures still { IfOk result (λ r. r.1 ≡ End.Standstill → AreDelivered r.0) }
+    ensures played { IfOk result (IsPlayed S.config S.programs keep) }
     ensures stop { IfErr result IsStop }
 {
     let notes = Notes::new(rt, alloc, nodes)?;
@@ -126,9 +125,7 @@ where
     requires starter { (starter.ether ≡ ether.now) × (starter.known ≡ beginner) }
     requires passes { All (IsNewcomer ether.now) passes.items }
     requires enough { vec_len passes ≡ length programs.items }
-    ensures report { IfOk result (λ r. IsHandedSoFar S.config S.programs r.0) }
-    ensures keep { IfOk result (λ r. AllKeepSoFar keep r.0) }
-    ensures still { IfOk result (λ r. r.1 ≡ End.Standstill → AreDelivered r.0) }
+    ensures played { IfOk result (IsPlayed S.config S.programs keep) }
     ensures stop { IfErr result IsStop }
 {
     let nodes = programs.len();
@@ -166,9 +163,7 @@ where
     requires programs { programs.items ≡ S.programs }
     requires each { length programs.items ≡ config.now.nodes }
     requires capacity { 0 < limits.capacity }
-    ensures report { IfOk result (λ r. IsHandedSoFar S.config S.programs r.0) }
-    ensures keep { IfOk result (λ r. AllKeepSoFar keep r.0) }
-    ensures still { IfOk result (λ r. r.1 ≡ End.Standstill → AreDelivered r.0) }
+    ensures played { IfOk result (IsPlayed S.config S.programs keep) }
     ensures stop { IfErr result IsStop }
 {
     let (ether, mut passes) = lay::<S, A>(alloc, config, &programs, limits)?;
