@@ -120,10 +120,7 @@ pub(crate) struct Notes<'r, R, A: Allocator> {
 impl<'r, R: Wait, A: Allocator + Copy> Notes<'r, R, A> {
     /// Of so many nodes, none of which is noted yet [1].
     pub(crate) fn new(rt: &'r R, alloc: A, nodes: usize) -> Result<Self, AllocError> {
-        let mut notes = Vec::new(alloc);
-        for _ in 0..nodes {
-            notes.push(None)?;
-        }
+        let notes = vec![in alloc; None; nodes]?;
         Ok(Notes {
             rt,
             board: Mutex::new(Board { notes, end: None }),
