@@ -122,14 +122,19 @@ pub(crate) fn shortest<W: Write, E: Write, P: Progress>(
     Ok(())
 }
 
-/// Prints records as an order.
-fn print_order<W: Write>(config: &Config, records: &[Record], out: &mut W) -> io::Result<()> {
-    let (nodes, pages, size) = (config.nodes, config.pages, config.page_size);
-    writeln!(out, "ivy order {nodes} {pages} {size}")?;
+/// Prints records, one a line.
+pub(crate) fn print_records<W: Write>(records: &[Record], out: &mut W) -> io::Result<()> {
     for record in records {
         writeln!(out, "{}", RecordText(*record))?;
     }
     Ok(())
+}
+
+/// Prints records as an order.
+fn print_order<W: Write>(config: &Config, records: &[Record], out: &mut W) -> io::Result<()> {
+    let (nodes, pages, size) = (config.nodes, config.pages, config.page_size);
+    writeln!(out, "ivy order {nodes} {pages} {size}")?;
+    print_records(records, out)
 }
 
 /// The order of records that explains a run.

@@ -44,13 +44,18 @@ impl<'a, R: Wait, E: Write> Refusals<'a, R, E> {
 
     /// The line at which a node made its next call, which was answered so.
     fn line_of(&self, node: u8, record: &Record) -> Option<usize> {
-        let mut walk = self.walks.get(usize::from(node))?.lock(self.rt);
-        let place = walk.next();
-        walk.answer(record);
-        match place {
+        match self.place_of(node, record)? {
             Place::Call(place) => self.lines.get(u64::from(node), place),
             _ => None,
         }
+    }
+
+    /// Where the program of a node was, which goes on with this answer.
+    fn place_of(&self, node: u8, record: &Record) -> Option<Place> {
+        let mut walk = self.walks.get(usize::from(node))?.lock(self.rt);
+        let place = walk.next();
+        walk.answer(record);
+        Some(place)
     }
 
     /// Tells how many calls were refused, and gives the number.

@@ -3,11 +3,12 @@ ghost use Rattle.std.specs.Prelude.{IfOk};
 ghost use Rattle.ivy_scope.specs.Statuses.{IsStatus};
 
 use crate::logs::{Logs, write_logs};
+use crate::played::print_records;
 use crate::refused::Refusals;
 use crate::watched::{End, ReportSoFar, run_watched};
 use ivy_model::{Config, Fault, Record};
 use ivy_program::parse;
-use ivy_request::ivy_explain::ivy_texts::{RecordText, print_output};
+use ivy_request::ivy_explain::ivy_texts::print_output;
 use ivy_request::{
     FAILED, Failure, Listing, Request, STANDSTILL, Standing, Wishes, print_calls, print_standing,
 };
@@ -25,13 +26,6 @@ fn keep_of(wishes: &Wishes<'_>) -> Keep {
     }
 }
 
-fn print_history<W: Write>(history: &[Record], out: &mut W) -> io::Result<()> {
-    for record in history {
-        writeln!(out, "{}", RecordText(*record))?;
-    }
-    Ok(())
-}
-
 /// Prints what is wished for of a node beside its output.
 fn print_wished<W: Write>(
     node: u64,
@@ -40,7 +34,7 @@ fn print_wished<W: Write>(
     out: &mut W,
 ) -> io::Result<()> {
     if wishes.history {
-        print_history(history, out)?;
+        print_records(history, out)?;
     }
     if wishes.counts {
         print_calls(node, history, out)?;
