@@ -101,12 +101,11 @@ resumes-begin past b d log on = record {
   again = λ below. refl;
 }
 
--- so it is where the log is called by another name
-pub resumes-woken : (from : Begun) (past : List Entry) (b d : Served) (log log' : Option (List ℕ))
-    → begun past b log ≡ from → AddsEvents b d → log' ≡ log → Resumes from 0 d log' []
-resumes-woken from past b d log log' is on same =
-    subst (λ l. Resumes from 0 d l []) (sym same)
-    (subst (λ f. Resumes f 0 d log []) is (resumes-begin past b d log on))
+-- so it is where the beginning has a name
+pub resumes-woken : (from : Begun) (past : List Entry) (b d : Served) (log : Option (List ℕ))
+    → begun past b log ≡ from → AddsEvents b d → Resumes from 0 d log []
+resumes-woken from past b d log is on =
+    subst (λ f. Resumes f 0 d log []) is (resumes-begin past b d log on)
 
 -- the log has no answer more
 abbrev HasNoAnswer : List Entry → ℕ → Type 0

@@ -1,8 +1,9 @@
 //! Why a node stops before its input ends.
 
+use ivy_join::NotPlayed;
 use ivy_model::Fault;
 use std::alloc::{AllocError, AllocFailed};
-use std::{fmt, io};
+use std::fmt;
 
 /// Why a node stops before its input ends.
 #[derive(Clone, Copy, Debug, PartialEq, Eq)]
@@ -35,10 +36,10 @@ impl fmt::Display for Failure {
                 f,
                 "line {line} of the log: the work makes another call"
             ),
-            Failure::Unanswered => write!(f, "a call has no reply, and the input has ended"),
+            Failure::Unanswered => f.write_str("a call has no reply, and the input has ended"),
             Failure::GaveUp(fault) => write!(f, "the work gave up: {fault}"),
-            Failure::Unlogged => write!(f, "the log takes no more"),
-            Failure::Unwritten => write!(f, "standard output takes no more"),
+            Failure::Unlogged => f.write_str("the log takes no more"),
+            Failure::Unwritten => f.write_str("standard output takes no more"),
         }
     }
 }
@@ -61,14 +62,17 @@ impl<T: Drop> From<AllocFailed<T>> for Failure {
     }
 }
 
-impl Failure {
-    /// The failure of a log that a write to it ended with.
-    pub(crate) fn of_log(_error: io::Error) -> Failure {
-        Failure::Unlogged
-    }
+/// The line of an entry of a log, whose entries stand in these lines.
+pub(crate) fn line_of(lines: &[u64], place: usize) -> u64 {
+    lines.get(place).copied().unwrap_or(0)
+}
 
-    /// The failure of standard output that a write to it ended with.
-    pub(crate) fn of_output(_error: io::Error) -> Failure {
-        Failure::Unwritten
+impl Failure {
+    /// Why a log, whose entries stand in these lines, cannot be made again.
+    pub(crate) fn of_replay(why: NotPlayed, lines: &[u64]) -> Failure {
+        match why {
+            NotPlayed::Refused(fault) => Failure::Refused(fault),
+            NotPlayed::NoSuchEvent(place) => Failure::NotItsLog(line_of(lines, place)),
+        }
     }
 }

@@ -16,6 +16,7 @@ mod sites;
 mod story;
 mod threads;
 mod working;
+mod writing;
 
 pub use failure::Failure;
 pub use ivy_join;

@@ -14,14 +14,15 @@ ghost use Rattle.ivy_process.specs.Owned.{IsOpened, Notes};
 
 use crate::failure::Failure;
 use crate::limits::{Limits, Told};
-use crate::sites::{make_turns, push_frames};
+use crate::sites::{make_turns, print_values, push_frames};
+use crate::writing::write_through;
 use ivy_join::ivy_lines::ivy_calls::Answer;
 use ivy_join::ivy_lines::{
     Entry, Head, Log, OwnLog, parse_frame, push_answered, push_asked, push_event, push_head,
     push_own_head,
 };
 use ivy_join::ivy_site::{Site, Verdict};
-use ivy_join::{NotPlayed, replay, replay_own};
+use ivy_join::{replay, replay_own};
 use ivy_model::{Call, Config, Fault, Reply};
 use ivy_moves::ivy_link::MOST_AHEAD;
 use ivy_moves::{Event, Keep};
@@ -109,13 +110,8 @@ impl Node {
         let Head { me, config } = log.head;
         let site = Site::open_keeping(alloc, &config, me, Keep::Nothing)?;
         let mut node = Node::at_beginning(alloc, site, limits)?;
-        match replay_own(&mut node.site, &log.entries) {
-            Ok(()) => {}
-            Err(NotPlayed::Refused(fault)) => return Err(Failure::Refused(fault)),
-            Err(NotPlayed::NoSuchEvent(place)) => {
-                let line = log.lines.get(place).copied().unwrap_or(0);
-                return Err(Failure::NotItsLog(line));
-            }
+        if let Err(why) = replay_own(&mut node.site, &log.entries) {
+            return Err(Failure::of_replay(why, &log.lines));
         }
         node.learn_told(log);
         Ok(node)
@@ -157,13 +153,8 @@ impl Node {
         ensures { IfOk result (λ node. IsRestarted config.now me program log.now.events.items node) }
     {
         let mut node = Node::start(alloc, config, me, program, limits)?;
-        match replay(&mut node.site, &log.events) {
-            Ok(()) => {}
-            Err(NotPlayed::Refused(fault)) => return Err(Failure::Refused(fault)),
-            Err(NotPlayed::NoSuchEvent(place)) => {
-                let line = log.lines.get(place).copied().unwrap_or(0);
-                return Err(Failure::NotItsLog(line));
-            }
+        if let Err(why) = replay(&mut node.site, &log.events) {
+            return Err(Failure::of_replay(why, &log.lines));
         }
         node.learn_acknowledged(log);
         Ok(node)
@@ -173,11 +164,8 @@ impl Node {
     fn learn(&mut self, event: &Event<Bytes<Global>>)
         ensures { self.new ≡ self.old }
     {
-        let config = self.site.config();
         if let Event::Delivered(string) = event {
-            if let Ok(frame) = read(&config, string.bytes()) {
-                self.acknowledge(frame.source, frame.ack);
-            }
+            self.heed(string.bytes());
         }
     }
 
@@ -232,11 +220,25 @@ impl Node {
         }
     }
 
-    /// Notes an event that the site made.
-    fn note(&mut self, event: &Event<Bytes<Global>>) -> Result<(), Failure>
-        ensures { OnOk result (self.new ≡ served self.old.site (self.old.unlogged ++ event_line event.now)) }
+    /// What a string acknowledges counts, where it is for this node. It says whether it spells a frame of this configuration.
+    fn heed(&mut self, string: &[u8]) -> bool
+        ensures { self.new ≡ self.old }
     {
-        push_event(self.alloc, &mut self.lines, event)?;
+        let config = self.site.config();
+        let Ok(frame) = read(&config, string) else {
+            return false;
+        };
+        if frame.dest == self.site.me() {
+            self.acknowledge(frame.source, frame.ack);
+        }
+        true
+    }
+
+    /// Notes an event that the site made.
+    fn note(&mut self, event: Event<Bytes<Global>>) -> Result<(), Failure>
+        ensures { OnOk result (self.new ≡ served self.old.site (self.old.unlogged ++ event_line event)) }
+    {
+        push_event(self.alloc, &mut self.lines, &event)?;
         Ok(())
     }
 
@@ -249,7 +251,7 @@ impl Node {
             let Some(string) = self.site.go_on_with(from)? else {
                 break;
             };
-            self.note(&Event::Delivered(string))?;
+            self.note(Event::Delivered(string))?;
         }
         Ok(())
     }
@@ -262,7 +264,7 @@ impl Node {
         if verdict == Verdict::NotMine {
             return Ok(());
         }
-        self.note(&Event::Delivered(string))?;
+        self.note(Event::Delivered(string))?;
         if verdict == Verdict::Next {
             self.go_on(from)?;
         }
@@ -274,15 +276,11 @@ impl Node {
         ensures { OnOk result (AddsEvents self.old self.new) }
     {
         let string = Bytes::from_vec(self.alloc, bytes)?;
-        let config = self.site.config();
-        let Ok(frame) = read(&config, string.bytes()) else {
-            self.told.no_frames = self.told.no_frames.saturating_add(1);
-            return Ok(());
-        };
-        if frame.dest == self.site.me() {
-            self.acknowledge(frame.source, frame.ack);
+        if self.heed(string.bytes()) {
+            return self.deliver(string);
         }
-        self.deliver(string)
+        self.told.no_frames = self.told.no_frames.saturating_add(1);
+        Ok(())
     }
 
     /// A line comes. A frame for another node is left alone, and a line without a frame is counted.
@@ -310,7 +308,7 @@ impl Node {
         let made = make_turns(&mut self.site, most.min(left))?;
         self.turns = self.turns.saturating_add(made);
         if made > 0 {
-            self.note(&Event::Turns(made))?;
+            self.note(Event::Turns(made))?;
         }
         Ok(made)
     }
@@ -319,8 +317,7 @@ impl Node {
     fn take_frames(&mut self) -> Result<(), Failure>
         ensures { OnOk result (IsEmptied self.old self.new) }
     {
-        push_frames(self.alloc, &mut self.site, &mut self.frames)?;
-        Ok(())
+        push_frames(self.alloc, &mut self.site, &mut self.frames)
     }
 
     /// A pulse to a node, where it is another one.
@@ -333,7 +330,7 @@ impl Node {
         self.take_frames()?;
         self.site.pulse(to)?;
         if self.site.has_frame() {
-            self.note(&Event::Pulsed(to))?;
+            self.note(Event::Pulsed(to))?;
         }
         Ok(())
     }
@@ -385,8 +382,7 @@ impl Node {
             config: self.site.config(),
         };
         push_head(&mut text, &head)?;
-        log.write_all(text.as_bytes()).map_err(Failure::of_log)?;
-        log.flush().map_err(Failure::of_log)
+        write_through(log, text.as_str(), Failure::Unlogged)
     }
 
     /// Writes the first line of the log of own code.
@@ -399,8 +395,7 @@ impl Node {
             config: self.site.config(),
         };
         push_own_head(&mut text, &head)?;
-        log.write_all(text.as_bytes()).map_err(Failure::of_log)?;
-        log.flush().map_err(Failure::of_log)
+        write_through(log, text.as_str(), Failure::Unlogged)
     }
 
     /// Whether each call of its code has its reply, so that it may make one.
@@ -442,9 +437,7 @@ impl Node {
         if self.lines.is_empty() {
             return Ok(());
         }
-        log.write_all(self.lines.as_bytes())
-            .map_err(Failure::of_log)?;
-        log.flush().map_err(Failure::of_log)?;
+        write_through(log, self.lines.as_str(), Failure::Unlogged)?;
         self.lines.clear();
         Ok(())
     }
@@ -457,9 +450,7 @@ impl Node {
         if self.frames.is_empty() {
             return Ok(());
         }
-        out.write_all(self.frames.as_bytes())
-            .map_err(Failure::of_output)?;
-        out.flush().map_err(Failure::of_output)?;
+        write_through(out, self.frames.as_str(), Failure::Unwritten)?;
         self.frames.clear();
         Ok(())
     }
@@ -468,12 +459,9 @@ impl Node {
     fn print<E: Write>(&mut self, err: &mut E)
         ensures { self.new ≡ self.old }
     {
-        let me = self.site.me();
         let output = self.site.output();
-        for value in output.get(self.printed..).unwrap_or(&[]) {
-            // The log has what led to it, so a value that is not told is told after a new start.
-            let _ = writeln!(err, "node {me}: {value}");
-        }
+        let unprinted = output.get(self.printed..).unwrap_or(&[]);
+        print_values(self.site.me(), unprinted, err);
         self.printed = output.len();
     }
 

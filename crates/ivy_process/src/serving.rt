@@ -114,12 +114,21 @@ fn serve_once<R: Wait, I: Inbox, C: Clockwork, L: Write, O: Write, E: Write>(
     Ok(false)
 }
 
-/// Has a node go on with what it holds, and pulse to each other node: it may have been killed before.
-pub(crate) fn wake(node: &mut Node) -> Result<(), Failure>
+/// Has a node go on with what it holds, and pulse to each other node: it may have been killed before. Its service begins
+/// then.
+pub(crate) fn awake<C: Clockwork>(
+    clock: &C,
+    node: &mut Node,
+    was_told: bool,
+) -> Result<Service, Failure>
     ensures { OnOk result (AddsEvents node.old node.new) }
 {
     node.go_on_all()?;
-    node.pulse()
+    node.pulse()?;
+    Ok(Service {
+        pulsed: clock.millis(),
+        was_told,
+    })
 }
 
 /// Serves until there is no more to do, or where it is asked to, until the calls of the node's code have their replies. It
@@ -173,11 +182,7 @@ pub fn serve<R: Wait, I: Inbox, C: Clockwork, L: Write, O: Write, E: Write>(
 ) -> Result<Ending, Failure>
     ensures { OnOk result (StreamsWhole node.old node.new (L.contents log.old) (L.contents log.new)) }
 {
-    wake(node)?;
-    let mut service = Service {
-        pulsed: clock.millis(),
-        was_told: false,
-    };
+    let mut service = awake(clock, node, false)?;
     serve_on(rt, clock, inbox, node, &mut service, log, out, err, false)?;
     node.speak(log, out, err)?;
     Ok(ending_of(node))

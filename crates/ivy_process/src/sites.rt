@@ -2,11 +2,13 @@
 ghost use Rattle.std.specs.Prelude.{◌≡◌, ◌++◌, [], IfOk, OnOk};
 ghost use Rattle.ivy_moves.specs.Marks.{turns};
 
+use crate::failure::Failure;
 use ivy_join::ivy_lines::push_frame;
 use ivy_join::ivy_site::{Site, Turn};
 use ivy_model::Fault;
 use ivy_wire::destination;
-use std::alloc::{AllocError, Global};
+use std::alloc::Global;
+use std::io::Write;
 
 /// Makes so many turns at most, until one does nothing [1, 17]. It says how many did something.
 pub(crate) fn make_turns(site: &mut Site<Global>, most: u64) -> Result<u64, Fault>
@@ -22,12 +24,20 @@ pub(crate) fn make_turns(site: &mut Site<Global>, most: u64) -> Result<u64, Faul
     Ok(made)
 }
 
+/// Tells of values that the program of a node printed.
+pub(crate) fn print_values<E: Write>(me: u8, values: &[u64], err: &mut E) {
+    for value in values {
+        // The log has what led to it, so a value that is not told is told after a new start.
+        let _ = writeln!(err, "node {me}: {value}");
+    }
+}
+
 /// Takes out all frames that wait at a site, and writes the lines of them behind a text.
 pub(crate) fn push_frames(
     alloc: Global,
     site: &mut Site<Global>,
     text: &mut String,
-) -> Result<(), AllocError>
+) -> Result<(), Failure>
     ensures same { record site.new { waiting = [] } ≡ record site.old { waiting = [] } }
     ensures none { OnOk result (site.new.waiting ≡ []) }
 {

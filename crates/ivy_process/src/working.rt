@@ -1,14 +1,15 @@
 //! Own code at a node in a process: the memory that its work has, and the service around it.
-ghost use Rattle.std.specs.Prelude.{◌≡◌, ◌≤◌, [], IfOk, length};
+ghost use Rattle.std.specs.Prelude.{◌≡◌, ◌≤◌, [], IfOk, None, OnOk, length, take};
+ghost use Rattle.ivy_join.specs.ivy_lines.Own.{answers_in};
 ghost use Rattle.ivy_model.specs.Legal.{HasWidth};
-ghost use Rattle.ivy_process.specs.Logging.{AddsEvents, StreamsWhole};
+ghost use Rattle.ivy_process.specs.Logging.{StreamsWhole};
 ghost use Rattle.ivy_process.specs.Owned.{begun, HasResumed, HasWorked, Replies, RepliesFrom, Resumes};
 
-use crate::failure::Failure;
+use crate::failure::{Failure, line_of};
 use crate::mail::Inbox;
 use crate::node::Node;
 use crate::recalling::{Recalled, check_told, recall};
-use crate::serving::{Clockwork, Service, serve, serve_on, wake};
+use crate::serving::{Clockwork, Service, awake, serve, serve_on};
 use crate::story::Story;
 use ivy_join::ivy_lines::OwnLog;
 use ivy_join::ivy_lines::ivy_calls::{Answer, SharedMemory, Work};
@@ -131,9 +132,19 @@ fn reply_to<R: Wait, C: Clockwork, I: Inbox, L: Write, O: Write, E: Write>(
     }
 }
 
-/// The line of an entry of a log.
-fn line_of(log: &OwnLog<Global>, place: usize) -> u64 {
-    log.lines.get(place).copied().unwrap_or(0)
+/// Whether no call failed, and a log says nothing more of calls from a place on.
+fn check_done(past: &OwnLog<Global>, place: usize, failure: Option<Failure>) -> Result<(), Failure>
+    requires { place ≤ length past.now.entries.items }
+    ensures went { OnOk result (failure ≡ None) }
+    ensures told { OnOk result (answers_in past.now.entries.items ≡ answers_in (take place past.now.entries.items)) }
+{
+    if let Some(failure) = failure {
+        return Err(failure);
+    }
+    if let Err(at) = check_told(&past.entries, place) {
+        return Err(Failure::Differs(line_of(&past.lines, at)));
+    }
+    Ok(())
 }
 
 /// Answers a call as the log says from a place on, or else by the node. The place behind what the work was told is given
@@ -153,7 +164,7 @@ fn reply_from<R: Wait, C: Clockwork, I: Inbox, L: Write, O: Write, E: Write>(
 {
     let recalled = match recall(&past.entries, place, call) {
         Ok(recalled) => recalled,
-        Err(at) => return Err(Failure::Differs(line_of(past, at))),
+        Err(at) => return Err(Failure::Differs(line_of(&past.lines, at))),
     };
     if let Recalled::Told { reply, next } = recalled {
         return Ok((reply, next));
@@ -217,21 +228,8 @@ where
     fn into_post(self) -> Result<Post<L, O, E>, Failure>
         ensures { IfOk result (λ post. HasResumed S.begun post.node (L.contents post.log) self.entry) }
     {
-        let OwnMemory {
-            past,
-            place,
-            post,
-            told: _,
-            failure,
-            ..
-        } = self;
-        if let Some(failure) = failure {
-            return Err(failure);
-        }
-        match check_told(&past.entries, place) {
-            Ok(()) => Ok(post),
-            Err(at) => Err(Failure::Differs(line_of(past, at))),
-        }
+        check_done(self.past, self.place, self.failure)?;
+        Ok(self.post)
     }
 }
 
@@ -244,33 +242,6 @@ pub struct Worked<T, L> {
     pub node: Node,
     /// Its log.
     pub log: L,
-}
-
-/// A node that goes on with what it holds, and pulses to the others, with what it speaks to.
-fn awake<C: Clockwork, L: Drop, O: Drop, E: Drop>(
-    clock: &C,
-    node: Node,
-    log: L,
-    out: O,
-    err: E,
-) -> Result<Post<L, O, E>, Failure>
-    ensures on { IfOk result (λ post. AddsEvents node post.node) }
-    ensures log { IfOk result (λ post. post.log ≡ log) }
-{
-    let mut node = node;
-    wake(&mut node)?;
-    let service = Service {
-        pulsed: clock.millis(),
-        // That its code may make a call is no end.
-        was_told: true,
-    };
-    Ok(Post {
-        node,
-        service,
-        log,
-        out,
-        err,
-    })
 }
 
 /// The memory of a work that begins.
@@ -366,7 +337,16 @@ where
     ensures { IfOk result (λ worked. HasWorked (W.done work.now) past.now.entries.items node worked.node (L.contents log) (L.contents worked.log) worked.gave) }
 {
     let me = node.me();
-    let post = awake(clock, node, log, out, err)?;
+    let mut node = node;
+    // That its code may make a call is no end, so none is to be told.
+    let service = awake(clock, &mut node, true)?;
+    let post = Post {
+        node,
+        service,
+        log,
+        out,
+        err,
+    };
     let mut memory = memory_of::<S, R, C, I, L, O, E>(rt, clock, inbox, past, post);
     let gave = work.work(me, &mut memory);
     let last = memory.into_post()?;

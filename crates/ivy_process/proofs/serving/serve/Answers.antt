@@ -7,9 +7,9 @@ returns g c =
     let L = g.L.Write.contents in
     let so : Streams c.args.node.now c.serve_on.new.node (g.L.Write.contents c.args.log.now)
     (g.L.Write.contents c.serve_on.new.log) =
-    streams-further c.args.node.now c.wake.new.node c.serve_on.new.node (L c.args.log.now)
+    streams-further c.args.node.now c.awake.new.node c.serve_on.new.node (L c.args.log.now)
     (L c.args.log.now) (L c.serve_on.new.log)
-    (streams-begin c.args.node.now c.wake.new.node (L c.args.log.now) c.in_ok-wake.ensures)
+    (streams-begin c.args.node.now c.awake.new.node (L c.args.log.now) c.in_ok-service.ensures)
     c.in_ok-serve_on.ensures in
     streams-whole c.args.node.now c.serve_on.new.node c.speak.new.self (L c.args.log.now)
     (L c.serve_on.new.log) (L c.speak.new.log) so c.in_ok-speak.ensures

@@ -11,9 +11,8 @@ memory_of-memory-requires-clause-past g c = ap (λ (f : Begun). f.past) c.requir
 pub memory_of-memory-requires-clause-began : goal.memory_of-memory-requires-clause-began
 memory_of-memory-requires-clause-began g c =
     let L = g.L.Write.contents in
-    let post = c.in_ok-post.post in
-    resumes-woken g.S.Beginning.begun c.args.past.now.entries.items c.args.node post.node
-    (L c.args.log) (L post.log) c.requires c.in_ok-post.ensures.on (ap L c.in_ok-post.ensures.log)
+    resumes-woken g.S.Beginning.begun c.args.past.now.entries.items c.args.node c.awake.new.node
+    (L c.args.log) c.requires c.in_ok-service.ensures
 
 pub returns : goal.returns
 returns g c =
