@@ -164,7 +164,7 @@ def product(_):
 
 OWN = (
     Own("own-hit", "hit", 2_000_000, words("hits", 1), own("mutex", 1), 2.0, units=2),
-    Own("own-eight", "hit", 500_000, words("hits", 8), own("hits", 1), 3.4, units=16, other_units=2, least=True),
+    Own("own-eight", "hit", 8_000_000, words("hits", 8), own("hits", 1), 3.4, units=16, other_units=2, least=True),
     Own("own-lock", "lock, unlock", 2_000_000, words("lock", 1), own("hits", 1), 4.0, other_units=2),
     Own("own-barrier", "meeting of 8", 1_000, words("barrier", 8), text(barrier), 1.3),
     Own("own-queue", "number", 10_000, words("queue", 2), text(small_queue), 1.0),
