@@ -3,8 +3,12 @@
  *     cc -O2 bench/lines.c -o lines
  *     ./lines LINES LENGTH
  *
- * It is what nodes in processes of their own are measured against: the same lines, with nothing behind them.
+ * It is what nodes in processes of their own are measured against: the same lines, with nothing behind them. Each process
+ * has a processor of its own, as nodes have that work at the same time: on one processor, where a line takes a third, they
+ * could only work by turns.
  */
+#define _GNU_SOURCE
+#include <sched.h>
 #include <stdio.h>
 #include <stdlib.h>
 #include <string.h>
@@ -33,6 +37,20 @@ static void hear(int from) {
     }
 }
 
+/* Stays on the processor of this number among those that it may use, if there are as many. */
+static void settle(int wanted) {
+    cpu_set_t may, one;
+    CPU_ZERO(&one);
+    if (sched_getaffinity(0, sizeof may, &may))
+        return;
+    for (int cpu = 0; cpu < CPU_SETSIZE; cpu++)
+        if (CPU_ISSET(cpu, &may) && wanted-- == 0) {
+            CPU_SET(cpu, &one);
+            sched_setaffinity(0, sizeof one, &one);
+            return;
+        }
+}
+
 int main(int words, char **word) {
     int there[2], back[2];
     if (words != 3 || atol(word[1]) < 2 || atol(word[2]) < 2) {
@@ -49,6 +67,7 @@ int main(int words, char **word) {
     pid_t other = fork();
     if (other < 0)
         return 1;
+    settle(other ? 0 : 1);
     for (long k = 0; k < each; k++) {
         if (other)
             say(there[1]);

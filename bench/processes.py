@@ -35,13 +35,18 @@ def options(size):
     return ("--pages", "2", "--page-size", str(size))
 
 
+def logged(logs, node):
+    """The option for a node's log, where the nodes keep logs."""
+    return ("--log", logs[node]) if logs else ()
+
+
 class Pair:
     """Two nodes, each of which hears what the other one says."""
 
     def __init__(self, program, file, words, logs):
         ends = [os.pipe(), os.pipe()]
         runs = [
-            weighed(f"node-{node}", [program, "run", file, str(node), *words, "--log", logs[node]])
+            weighed(f"node-{node}", [program, "run", file, str(node), *words, *logged(logs, node)])
             for node in range(2)
         ]
         self.told = [told for _, told in runs]
@@ -102,28 +107,29 @@ def pages_taken(log, size):
     return sum(length > 2 * size for length in lengths), len(lengths)
 
 
-def measure_page(program, room, size, count):
-    """A row: a hand-over, a string and a page beside a plain line of the length of a page's line."""
-    file = write_lines(Path(room) / "program", handing(size, count))
-    best, pages, strings = None, 0, 0
-    for run in range(RUNS):
-        logs = [Path(room) / f"{run}-{node}.log" for node in range(2)]
-        seconds, _ = run_pair(program, file, options(size), logs)
-        if best is None or seconds < best:
-            best = seconds
-            counted = [pages_taken(log, size) for log in logs]
-            pages, strings = (sum(column) for column in zip(*counted))
+def least_seconds(program, file, size, logs):
+    """The least seconds of some runs, and how many pages and strings went over in the last, where the nodes keep logs."""
+    found, counted = [], []
+    for _ in range(RUNS):
+        found.append(run_pair(program, file, options(size), logs)[0])
+        counted = [pages_taken(log, size) for log in logs]
         for log in logs:
             log.unlink()
+    return min(found), [sum(column) for column in zip(*counted)]
+
+
+def measure_page(program, room, size, count):
+    """A row: a page that goes over, without and with logs, beside a plain line of the length of a page's line."""
+    file = write_lines(Path(room) / "program", handing(size, count))
+    logs = [Path(room) / f"{node}.log" for node in range(2)]
+    seconds, (pages, strings) = least_seconds(program, file, size, logs)
+    bare, _ = least_seconds(program, file, size, [])
     plain = plain_seconds(room, count, 2 * (BESIDE + size) + 3) / count
-    each, page, string = best / count, best / pages, best / strings
-    print(
-        f"nodes-page-{size}: {count} hand-overs, {each * 1e6:.1f} us each; {pages} pages went over, "
-        f"{page * 1e6:.1f} us each; {strings} strings, {string * 1e6:.1f} us each; a plain line {plain * 1e6:.1f} us: "
-        f"times {each / plain:.2f}, {page / plain:.2f}, {string / plain:.2f}",
-        flush=True,
-    )
-    return page / plain <= MOST_TIMES
+    row = f"nodes-page-{size}: {count} hand-overs, for which {pages} pages went over and {strings} strings"
+    for kind, taken in (("without logs", bare), ("with logs", seconds)):
+        row += f"; {kind} {taken / pages * 1e6:.1f} us a page, {taken / pages / plain:.2f} times a plain line"
+    print(f"{row}; a plain line {plain * 1e6:.1f} us", flush=True)
+    return bare / pages / plain <= MOST_TIMES
 
 
 def measure_memory(program, room, count):

@@ -106,7 +106,7 @@ replicate-at zero y i l = absurd (omega (arith, l))
 replicate-at (suc n) y zero l = refl
 replicate-at (suc n) y (suc i) l = replicate-at n y i (omega (arith, l))
 
-replicate-is : {X : Type 0} (n : ℕ) (y : X) (i : ℕ) (x : X) → slice_get (replicate n y) i ≡ Some x
+pub replicate-is : {X : Type 0} (n : ℕ) (y : X) (i : ℕ) (x : X) → slice_get (replicate n y) i ≡ Some x
     → (i < n) × (x ≡ y)
 replicate-is zero y i x at = absurd (none-some x at)
 replicate-is (suc n) y zero x at = (omega arith, sym (same_Some y x at))

@@ -1,5 +1,5 @@
 -- How far the logs were made: one of them goes on, none does, or all are at their end.
-use Rattle.std.proofs.Common.{◌≡◌, ◌≢◌, ℕ, zero, suc, ◌+◌, ◌-◌, ◌<◌, ◌≤◌, List, [], ◌∷◌, ◌++◌, length, map, take, drop, set, get_or, slice_get, Some, None, option_map, refl, sym, ap, subst, ◌∙◌, append_assoc, inl, inr, arith}
+use Rattle.std.proofs.Common.{◌≡◌, ◌≢◌, ℕ, zero, suc, ◌+◌, ◌-◌, ◌<◌, ◌≤◌, List, [], ◌∷◌, ◌++◌, length, map, take, drop, set, get_or, replicate, slice_get, Some, None, option_map, refl, sym, ap, subst, ◌∙◌, append_assoc, inl, inr, arith}
 use Rattle.std.proofs.lemmas.Bool.{cases_eq}
 use Rattle.std.proofs.lemmas.List.{take_all}
 use Rattle.std.proofs.lemmas.Option.{same_Some, none-some, slice_get-map, slice_get_within, slice_get_cases}
@@ -11,6 +11,7 @@ use Rattle.ivy_site.specs.SiteView.{SiteView}
 use Rattle.ivy_join.specs.Exact.{left_of, AreAllMade, AreMadeTo, AreStuck, IsMadeTo, IsStuck}
 use Rattle.ivy_join.specs.Joined.{list_of, part_in}
 use Rattle.ivy_join.specs.Joining.{events_at, listed}
+use Rattle.ivy_join.proofs.Calls.{replicate-is}
 use Rattle.ivy_join.proofs.Handed.{there_is}
 
 -- what stands behind the events that were made
@@ -150,3 +151,12 @@ pub stuck-all : (n : ℕ) (sent : List (List ℕ)) (logs : List (List Event)) (m
     → AreStuckTo n sent logs made → AreStuck sent logs made
 stuck-all n sent logs made all to i log m at was =
     let l = slice_get_within logs i log at in to i (omega (arith, l, all)) log m at was
+
+-- none was made yet
+pub none-made : (logs : List (List Event)) (made : List ℕ) (n : ℕ) (sites : List SiteView)
+    → made ≡ replicate n 0 → ((i : ℕ) → events_at sites i ≡ []) → AreMadeTo logs made sites
+none-made logs made n sites zeros none i log m there now =
+    let first : m ≡ 0 = (replicate-is n 0 i m (ap (λ l. slice_get l i) (sym zeros) ∙ now)).1 in record {
+      few = omega (arith, first);
+      are = none i ∙ ap (λ j. marks (take j log)) (sym first);
+    }

@@ -2,6 +2,7 @@
 use Rattle.std.proofs.Common.{◌≡◌, ◌≢◌, ℕ, ◌+◌, ◌<◌, ◌≤◌, ◌==◌, false, not, List, length, drop, get_or, sym, ap, subst, ◌∙◌, arith}
 use Rattle.std.specs.Prelude.{IsTrue}
 use Rattle.std.proofs.lemmas.Bool.{eqb-false, eqb-true, not-false, not-true}
+use Rattle.std.proofs.lemmas.List.{drop_all}
 use Rattle.ivy_model.specs.declared.Config.{Config}
 use Rattle.ivy_moves.specs.Events.{Event}
 use Rattle.ivy_moves.specs.Marks.{marks}
@@ -45,6 +46,21 @@ module _ (node : ℕ) (log : List Event) (first place : ℕ) (old cur : List Sit
     stuck = λ same. subst (λ m. IsStuck sent0 (drop m log)) (none_more made at same)
         (subst (λ l. IsStuck l (drop place log)) (strings (none_more made at same))
         (subst (IsStuck sent) (sym (drop_at log place event below is)) w.unsent));
+  }
+
+  -- none is left
+  pub plays-end : (made : ℕ) → made ≡ place → length log ≤ place
+      → PlaysTo node log first made old cur sent0 sent (not (made == first))
+  plays-end made at past = record {
+    have = have;
+    here = subst (λ m. IsMadeTo log m (events_at cur node)) (sym at) here;
+    elsewhere = elsewhere;
+    more = went_more made at;
+    sites = λ same. sites (none_more made at same);
+    strings = λ same. strings (none_more made at same);
+    place = λ same. at ∙ none_more made at same;
+    stuck = λ same. subst (λ m. IsStuck sent0 (drop m log)) (none_more made at same)
+        (subst (IsStuck sent0) (sym (drop_all place log past)) tt);
   }
 
   -- it can't be made

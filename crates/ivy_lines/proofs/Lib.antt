@@ -1,3 +1,4 @@
 pub mod Cursors
 pub mod Wholes
 pub mod Owned
+pub mod Frames

@@ -1,5 +1,5 @@
 -- What the lines of logs of own code say, and how they are written.
-use Rattle.std.specs.Prelude.{◌≡◌, ℕ, List, [], ◌∷◌, ◌++◌, codes, flat_map}
+use Rattle.std.specs.Prelude.{ℕ, List, [], ◌∷◌, ◌++◌, codes, flat_map}
 use Rattle.std.specs.List.{AllZip, before_first, after_first}
 use Rattle.std.specs.Str.Lines.{lines}
 use Rattle.ivy_model.specs.declared.Call.{Call}

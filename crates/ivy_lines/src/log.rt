@@ -6,9 +6,9 @@ ghost use Rattle.ivy_program.specs.Lines.{IsNumberWord};
 ghost use Rattle.ivy_program.specs.Texts.{IsRefusal};
 ghost use Rattle.ivy_program.specs.Words.{words_of};
 ghost use Rattle.ivy_texts.specs.Spelled.{worded};
-ghost use Rattle.ivy_lines.specs.Spelled.{kind_word, HasWholeLines, IsHexOf, SpellsHead, SpellsEvent, SpellsLog, SpellsNode};
+ghost use Rattle.ivy_lines.specs.Spelled.{kind_word, HasWholeLines, SpellsHead, SpellsEvent, SpellsLog, SpellsNode};
 
-use hex::FromHexError;
+use ivy_digits::bytes_of;
 use ivy_model::{Config, Fault, Kind};
 use ivy_moves::Event;
 use ivy_program::{few_words, parse_number};
@@ -39,18 +39,6 @@ pub struct Log<A: Allocator> {
     pub events: Vec<Event<Bytes<A>>, A>,
     /// The line of each event, from 1.
     pub lines: Vec<u64, A>,
-}
-
-/// The bytes of a word in hexadecimal digits, or none where it is no such word [1].
-pub(crate) fn decode<A: Allocator>(alloc: A, word: &str) -> Result<Option<Vec<u8, A>>, Fault>
-    ensures spelled { IfOk result (λ o. IfSome o (λ bytes. IsHexOf word.now bytes.items)) }
-    ensures memory { IsOkUnless result Fault.Memory }
-{
-    match hex::decode(alloc, word) {
-        Ok(bytes) => Ok(Some(bytes)),
-        Err(FromHexError::OutOfMemory) => Err(Fault::Memory),
-        Err(_) => Ok(None),
-    }
 }
 
 /// A number of four bytes.
@@ -132,7 +120,7 @@ fn taken<A: Allocator + Copy>(alloc: A, digits: &str) -> Result<Option<Event<Byt
     ensures spelled { IfOk result (λ o. IfSome o (SpellsEvent (codes "took" ∷ digits.now ∷ []))) }
     ensures memory { IsOkUnless result Fault.Memory }
 {
-    match decode(alloc, digits)? {
+    match bytes_of(alloc, digits.as_bytes())? {
         Some(bytes) => Ok(Some(Event::Delivered(Bytes::from_vec(alloc, bytes)?))),
         None => Ok(None),
     }

@@ -1,28 +1,16 @@
 //! What is written of frames and of logs.
 ghost use Rattle.std.specs.Prelude.{◌≡◌, ◌++◌, OnOk, string_bytes};
-ghost use Rattle.hex.specs.Hex.{encode_lower};
 ghost use Rattle.ivy_lines.specs.Printed.{event_line, frame_line, head_line, log_text};
 ghost use Rattle.ivy_lines.specs.Spelled.{kind_word};
 
 use crate::log::Head;
+use ivy_digits::push_digits;
 use ivy_model::Kind;
 use ivy_moves::Event;
 use ivy_texts::Decimal;
 use ivy_wire::Bytes;
 use std::alloc::{AllocError, Allocator};
 use std::fmt::Write;
-
-/// Writes a string of bytes behind a text, as hexadecimal digits in lower case.
-fn push_hex<A: Allocator + Copy>(
-    alloc: A,
-    text: &mut String<A>,
-    bytes: &[u8],
-) -> Result<(), AllocError>
-    ensures { OnOk result (string_bytes text.new ≡ string_bytes text.old ++ encode_lower bytes.now) }
-{
-    let digits = hex::encode(alloc, bytes)?;
-    text.push_str(digits.as_str())
-}
 
 /// Writes the line of a frame for a node behind a text. Err only where the allocator has no memory.
 pub fn push_frame<A: Allocator + Copy>(
@@ -34,7 +22,7 @@ pub fn push_frame<A: Allocator + Copy>(
     ensures { OnOk result (string_bytes text.new ≡ string_bytes text.old ++ frame_line to bytes.now) }
 {
     write!(text, "{} ", Decimal(u64::from(to)))?;
-    push_hex(alloc, text, bytes)?;
+    push_digits(alloc, text, bytes)?;
     text.push('\n')
 }
 
@@ -75,7 +63,7 @@ pub fn push_event<A: Allocator + Copy>(
         Event::Pulsed(to) => writeln!(text, "pulse {}", Decimal(u64::from(*to))),
         Event::Delivered(bytes) => {
             text.push_str("took ")?;
-            push_hex(alloc, text, bytes.bytes())?;
+            push_digits(alloc, text, bytes.bytes())?;
             text.push('\n')
         }
     }

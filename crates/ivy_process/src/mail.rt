@@ -2,6 +2,8 @@
 
 use std::alloc::{Allocator, Global};
 use std::collections::VecDeque;
+use std::hint::spin_loop;
+use std::sync::atomic::{AtomicBool, AtomicU64, Ordering};
 use std::sync::{Mutex, Wait};
 use std::thread::Parker;
 use std::time::Duration;
@@ -9,10 +11,14 @@ use std::time::Duration;
 /// So many lines wait at most; one that finds no place is lost.
 const MOST_LINES: usize = 1024;
 
+/// So often who waits looks whether something came before it sleeps, since to be woken takes as long as many an answer.
+const MOST_LOOKS: u64 = 16_384;
+
 /// What was found.
 #[derive(Drop)]
 pub enum Taken {
-    Line(String),
+    /// A line, without its LF.
+    Line(Vec<u8>),
     /// No line waits.
     Nothing,
     /// No line waits, and none will come.
@@ -30,12 +36,12 @@ pub trait Inbox {
 
 #[derive(Drop)]
 struct Inside {
-    lines: VecDeque<String>,
+    lines: VecDeque<Vec<u8>>,
     has_ended: bool,
 }
 
 impl Inside {
-    fn put(&mut self, line: String) -> bool {
+    fn put(&mut self, line: Vec<u8>) -> bool {
         self.lines.len() < MOST_LINES && self.lines.push_back(line).is_ok()
     }
 
@@ -51,12 +57,24 @@ impl Inside {
 /// Lines between two threads, of which one puts and the other takes.
 pub struct Mail {
     inside: Mutex<Inside>,
+    /// Whether something came since nothing was found.
+    has_come: AtomicBool,
+    /// Whether who takes sleeps, or is about to.
+    sleeps: AtomicBool,
+    /// So often who takes looks before it sleeps.
+    looks: AtomicU64,
     bell: Parker,
 }
 
 impl Drop for Mail {
     fn drop(self) {
-        let Mail { inside: _, bell: _ } = self;
+        let Mail {
+            inside: _,
+            has_come: _,
+            sleeps: _,
+            looks: _,
+            bell: _,
+        } = self;
     }
 }
 
@@ -68,16 +86,27 @@ impl Mail {
                 lines: VecDeque::new(alloc),
                 has_ended: false,
             }),
+            has_come: AtomicBool::new(false),
+            sleeps: AtomicBool::new(false),
+            looks: AtomicU64::new(MOST_LOOKS),
             bell: Parker::new(),
         }
     }
 
+    /// Something came.
+    fn tell(&self) {
+        self.has_come.store(true, Ordering::SeqCst);
+        if self.sleeps.swap(false, Ordering::SeqCst) {
+            self.bell.unpark();
+        }
+    }
+
     /// Puts a line behind those that wait. It tells whether it found a place.
-    pub fn put<R: Wait>(&self, rt: &R, line: String) -> bool {
+    pub fn put<R: Wait>(&self, rt: &R, line: Vec<u8>) -> bool {
         let mut inside = self.inside.lock(rt);
         let kept = inside.put(line);
         drop(inside);
-        self.bell.unpark();
+        self.tell();
         kept
     }
 
@@ -86,16 +115,40 @@ impl Mail {
         let mut inside = self.inside.lock(rt);
         inside.has_ended = true;
         drop(inside);
-        self.bell.unpark();
+        self.tell();
+    }
+
+    /// Looks for a while whether something comes: half as long after each time in vain, and as long as at first after all of
+    /// these. So where others need the processor, or nothing comes, next to none of its time is taken.
+    fn look(&self) -> bool {
+        let looks = self.looks.load(Ordering::SeqCst);
+        for _ in 0..looks {
+            if self.has_come.load(Ordering::SeqCst) {
+                self.looks.store(MOST_LOOKS, Ordering::SeqCst);
+                return true;
+            }
+            spin_loop();
+        }
+        let next = if looks == 0 { MOST_LOOKS } else { looks / 2 };
+        self.looks.store(next, Ordering::SeqCst);
+        false
     }
 }
 
 impl Inbox for Mail {
     fn take<R: Wait>(&self, rt: &R) -> Taken {
+        self.has_come.store(false, Ordering::SeqCst);
         self.inside.lock(rt).take()
     }
 
     fn wait<R: Wait>(&self, rt: &R, millis: u64) {
-        self.bell.park_timeout(rt, Duration::from_millis(millis));
+        if self.look() {
+            return;
+        }
+        self.sleeps.store(true, Ordering::SeqCst);
+        if !self.has_come.load(Ordering::SeqCst) {
+            self.bell.park_timeout(rt, Duration::from_millis(millis));
+        }
+        self.sleeps.store(false, Ordering::SeqCst);
     }
 }

@@ -284,7 +284,7 @@ impl Node {
     }
 
     /// A line comes. A frame for another node is left alone, and a line without a frame is counted.
-    pub fn hear(&mut self, line: &str) -> Result<(), Failure>
+    pub fn hear(&mut self, line: &[u8]) -> Result<(), Failure>
         ensures { OnOk result (AddsEvents self.old self.new) }
     {
         match parse_frame(self.alloc, line)? {

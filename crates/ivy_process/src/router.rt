@@ -25,11 +25,11 @@ pub struct Harm {
     pub reorder: u64,
 }
 
-/// Lines on their way through a medium.
+/// Lines on their way through a medium, each with its LF.
 pub struct Router {
     harm: Harm,
     generator: Lcg64Xsh32,
-    held: Vec<String>,
+    held: Vec<Vec<u8>>,
 }
 
 impl Drop for Router {
@@ -66,18 +66,19 @@ impl Router {
             return Ok(());
         }
         let line = self.held.swap_remove((word % count as u64) as usize);
-        writeln!(out, "{line}")?;
+        out.write_all(&line)?;
         if is_repeated {
-            writeln!(out, "{line}")?;
+            out.write_all(&line)?;
         }
         Ok(())
     }
 
     /// A line comes. It may be lost, and one that is held back may go out.
-    pub fn hear<W: Write>(&mut self, line: String, out: &mut W) -> io::Result<()> {
+    pub fn hear<W: Write>(&mut self, mut line: Vec<u8>, out: &mut W) -> io::Result<()> {
         if self.draw() % 100 < self.harm.lose {
             return Ok(());
         }
+        line.push(b'\n')?;
         self.held.push(line)?;
         if self.held.len() as u64 > self.harm.reorder {
             self.let_one_go(out)?;

@@ -49,7 +49,7 @@ fn hear<R: Wait, I: Inbox>(rt: &R, inbox: &I, node: &mut Node) -> Result<Heard, 
     let mut lines = 0u64;
     while lines < MOST_STRINGS {
         match inbox.take(rt) {
-            Taken::Line(line) => node.hear(line.as_str())?,
+            Taken::Line(line) => node.hear(&line)?,
             Taken::Nothing => {
                 return Ok(Heard {
                     lines,

@@ -8,18 +8,21 @@ use std::rt::Stdin;
 use std::sync::{Arc, Wait};
 use std::thread::{self, Threads};
 
+/// So many bytes a pipe holds: what is there is read at once.
+const PIPE_BYTES: usize = 65_536;
+
 fn read_input<R: Wait>(
     rt: &R,
     alloc: Global,
     stdin: Stdin,
-    most: u64,
+    most: usize,
     inbox: &Mail,
 ) -> io::Result<()> {
-    let mut from = BufReader::new(alloc, stdin)?;
+    let mut from = BufReader::with_capacity(alloc, PIPE_BYTES, stdin)?;
     read_all(rt, alloc, &mut from, most, inbox)
 }
 
-fn read_to_end<R: Wait>(rt: &R, alloc: Global, stdin: Stdin, most: u64, inbox: &Mail) {
+fn read_to_end<R: Wait>(rt: &R, alloc: Global, stdin: Stdin, most: usize, inbox: &Mail) {
     // Where no more can be read, the input has ended as well.
     let _ = read_input(rt, alloc, stdin, most, inbox);
     inbox.end(rt);
@@ -27,7 +30,7 @@ fn read_to_end<R: Wait>(rt: &R, alloc: Global, stdin: Stdin, most: u64, inbox: &
 
 /// Starts the thread that reads standard input, whose lines have at most so many bytes. It is not joined: nothing ends a
 /// read that waits, so it ends with the process.
-pub fn inbox_of<R>(rt: R, alloc: Global, stdin: Stdin, most: u64) -> io::Result<Arc<Mail>>
+pub fn inbox_of<R>(rt: R, alloc: Global, stdin: Stdin, most: usize) -> io::Result<Arc<Mail>>
 where
     R: Threads + Wait + Copy + Send + 'static,
 {

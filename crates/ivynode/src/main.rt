@@ -52,6 +52,15 @@ Options of router, in percent but for K and S:
   --lose P, --repeat P, --reorder K, --seed S          0, 0, 0, 1
 ";
 
+/// Tells of the program.
+fn tell<O: Write>(help: Help, out: &mut O) -> Result<(), Failure> {
+    match help {
+        Help::Usage => write!(out, "{HELP}")?,
+        Help::Version => writeln!(out, "ivynode 1")?,
+    }
+    Ok(())
+}
+
 /// Carries out a request, and gives the exit status.
 fn carry_out<R, O, E>(
     rt: R,
@@ -68,14 +77,12 @@ where
     ensures own { IsJoinOwn request.entry → MatchResult result (λ status. PrintsOwnJoined (O.contents out.old) (O.contents out.new)) (λ _. Unit {0}) }
 {
     match request {
-        Request::Help(Help::Usage) => write!(out, "{HELP}")?,
-        Request::Help(Help::Version) => writeln!(out, "ivynode 1")?,
-        Request::Run(asked) => return run(rt, &asked, stdin, out, err),
-        Request::Router { harm, seed } => run_router(rt, harm, seed, stdin, out)?,
-        Request::Join { file, logs } => join_files(&rt, file, &logs, out)?,
-        Request::JoinOwn { logs } => join_own_files(&rt, &logs, out)?,
+        Request::Help(help) => tell(help, out).and(Ok(0)),
+        Request::Run(asked) => run(rt, &asked, stdin, out, err),
+        Request::Router { harm, seed } => run_router(rt, harm, seed, stdin, out).and(Ok(0)),
+        Request::Join { file, logs } => join_files(&rt, file, &logs, out).and(Ok(0)),
+        Request::JoinOwn { logs } => join_own_files(&rt, &logs, out).and(Ok(0)),
     }
-    Ok(0)
 }
 
 /// Carries out what the words ask for, and gives the exit status.

@@ -20,10 +20,10 @@ use std::thread::Threads;
 const WAITING: u8 = 3;
 
 /// A line of a frame has so many bytes at most beside two for each byte of the page: its header, the number of its node.
-const LINE_BYTES: u64 = 256;
+const LINE_BYTES: usize = 256;
 
 /// So many bytes a line of the router has at most.
-const ROUTER_BYTES: u64 = 16_384;
+const ROUTER_BYTES: usize = 16_384;
 
 /// The clock of a runtime.
 #[derive(Drop)]
@@ -138,8 +138,8 @@ fn part_of<R: Files + AllocGlobal>(
 }
 
 /// So many bytes a line has at most that a node hears.
-fn line_bytes(config: &Config) -> u64 {
-    u64::from(config.page_size)
+fn line_bytes(config: &Config) -> usize {
+    (config.page_size as usize)
         .saturating_mul(2)
         .saturating_add(LINE_BYTES)
 }
@@ -149,7 +149,7 @@ fn line_bytes(config: &Config) -> u64 {
 struct Opened {
     node: Node,
     log: Log,
-    line_bytes: u64,
+    line_bytes: usize,
 }
 
 /// The node with its log.

@@ -1,6 +1,7 @@
 //! Lines that are written one at a time.
 ghost use Rattle.std.specs.Prelude.{◌≤◌, length};
 
+use memchr::memchr;
 use std::io::{self, Write};
 
 /// Hands a writer one line at a time. So where several nodes write into one pipe, it keeps each line whole that has at
@@ -14,7 +15,7 @@ pub(crate) struct LineByLine<W> {
 fn end_of_line(bytes: &[u8]) -> usize
     ensures { result ≤ length bytes.now }
 {
-    match bytes.iter().position(|byte| *byte == b'\n') {
+    match memchr(b'\n', bytes) {
         Some(place) => place + 1,
         None => bytes.len(),
     }

@@ -45,7 +45,7 @@ pub(crate) fn mail_of<R: Abort + Wait>(rt: &R, alloc: Global, forms: &[&str]) ->
     let inbox = Mail::new(alloc);
     for form in forms {
         let line = spelled(rt, alloc, form);
-        assert!(rt; inbox.put(rt, line));
+        assert!(rt; inbox.put(rt, line.into_bytes()));
     }
     inbox.end(rt);
     inbox

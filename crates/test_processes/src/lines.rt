@@ -53,14 +53,14 @@ fn a_torn_line_is_none_and_a_faulty_one_is_named(rt: HostRuntime) {
 #[test]
 fn a_frame_has_a_line(rt: HostRuntime) {
     let alloc = rt.alloc();
-    let found = parse_frame(alloc, "7 4Aa0").expect(&rt, "memory");
+    let found = parse_frame(alloc, b"7 4Aa0").expect(&rt, "memory");
     let frame = found.expect(&rt, "a frame");
     expect_same(&rt, frame.to, 7);
     let mut line = String::new(alloc);
     push_frame(alloc, &mut line, 7, &frame.bytes).expect(&rt, "memory");
     expect_same(&rt, line.as_str(), "7 4aa0\n");
     for bad in &["", "7", "7 4", "7 4g", "x 4a", "7 4a 4a", "-1 4a", "4a4a"] {
-        let none = parse_frame(alloc, *bad).expect(&rt, "memory");
+        let none = parse_frame(alloc, bad.as_bytes()).expect(&rt, "memory");
         assert!(&rt; none.is_none());
     }
 }

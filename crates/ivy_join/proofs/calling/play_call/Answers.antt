@@ -1,4 +1,5 @@
-use Rattle.std.proofs.Common.{rules, [], ◌∷◌, IfSome, slice_get, subst}
+use Rattle.std.proofs.Common.{rules, ◌<◌, [], length, sym, ◌∷◌, IfSome, slice_get, subst}
+use Rattle.std.proofs.lemmas.Result.{IfOk-from_err}
 use Rattle.ivy_program.specs.Owned.{IsFree}
 use Rattle.ivy_join.proofs.Handed.{calls-called, calls-played}
 use Rattle.ivy_join.proofs.calling.play_call.Goals as goal
@@ -20,3 +21,21 @@ pub returns-clause-called : goal.returns-clause-called
 returns-clause-called g c =
     calls-called c.args.sites.now.items c.args.node ((c.args.call ∷ []) ∷ []) c.hand.new.sites.items
     c.requires.node c.in_ok-hand.ensures.ok
+
+pub may_ask-requires : goal.may_ask-requires
+may_ask-requires g c = subst (λ l. c.args.node < length l) (sym c.deref.ensures.value) c.requires.node
+
+pub hand-requires-clause-node : goal.hand-requires-clause-node
+hand-requires-clause-node g c = c.requires.node
+
+pub returns-in_err-hand-clause-played : goal.returns-in_err-hand-clause-played
+returns-in_err-hand-clause-played g c = IfOk-from_err c.from_residual.result _ c.from_residual.ensures.0
+
+pub returns-in_err-hand-clause-called : goal.returns-in_err-hand-clause-called
+returns-in_err-hand-clause-called g c = IfOk-from_err c.from_residual.result _ c.from_residual.ensures.0
+
+pub returns-in_err-hand-clause-count : goal.returns-in_err-hand-clause-count
+returns-in_err-hand-clause-count g c = c.in_err-hand.ensures.count
+
+pub returns-clause-count : goal.returns-clause-count
+returns-clause-count g c = c.in_ok-hand.ensures.count

@@ -1,5 +1,6 @@
 use Rattle.std.proofs.Common.{rules, ◌≡◌, ◌++◌, ◌∷◌, [], length, ap, sym, ◌∙◌, append-nil, arith}
 use Rattle.std.proofs.lemmas.List.{nil_from_length}
+use Rattle.std.proofs.lemmas.Result.{IfOk-from_err}
 use Rattle.std.specs.Vec.Iter.{into_iter_items}
 use Rattle.ivy_join.specs.Joining.{kept_from}
 use Rattle.ivy_join.proofs.Ended.{one_more_kept}
@@ -46,3 +47,20 @@ returns-clause-first g c =
     sym (append-nil at.sites.items)
     ∙ ap (λ l. at.sites.items ++ kept_from c.args.config.now at.me l) (sym empty)
     ∙ at.invariant.all
+
+pub returns-in_err-sites-clause-first : goal.returns-in_err-sites-clause-first
+returns-in_err-sites-clause-first g c = IfOk-from_err c.from_residual.result _ c.from_residual.ensures.0
+
+pub returns-in_err-new-clause-first : goal.returns-in_err-new-clause-first
+returns-in_err-new-clause-first g c =
+    IfOk-from_err c.from_residual-in_err-new.result _ c.from_residual-in_err-new.ensures.0
+
+pub returns-in_err-push-clause-first : goal.returns-in_err-push-clause-first
+returns-in_err-push-clause-first g c =
+    IfOk-from_err c.from_residual-in_err-push.result _ c.from_residual-in_err-push.ensures.0
+
+pub new-requires-clause-limits : goal.new-requires-clause-limits
+new-requires-clause-limits g c = c.requires.limits
+
+pub returns-clause-memory : goal.returns-clause-memory
+returns-clause-memory g c = tt

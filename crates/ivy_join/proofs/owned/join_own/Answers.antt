@@ -1,5 +1,6 @@
-use Rattle.std.proofs.Common.{rules, [], length, map, ap, sym, subst, ◌∙◌}
+use Rattle.std.proofs.Common.{refl, [], length, map, ap, sym, subst, ◌∙◌}
 use Rattle.std.proofs.lemmas.List.{length-replicate}
+use Rattle.std.proofs.lemmas.Result.{IfOk-from_err}
 use Rattle.ivy_model.specs.Config.{IsConfig}
 use Rattle.ivy_program.specs.Programs.{Called}
 use Rattle.ivy_world.specs.Handed.{own_code}
@@ -11,21 +12,21 @@ use Rattle.ivy_join.proofs.owned.join_own.Goals as goal
 
 pub play_own-requires-clause-played : goal.play_own-requires-clause-played
 play_own-requires-clause-played g c =
-    let limits : IsConfig c.args.config = c.in_ok-check_wide.ensures.accepted.0 (search rules) in
+    let limits : IsConfig c.args.config = c.in_ok-check_wide.ensures.accepted.0 refl in
     subst (ArePlayed c.args.config c.in_ok-sites.sites.items) (sym c.new-sent.ensures)
     (first-played c.args.config (own_code c.args.config.nodes) c.in_ok-sites.sites.items limits
     (length-replicate c.args.config.nodes (Called [])) c.in_ok-sites.ensures.first)
 
 pub play_own-requires-clause-logs : goal.play_own-requires-clause-logs
 play_own-requires-clause-logs g c =
-    let limits : IsConfig c.args.config = c.in_ok-check_wide.ensures.accepted.0 (search rules) in
+    let limits : IsConfig c.args.config = c.in_ok-check_wide.ensures.accepted.0 refl in
     c.in_ok-check_heads.ensures.count
     ∙ sym (first-played c.args.config (own_code c.args.config.nodes) c.in_ok-sites.sites.items limits
     (length-replicate c.args.config.nodes (Called [])) c.in_ok-sites.ensures.first).count
 
 pub play_own-requires-clause-own : goal.play_own-requires-clause-own
 play_own-requires-clause-own g c =
-    let limits : IsConfig c.args.config = c.in_ok-check_wide.ensures.accepted.0 (search rules) in
+    let limits : IsConfig c.args.config = c.in_ok-check_wide.ensures.accepted.0 refl in
     first_programs c.args.config (own_code c.args.config.nodes) c.in_ok-sites.sites.items limits
     (length-replicate c.args.config.nodes (Called [])) c.in_ok-sites.ensures.first
     ∙ ap own_code (sym c.in_ok-check_heads.ensures.count)
@@ -42,7 +43,7 @@ check_answers-requires-clause-kept g c =
 
 pub check_answers-requires-clause-each : goal.check_answers-requires-clause-each
 check_answers-requires-clause-each g c =
-    let limits : IsConfig c.args.config = c.in_ok-check_wide.ensures.accepted.0 (search rules) in
+    let limits : IsConfig c.args.config = c.in_ok-check_wide.ensures.accepted.0 refl in
     let began = first-played c.args.config (own_code c.args.config.nodes) c.in_ok-sites.sites.items limits
     (length-replicate c.args.config.nodes (Called [])) c.in_ok-sites.ensures.first in
     c.in_ok-check_heads.ensures.count ∙ sym began.count ∙ sym c.in_ok-play_own.ensures.count
@@ -57,7 +58,7 @@ returns-clause-heads g c = c.in_ok-check_heads.ensures.each
 
 pub returns-clause-joined : goal.returns-clause-joined
 returns-clause-joined g c =
-    let limits : IsConfig c.args.config = c.in_ok-check_wide.ensures.accepted.0 (search rules) in
+    let limits : IsConfig c.args.config = c.in_ok-check_wide.ensures.accepted.0 refl in
     let began = first-played c.args.config (own_code c.args.config.nodes) c.in_ok-sites.sites.items limits
     (length-replicate c.args.config.nodes (Called [])) c.in_ok-sites.ensures.first in
     subst (AreOwnJoined c.args.config (map (λ l. l.entries.items) c.args.logs.now)) (sym c.new.ensures)
@@ -71,3 +72,83 @@ returns-clause-joined g c =
 pub returns-clause-answered : goal.returns-clause-answered
 returns-clause-answered g c = own-answered c.args.config (map (λ l. l.entries.items) c.args.logs.now)
     c.new.result (returns-clause-joined g c)
+
+pub returns-in_err-check_wide-clause-heads : goal.returns-in_err-check_wide-clause-heads
+returns-in_err-check_wide-clause-heads g c = IfOk-from_err c.from_residual.result _ c.from_residual.ensures.0
+
+pub returns-in_err-check_wide-clause-joined : goal.returns-in_err-check_wide-clause-joined
+returns-in_err-check_wide-clause-joined g c = IfOk-from_err c.from_residual.result _ c.from_residual.ensures.0
+
+pub returns-in_err-check_wide-clause-answered : goal.returns-in_err-check_wide-clause-answered
+returns-in_err-check_wide-clause-answered g c = IfOk-from_err c.from_residual.result _ c.from_residual.ensures.0
+
+pub returns-in_err-check_heads-clause-heads : goal.returns-in_err-check_heads-clause-heads
+returns-in_err-check_heads-clause-heads g c =
+    IfOk-from_err c.from_residual-in_err-check_heads.result _ c.from_residual-in_err-check_heads.ensures.0
+
+pub returns-in_err-check_heads-clause-joined : goal.returns-in_err-check_heads-clause-joined
+returns-in_err-check_heads-clause-joined g c =
+    IfOk-from_err c.from_residual-in_err-check_heads.result _ c.from_residual-in_err-check_heads.ensures.0
+
+pub returns-in_err-check_heads-clause-answered : goal.returns-in_err-check_heads-clause-answered
+returns-in_err-check_heads-clause-answered g c =
+    IfOk-from_err c.from_residual-in_err-check_heads.result _ c.from_residual-in_err-check_heads.ensures.0
+
+pub returns-in_err-sites-clause-heads : goal.returns-in_err-sites-clause-heads
+returns-in_err-sites-clause-heads g c =
+    IfOk-from_err c.from_residual-in_err-sites.result _ c.from_residual-in_err-sites.ensures.0
+
+pub returns-in_err-sites-clause-joined : goal.returns-in_err-sites-clause-joined
+returns-in_err-sites-clause-joined g c =
+    IfOk-from_err c.from_residual-in_err-sites.result _ c.from_residual-in_err-sites.ensures.0
+
+pub returns-in_err-sites-clause-answered : goal.returns-in_err-sites-clause-answered
+returns-in_err-sites-clause-answered g c =
+    IfOk-from_err c.from_residual-in_err-sites.result _ c.from_residual-in_err-sites.ensures.0
+
+pub returns-in_err-play_own-clause-heads : goal.returns-in_err-play_own-clause-heads
+returns-in_err-play_own-clause-heads g c =
+    IfOk-from_err c.from_residual-in_err-play_own.result _ c.from_residual-in_err-play_own.ensures.0
+
+pub returns-in_err-play_own-clause-joined : goal.returns-in_err-play_own-clause-joined
+returns-in_err-play_own-clause-joined g c =
+    IfOk-from_err c.from_residual-in_err-play_own.result _ c.from_residual-in_err-play_own.ensures.0
+
+pub returns-in_err-play_own-clause-answered : goal.returns-in_err-play_own-clause-answered
+returns-in_err-play_own-clause-answered g c =
+    IfOk-from_err c.from_residual-in_err-play_own.result _ c.from_residual-in_err-play_own.ensures.0
+
+pub returns-in_err-check_events-clause-heads : goal.returns-in_err-check_events-clause-heads
+returns-in_err-check_events-clause-heads g c =
+    IfOk-from_err c.from_residual-in_err-check_events.result _ c.from_residual-in_err-check_events.ensures.0
+
+pub returns-in_err-check_events-clause-joined : goal.returns-in_err-check_events-clause-joined
+returns-in_err-check_events-clause-joined g c =
+    IfOk-from_err c.from_residual-in_err-check_events.result _ c.from_residual-in_err-check_events.ensures.0
+
+pub returns-in_err-check_events-clause-answered : goal.returns-in_err-check_events-clause-answered
+returns-in_err-check_events-clause-answered g c =
+    IfOk-from_err c.from_residual-in_err-check_events.result _ c.from_residual-in_err-check_events.ensures.0
+
+pub returns-in_err-check_answers-clause-heads : goal.returns-in_err-check_answers-clause-heads
+returns-in_err-check_answers-clause-heads g c =
+    IfOk-from_err c.from_residual-in_err-check_answers.result _ c.from_residual-in_err-check_answers.ensures.0
+
+pub returns-in_err-check_answers-clause-joined : goal.returns-in_err-check_answers-clause-joined
+returns-in_err-check_answers-clause-joined g c =
+    IfOk-from_err c.from_residual-in_err-check_answers.result _ c.from_residual-in_err-check_answers.ensures.0
+
+pub returns-in_err-check_answers-clause-answered : goal.returns-in_err-check_answers-clause-answered
+returns-in_err-check_answers-clause-answered g c =
+    IfOk-from_err c.from_residual-in_err-check_answers.result _ c.from_residual-in_err-check_answers.ensures.0
+
+pub check_events-requires-clause-each : goal.check_events-requires-clause-each
+check_events-requires-clause-each g c =
+    let limits : IsConfig c.args.config = c.in_ok-check_wide.ensures.accepted.0 refl in
+    let began = first-played c.args.config (own_code c.args.config.nodes) c.in_ok-sites.sites.items limits
+    (length-replicate c.args.config.nodes (Called [])) c.in_ok-sites.ensures.first in
+    c.in_ok-check_heads.ensures.count ∙ sym began.count ∙ sym c.in_ok-play_own.ensures.count
+    ∙ ap length (sym c.deref.ensures.value)
+
+pub open_sites-requires : goal.open_sites-requires
+open_sites-requires g c = record { limits = c.in_ok-check_wide.ensures.accepted.0 refl }

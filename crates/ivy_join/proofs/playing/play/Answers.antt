@@ -1,12 +1,12 @@
-use Rattle.std.proofs.Common.{rules, ◌≡◌, length, map, drop, sym, subst, ◌∙◌}
+use Rattle.std.proofs.Common.{◌≡◌, ◌<◌, refl, length, map, drop, sym, subst, ◌∙◌}
 use Rattle.std.proofs.lemmas.List.{take_at}
-use Rattle.std.proofs.lemmas.Result.{err_from_is_err_and, IfErr-weaker, on_ok_weaker}
+use Rattle.std.proofs.lemmas.Result.{err_from_is_err_and, IfErr-weaker, IfOk-from_err, on_ok_weaker}
 use Rattle.ivy_world.specs.WorldSites.{programs_of}
 use Rattle.ivy_moves.specs.Marks.{marks}
 use Rattle.ivy_lines.specs.declared.log.Log.{Log}
-use Rattle.ivy_join.specs.Exact.{AreAllMade, AreMadeTo, IsOneLeft}
+use Rattle.ivy_join.specs.Exact.{left_of, AreAllMade, AreMadeTo, IsOneLeft}
 use Rattle.ivy_join.specs.Joined.{AreNoParts, SaysNoParts}
-use Rattle.ivy_join.proofs.Counted.{lists-made}
+use Rattle.ivy_join.proofs.Counted.{lists-made, none-made}
 use Rattle.ivy_join.proofs.Stuck.{stuck-no-parts}
 use Rattle.ivy_join.proofs.playing.play.Goals as goal
 
@@ -37,7 +37,7 @@ loop-made-preserved g c =
           (λ l. AreMadeTo (map (λ (x : Log g.row.A.Denot). x.events.items) c.args.logs.now) l
           c.play_round.new.sites.items)
           (sym (take_at c.play_round.new.made (drop (length c.play_round.new.made) c.loop-made.made.items)
-          c.loop-made.made.len (search rules))) p.each;
+          c.loop-made.made.len (c.play_round.auto.made ∙ c.deref_mut.ensures.len))) p.each;
     }
 
 pub returns-clause-lists : goal.returns-clause-lists
@@ -46,9 +46,12 @@ returns-clause-lists g c =
     let written : c.deref.result.now ≡ c.play_round.new.made =
     c.deref.ensures.value
     ∙ take_at c.play_round.new.made (drop (length c.play_round.new.made) c.loop-made.made.items)
-    c.loop-made.made.len (search rules) in
-    let each : length c.args.logs.now ≡ length c.play_round.new.sites.items = search rules in
-    let count : length c.play_round.new.made ≡ length c.play_round.new.sites.items = search rules in
+    c.loop-made.made.len (c.play_round.auto.made ∙ c.deref_mut.ensures.len) in
+    let each : length c.args.logs.now ≡ length c.play_round.new.sites.items =
+    c.requires.logs ∙ sym (c.play_round.ensures.count ∙ c.loop-made.invariant.count) in
+    let count : length c.play_round.new.made ≡ length c.play_round.new.sites.items =
+    c.play_round.auto.made ∙ c.deref_mut.ensures.len ∙ c.loop-made.invariant.made
+    ∙ sym (c.play_round.ensures.count ∙ c.loop-made.invariant.count) in
     on_ok_weaker c.check_ends.result
     (λ all. lists-made (λ (x : Log g.row.A.Denot). x.events.items) c.args.logs.now c.play_round.new.made
     c.play_round.new.sites.items each count p.each
@@ -61,9 +64,12 @@ returns-clause-refused g c =
     let written : c.deref.result.now ≡ c.play_round.new.made =
     c.deref.ensures.value
     ∙ take_at c.play_round.new.made (drop (length c.play_round.new.made) c.loop-made.made.items)
-    c.loop-made.made.len (search rules) in
-    let each : length c.args.logs.now ≡ length c.play_round.new.sites.items = search rules in
-    let count : length c.play_round.new.made ≡ length c.play_round.new.sites.items = search rules in
+    c.loop-made.made.len (c.play_round.auto.made ∙ c.deref_mut.ensures.len) in
+    let each : length c.args.logs.now ≡ length c.play_round.new.sites.items =
+    c.requires.logs ∙ sym (c.play_round.ensures.count ∙ c.loop-made.invariant.count) in
+    let count : length c.play_round.new.made ≡ length c.play_round.new.sites.items =
+    c.play_round.auto.made ∙ c.deref_mut.ensures.len ∙ c.loop-made.invariant.made
+    ∙ sym (c.play_round.ensures.count ∙ c.loop-made.invariant.count) in
     let same : programs_of c.play_round.new.sites.items ≡ programs_of c.args.sites.now.items =
     c.in_ok-play_round.ensures.programs ∙ c.loop-made.invariant.programs in
     IfErr-weaker c.check_ends.result
@@ -77,3 +83,86 @@ returns-clause-refused g c =
     p.each (p.stuck c.if-branch.false)
     (subst (IsOneLeft (map (λ (x : Log g.row.A.Denot). x.events.items) c.args.logs.now)) written left)))
     c.check_ends.ensures.left
+
+pub returns-in_err-made-clause-played : goal.returns-in_err-made-clause-played
+returns-in_err-made-clause-played g c = IfOk-from_err c.from_residual.result _ c.from_residual.ensures.0
+
+pub returns-in_err-made-clause-programs : goal.returns-in_err-made-clause-programs
+returns-in_err-made-clause-programs g c = IfOk-from_err c.from_residual.result _ c.from_residual.ensures.0
+
+pub returns-in_err-made-clause-lists : goal.returns-in_err-made-clause-lists
+returns-in_err-made-clause-lists g c = IfOk-from_err c.from_residual.result _ c.from_residual.ensures.0
+
+pub returns-in_err-made-clause-count : goal.returns-in_err-made-clause-count
+returns-in_err-made-clause-count g c = refl
+
+pub returns-in_err-made-clause-refused : goal.returns-in_err-made-clause-refused
+returns-in_err-made-clause-refused g c =
+    let p = err_from_is_err_and c.from_residual.result c.from_residual.ensures.1 in
+    rw (p.1, p.2) (λ told. absurd told)
+
+pub loop-made-init : goal.loop-made-init
+loop-made-init g c =
+    let zeros = c.in_ok-made.ensures.items_if_clones_equal (λ y same. same) in record {
+      played = c.requires.played;
+      programs = refl;
+      count = refl;
+      made = c.in_ok-made.ensures.len ∙ c.requires.logs;
+      have = c.requires.sent;
+      each = none-made (map (λ (x : Log g.row.A.Denot). x.events.items) c.args.logs.now)
+          c.in_ok-made.made.items (length c.args.logs.now) c.args.sites.now.items zeros c.requires.none;
+    }
+
+pub play_round-requires-clause-played : goal.play_round-requires-clause-played
+play_round-requires-clause-played g c = c.loop-made.invariant.played
+
+pub play_round-requires-clause-logs : goal.play_round-requires-clause-logs
+play_round-requires-clause-logs g c = c.requires.logs ∙ sym c.loop-made.invariant.count
+
+pub play_round-requires-clause-made : goal.play_round-requires-clause-made
+play_round-requires-clause-made g c =
+    c.deref_mut.ensures.len ∙ c.loop-made.invariant.made ∙ sym c.loop-made.invariant.count
+
+pub play_round-requires-clause-sent : goal.play_round-requires-clause-sent
+play_round-requires-clause-sent g c = c.loop-made.invariant.have
+
+pub returns-in_err-play_round-clause-played : goal.returns-in_err-play_round-clause-played
+returns-in_err-play_round-clause-played g c =
+    IfOk-from_err c.from_residual-in_err-play_round.result _ c.from_residual-in_err-play_round.ensures.0
+
+pub returns-in_err-play_round-clause-programs : goal.returns-in_err-play_round-clause-programs
+returns-in_err-play_round-clause-programs g c =
+    IfOk-from_err c.from_residual-in_err-play_round.result _ c.from_residual-in_err-play_round.ensures.0
+
+pub returns-in_err-play_round-clause-lists : goal.returns-in_err-play_round-clause-lists
+returns-in_err-play_round-clause-lists g c =
+    IfOk-from_err c.from_residual-in_err-play_round.result _ c.from_residual-in_err-play_round.ensures.0
+
+pub returns-in_err-play_round-clause-count : goal.returns-in_err-play_round-clause-count
+returns-in_err-play_round-clause-count g c =
+    c.in_err-play_round.ensures.count ∙ c.loop-made.invariant.count
+
+pub loop-made-smaller : goal.loop-made-smaller
+loop-made-smaller g c =
+    let p = c.in_ok-play_round.ensures.exact in
+    subst (λ l. left_of (map (λ (x : Log g.row.A.Denot). x.events.items) c.args.logs.now) l
+    < left_of (map (λ (x : Log g.row.A.Denot). x.events.items) c.args.logs.now) c.loop-made.made.items)
+    (sym (take_at c.play_round.new.made (drop (length c.play_round.new.made) c.loop-made.made.items)
+    c.loop-made.made.len (c.play_round.auto.made ∙ c.deref_mut.ensures.len)))
+    (subst (λ l. left_of (map (λ (x : Log g.row.A.Denot). x.events.items) c.args.logs.now) c.play_round.new.made
+    < left_of (map (λ (x : Log g.row.A.Denot). x.events.items) c.args.logs.now) l) c.deref_mut.ensures.value (p.less c.if-branch.true))
+
+pub check_ends-requires : goal.check_ends-requires
+check_ends-requires g c =
+    c.deref.ensures.len ∙ c.loop-made.invariant.made ∙ sym c.requires.logs
+
+pub returns-clause-played : goal.returns-clause-played
+returns-clause-played g c =
+    on_ok_weaker c.check_ends.result (λ _. c.in_ok-play_round.ensures.played) c.check_ends.ensures.all
+
+pub returns-clause-programs : goal.returns-clause-programs
+returns-clause-programs g c =
+    on_ok_weaker c.check_ends.result (λ _. c.in_ok-play_round.ensures.programs ∙ c.loop-made.invariant.programs) c.check_ends.ensures.all
+
+pub returns-clause-count : goal.returns-clause-count
+returns-clause-count g c = c.play_round.ensures.count ∙ c.loop-made.invariant.count

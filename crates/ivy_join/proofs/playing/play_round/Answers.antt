@@ -1,6 +1,6 @@
 use Rattle.std.proofs.Common.{rules, ◌≡◌, true, false, length, get_or, refl, sym, subst, ◌∙◌, arith}
 use Rattle.std.proofs.lemmas.List.{length-map}
-use Rattle.std.proofs.lemmas.Result.{err_from_is_err_and}
+use Rattle.std.proofs.lemmas.Result.{err_from_is_err_and, IfOk-from_err}
 use Rattle.std.proofs.lemmas.Option.{slice_get-get_or, slice_get_read}
 use Rattle.ivy_join.specs.Joined.{SaysNoParts}
 use Rattle.ivy_join.proofs.Counted.{each-on, made-at-map, stuck-all}
@@ -9,10 +9,13 @@ use Rattle.ivy_lines.specs.declared.log.Log.{Log}
 use Rattle.ivy_join.proofs.playing.play_round.Goals as goal
 use Rattle.ivy_join.proofs.playing.play_round.Goals.{then-branch, else-branch}
 
+not-yes : false ≡ true → ⊥
+not-yes is = cc
+
 pub play_log-requires-clause-here : goal.play_log-requires-clause-here
 play_log-requires-clause-here g c =
     let log = slice_get_read c.args.logs.now (length c.args.logs.now) c.loop-node.node
-    c.index-logs-node.result refl (search rules) c.index-logs-node.is in
+    c.index-logs-node.result refl c.loop-node-test.true c.index-logs-node.is in
     let was = slice_get-get_or c.loop-node.made c.loop-node.node 0 (search rules) in
     made-at-map (λ x. x.events.items) c.args.logs.now c.loop-node.made c.loop-node.sites.items c.loop-node.node
     c.index-logs-node.result (get_or c.loop-node.made c.loop-node.node 0) c.loop-node.invariant.each log was
@@ -21,7 +24,7 @@ pub returns-in_err-play_log-clause-refused : goal.returns-in_err-play_log-clause
 returns-in_err-play_log-clause-refused g c =
     let p = err_from_is_err_and c.from_residual.result c.from_residual.ensures.1 in
     let log = slice_get_read c.args.logs.now (length c.args.logs.now) c.loop-node.node
-    c.index-logs-node.result refl (search rules) c.index-logs-node.is in
+    c.index-logs-node.result refl c.loop-node-test.true c.index-logs-node.is in
     let inv = c.loop-node.invariant in
     rw p.1
     (λ told. none_of (λ x. x.events.items) c.args.config.now c.loop-node.sites.items c.loop-node.sent _
@@ -31,7 +34,7 @@ returns-in_err-play_log-clause-refused g c =
 pub loop-node-preserved : goal.loop-node-preserved
 loop-node-preserved g c =
     let log = slice_get_read c.args.logs.now (length c.args.logs.now) c.loop-node.node
-    c.index-logs-node.result refl (search rules) c.index-logs-node.is in
+    c.index-logs-node.result refl c.loop-node-test.true c.index-logs-node.is in
     let was = slice_get-get_or c.loop-node.made c.loop-node.node 0 (search rules) in
     let f = λ (x : Log g.row.A.Denot). x.events.items in
     let at = c.loop-node in
@@ -70,3 +73,51 @@ returns-clause-exact g c =
       stuck = λ none. stuck-all c.loop-node.node c.loop-node.sent _ c.loop-node.made
           (let size = length-map c.args.logs.now (λ x. x.events.items) in omega (arith, past, size)) (inv.stuck none);
     }
+
+pub loop-node-init : goal.loop-node-init
+loop-node-init g c = record {
+  played = c.requires.played;
+  programs = refl;
+  count = refl;
+  have = c.requires.sent;
+  each = c.requires.each;
+  few = omega arith;
+  less = λ is. absurd (not-yes is);
+  stuck = λ none i below log m at now. absurd (omega (arith, below));
+}
+
+pub play_log-requires-clause-played : goal.play_log-requires-clause-played
+play_log-requires-clause-played g c = c.loop-node.invariant.played
+
+pub play_log-requires-clause-node : goal.play_log-requires-clause-node
+play_log-requires-clause-node g c =
+    let test = c.loop-node-test.true in
+    let logs = c.requires.logs in
+    let count = c.loop-node.invariant.count in omega (arith, test, logs, count)
+
+pub play_log-requires-clause-sent : goal.play_log-requires-clause-sent
+play_log-requires-clause-sent g c = c.loop-node.invariant.have
+
+pub returns-in_err-play_log-clause-played : goal.returns-in_err-play_log-clause-played
+returns-in_err-play_log-clause-played g c = IfOk-from_err c.from_residual.result _ c.from_residual.ensures.0
+
+pub returns-in_err-play_log-clause-programs : goal.returns-in_err-play_log-clause-programs
+returns-in_err-play_log-clause-programs g c = IfOk-from_err c.from_residual.result _ c.from_residual.ensures.0
+
+pub returns-in_err-play_log-clause-exact : goal.returns-in_err-play_log-clause-exact
+returns-in_err-play_log-clause-exact g c = IfOk-from_err c.from_residual.result _ c.from_residual.ensures.0
+
+pub returns-in_err-play_log-clause-count : goal.returns-in_err-play_log-clause-count
+returns-in_err-play_log-clause-count g c = c.play_log.ensures.count ∙ c.loop-node.invariant.count
+
+pub returns-clause-played : goal.returns-clause-played
+returns-clause-played g c = c.loop-node.invariant.played
+
+pub returns-clause-programs : goal.returns-clause-programs
+returns-clause-programs g c = c.loop-node.invariant.programs
+
+pub returns-clause-count : goal.returns-clause-count
+returns-clause-count g c = c.loop-node.invariant.count
+
+pub returns-clause-refused : goal.returns-clause-refused
+returns-clause-refused g c = tt

@@ -1,4 +1,5 @@
-use Rattle.std.proofs.Common.{◌≡◌, slice_get, Some, length, refl}
+use Rattle.std.proofs.Common.{◌≡◌, slice_get, Some, length, length-set, refl, arith}
+use Rattle.std.proofs.lemmas.Result.{IfOk-from_err}
 use Rattle.std.proofs.lemmas.Option.{slice_get_read}
 use Rattle.ivy_join.specs.Joining.{GoesOnBy}
 use Rattle.ivy_join.proofs.Played.{took-old, limits-old, programs-same, played_on}
@@ -50,3 +51,37 @@ returns-clause-exact g c =
     c.args.sent.now c.collect.new.sent c.in_ok-happens.happens there own.made limits have on
     c.in_ok-happens.ensures.made c.in_ok-happens.ensures.exact c.collect.ensures.site c.collect.ensures.kept
     c.in_ok-collect.ensures.taken c.in_ok-collect.ensures.none
+
+pub index_mut-site-requires : goal.index_mut-site-requires
+index_mut-site-requires g c =
+    let whole = c.args.sites.now.ok.0 in let node = c.requires.node in omega (arith, whole, node)
+
+pub returns-in_err-happens-clause-played : goal.returns-in_err-happens-clause-played
+returns-in_err-happens-clause-played g c = IfOk-from_err c.from_residual.result _ c.from_residual.ensures.0
+
+pub returns-in_err-happens-clause-programs : goal.returns-in_err-happens-clause-programs
+returns-in_err-happens-clause-programs g c = IfOk-from_err c.from_residual.result _ c.from_residual.ensures.0
+
+pub returns-in_err-happens-clause-exact : goal.returns-in_err-happens-clause-exact
+returns-in_err-happens-clause-exact g c = IfOk-from_err c.from_residual.result _ c.from_residual.ensures.0
+
+pub returns-in_err-happens-clause-count : goal.returns-in_err-happens-clause-count
+returns-in_err-happens-clause-count g c = length-set c.args.sites.now.items c.args.node c.make.new.site
+
+pub returns-in_err-collect-clause-played : goal.returns-in_err-collect-clause-played
+returns-in_err-collect-clause-played g c =
+    IfOk-from_err c.from_residual-in_err-collect.result _ c.from_residual-in_err-collect.ensures.0
+
+pub returns-in_err-collect-clause-programs : goal.returns-in_err-collect-clause-programs
+returns-in_err-collect-clause-programs g c =
+    IfOk-from_err c.from_residual-in_err-collect.result _ c.from_residual-in_err-collect.ensures.0
+
+pub returns-in_err-collect-clause-exact : goal.returns-in_err-collect-clause-exact
+returns-in_err-collect-clause-exact g c =
+    IfOk-from_err c.from_residual-in_err-collect.result _ c.from_residual-in_err-collect.ensures.0
+
+pub returns-in_err-collect-clause-count : goal.returns-in_err-collect-clause-count
+returns-in_err-collect-clause-count g c = length-set c.args.sites.now.items c.args.node c.collect.new.site
+
+pub returns-clause-count : goal.returns-clause-count
+returns-clause-count g c = length-set c.args.sites.now.items c.args.node c.collect.new.site

@@ -1,5 +1,5 @@
-use Rattle.std.proofs.Common.{rules, ◌≡◌, ◌<◌, ap, sym, ◌∙◌, ◌++◌}
-use Rattle.ivy_moves.specs.Marks.{marks, marks_of}
+use Rattle.std.proofs.Common.{rules, ap, sym, ◌∙◌, ◌++◌}
+use Rattle.ivy_moves.specs.Marks.{marks_of}
 use Rattle.ivy_lines.proofs.Cursors.{first-before, marks-taken-or}
 use Rattle.ivy_lines.proofs.cursor.behind_all.Goals as goal
 

@@ -1,4 +1,4 @@
-use Rattle.std.proofs.Common.{rules, ◌≡◌, ◌<◌, ap, sym, ◌∙◌, ◌++◌}
+use Rattle.std.proofs.Common.{rules, ap, sym, ◌∙◌, ◌++◌}
 use Rattle.ivy_moves.specs.Marks.{marks}
 use Rattle.ivy_lines.specs.Own.{event_in}
 use Rattle.ivy_lines.proofs.Cursors.{first-before}

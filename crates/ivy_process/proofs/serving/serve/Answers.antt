@@ -1,3 +1,4 @@
+use Rattle.std.proofs.lemmas.Result.{IfOk-from_err}
 use Rattle.ivy_process.specs.Logging.{Streams}
 use Rattle.ivy_process.proofs.Logged.{streams-begin, streams-further, streams-whole}
 use Rattle.ivy_process.proofs.serving.serve.Goals as goal
@@ -13,3 +14,12 @@ returns g c =
     c.in_ok-serve_on.ensures in
     streams-whole c.args.node.now c.serve_on.new.node c.speak.new.self (L c.args.log.now)
     (L c.serve_on.new.log) (L c.speak.new.log) so c.in_ok-speak.ensures
+
+pub returns-in_err-service : goal.returns-in_err-service
+returns-in_err-service g c = IfOk-from_err c.from_residual.result _ c.from_residual.ensures.0
+
+pub returns-in_err-serve_on : goal.returns-in_err-serve_on
+returns-in_err-serve_on g c = IfOk-from_err c.from_residual-in_err-serve_on.result _ c.from_residual-in_err-serve_on.ensures.0
+
+pub returns-in_err-speak : goal.returns-in_err-speak
+returns-in_err-speak g c = IfOk-from_err c.from_residual-in_err-speak.result _ c.from_residual-in_err-speak.ensures.0

@@ -1,5 +1,6 @@
 use Rattle.std.proofs.Common.{refl}
 use Rattle.ivy_process.proofs.Logged.{stays, streams-begin, streams-further}
+use Rattle.std.proofs.lemmas.Result.{IfOk-from_err}
 use Rattle.ivy_process.proofs.serving.serve_on.Goals as goal
 
 pub loop-init : goal.loop-init
@@ -18,3 +19,12 @@ returns-then-branch g c =
     let L = g.L.Write.contents in
     streams-further c.args.node.now c.loop.node c.serve_once.new.node (L c.args.log.now) (L c.loop.log)
     (L c.serve_once.new.log) c.loop.invariant c.in_ok-serve_once.ensures
+
+pub returns-then-is_free : goal.returns-then-is_free
+returns-then-is_free g c = c.loop.invariant
+
+pub returns-in_err-serve_once : goal.returns-in_err-serve_once
+returns-in_err-serve_once g c = IfOk-from_err c.from_residual.result _ c.from_residual.ensures.0
+
+pub returns : goal.returns
+returns g c = c.loop.invariant

@@ -1,3 +1,4 @@
+use Rattle.std.proofs.lemmas.Result.{IfOk-from_err}
 use Rattle.ivy_process.specs.Logging.{AddsEvents, Streams}
 use Rattle.ivy_process.proofs.Logged.{goes_further, streams-begin, streams-on, streams-logged}
 use Rattle.ivy_process.proofs.serving.serve_once.Goals as goal
@@ -38,3 +39,21 @@ returns-in_ok-speak-2 g c =
     (streams-on c.args.node.now c.speak.new.self c.pulse.new.self (L c.args.log.now)
     (L c.speak.new.log) (L c.speak.new.log) first c.in_ok-pulse.ensures)
     c.in_ok-speak-2.ensures
+
+pub returns-in_err-heard : goal.returns-in_err-heard
+returns-in_err-heard g c = IfOk-from_err c.from_residual.result _ c.from_residual.ensures.0
+
+pub returns-in_err-made : goal.returns-in_err-made
+returns-in_err-made g c = IfOk-from_err c.from_residual-in_err-made.result _ c.from_residual-in_err-made.ensures.0
+
+pub returns-in_err-speak : goal.returns-in_err-speak
+returns-in_err-speak g c = IfOk-from_err c.from_residual-in_err-speak.result _ c.from_residual-in_err-speak.ensures.0
+
+pub returns-in_err-check_kept : goal.returns-in_err-check_kept
+returns-in_err-check_kept g c = IfOk-from_err c.from_residual-in_err-check_kept.result _ c.from_residual-in_err-check_kept.ensures.0
+
+pub returns-in_err-pulse : goal.returns-in_err-pulse
+returns-in_err-pulse g c = IfOk-from_err c.from_residual-in_err-pulse.result _ c.from_residual-in_err-pulse.ensures.0
+
+pub returns-in_err-speak-2 : goal.returns-in_err-speak-2
+returns-in_err-speak-2 g c = IfOk-from_err c.from_residual-in_err-speak-2.result _ c.from_residual-in_err-speak-2.ensures.0

@@ -1,6 +1,7 @@
 use Rattle.std.proofs.Common.{[], ◌∷◌, refl}
 use Rattle.std.proofs.lemmas.Result.{IfOk-weaker}
 use Rattle.ivy_join.specs.ivy_lines.declared.own.Entry.TheVariants.{Answered}
+use Rattle.std.proofs.lemmas.Result.{IfOk-from_err}
 use Rattle.ivy_process.specs.Owned.{begun}
 use Rattle.ivy_process.proofs.Owned.{noted-own, own-further, streams-own}
 use Rattle.ivy_process.proofs.working.hear_reply.Goals as goal
@@ -18,3 +19,6 @@ returns g c =
     (noted-own [] (Answered (record { call = c.args.call; reply = reply })) c.serve_on.new.node
     c.answer.new.self (L c.serve_on.new.log) refl noted))
     c.answer.ensures
+
+pub returns-in_err-is_free : goal.returns-in_err-is_free
+returns-in_err-is_free g c = IfOk-from_err c.from_residual.result _ c.from_residual.ensures.0

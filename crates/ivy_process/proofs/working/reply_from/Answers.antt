@@ -1,5 +1,5 @@
 use Rattle.std.proofs.Common.{rules, ◌≡◌, length, subst}
-use Rattle.ivy_process.specs.declared.recalling.Recalled.TheVariants.{Told}
+use Rattle.std.proofs.lemmas.Result.{IfOk-from_err}
 use Rattle.ivy_process.specs.Owned.{IsRecalled}
 use Rattle.ivy_process.proofs.Owned.{replied-again, replied-now}
 use Rattle.ivy_process.proofs.working.reply_from.Goals as goal
@@ -25,3 +25,6 @@ returns g c =
     replied-now past c.args.place c.len.result post.node c.reply_to.new.post.node (L post.log)
     (L c.reply_to.new.post.log) c.args.call c.in_ok-reply.reply c.in-Ok.recalled c.in_default.not-Told
     said end c.in_ok-reply.ensures
+
+pub returns-in_err-reply : goal.returns-in_err-reply
+returns-in_err-reply g c = IfOk-from_err c.from_residual.result _ c.from_residual.ensures.0

@@ -1,6 +1,7 @@
 use Rattle.std.proofs.Common.{ap, sym, subst}
 use Rattle.std.specs.Prelude.{IfOk}
 use Rattle.std.proofs.lemmas.Result.{IfOk-weaker}
+use Rattle.std.proofs.lemmas.Result.{IfOk-from_err}
 use Rattle.ivy_process.specs.Owned.{Begun, begun, HasResumed}
 use Rattle.ivy_process.proofs.Owned.{has-worked, resumes-woken}
 use Rattle.ivy_process.proofs.working.work_from.Goals as goal
@@ -30,3 +31,9 @@ returns g c =
     (subst (λ me. done me told worked.gave) c.me-me.ensures
     (subst (λ r. IfOk r (λ out. done c.me-me.result told out)) both.0 c.work-gave.ensures)))
     c.finish.ensures
+
+pub returns-in_err-service : goal.returns-in_err-service
+returns-in_err-service g c = IfOk-from_err c.from_residual.result _ c.from_residual.ensures.0
+
+pub returns-in_err-last : goal.returns-in_err-last
+returns-in_err-last g c = IfOk-from_err c.from_residual-in_err-last.result _ c.from_residual-in_err-last.ensures.0

@@ -1,5 +1,5 @@
 -- What was joined and printed are the logs, and those that are refused as no parts of a run are the parts of none.
-use Rattle.std.proofs.Common.{map, sym, subst}
+use Rattle.std.proofs.Common.{sym, subst}
 use Rattle.std.proofs.lemmas.Result.{err_from_is_err_and}
 use Rattle.ivy_moves.specs.Marks.{marks}
 use Rattle.ivy_process.specs.ivy_join.Joined.{AreJoined, AreNoParts}

@@ -1,4 +1,5 @@
 use Rattle.std.proofs.Common.{refl, sym, subst}
+use Rattle.std.proofs.lemmas.Result.{IfOk-from_err}
 use Rattle.ivy_process.specs.Logging.{AddsEvents}
 use Rattle.ivy_process.proofs.Logged.{stays, goes_further}
 use Rattle.ivy_process.proofs.node.Node.go_on_all.Goals as goal
@@ -16,3 +17,6 @@ loop-from-preserved c =
           w.in_ok-go_on.ensures)
       | else-from-config w ↦ subst (AddsEvents c.args.self.now) (sym w.self-is) c.loop-from.invariant
     ]
+
+pub returns-in_err-go_on : goal.returns-in_err-go_on
+returns-in_err-go_on c = IfOk-from_err c.from_residual.result _ c.from_residual.ensures.0

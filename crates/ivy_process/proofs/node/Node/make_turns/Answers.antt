@@ -1,13 +1,20 @@
-use Rattle.std.proofs.Common.{rules, ◌≡◌}
+use Rattle.std.proofs.Common.{◌≡◌, sym}
 use Rattle.std.specs.Prelude.{string_bytes}
 use Rattle.ivy_moves.specs.declared.event.Event.TheVariants.{Turns}
+use Rattle.std.proofs.lemmas.Result.{IfOk-from_err}
 use Rattle.ivy_process.specs.Logging.{served}
 use Rattle.ivy_process.proofs.Logged.{noted-one}
 use Rattle.ivy_process.proofs.node.Node.make_turns.Goals as goal
 
 pub returns-in_ok-note : goal.returns-in_ok-note
 returns-in_ok-note c =
-    let was : c.args.self.now ≡ served c.self.inside.site (string_bytes c.self.inside.lines) = search rules in
+    let was : c.args.self.now ≡ served c.self.inside.site (string_bytes c.self.inside.lines) = sym c.self.view_is in
     noted-one (Turns c.in_ok-made.made) c.args.self.now c.note.new.self c.self.inside.site
     c.make_turns.new.site (string_bytes c.self.inside.lines) was c.in_ok-made.ensures
     c.in_ok-note.ensures
+
+pub returns-in_err-made : goal.returns-in_err-made
+returns-in_err-made c = IfOk-from_err c.from_residual.result _ c.from_residual.ensures.0
+
+pub returns-in_err-note : goal.returns-in_err-note
+returns-in_err-note c = IfOk-from_err c.from_residual-in_err-note.result _ c.from_residual-in_err-note.ensures.0

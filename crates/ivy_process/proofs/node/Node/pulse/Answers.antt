@@ -1,4 +1,5 @@
 use Rattle.std.proofs.Common.{refl}
+use Rattle.std.proofs.lemmas.Result.{IfOk-from_err}
 use Rattle.ivy_process.proofs.Logged.{stays, goes_further}
 use Rattle.ivy_process.proofs.node.Node.pulse.Goals as goal
 
@@ -7,3 +8,6 @@ loop-to-init c = stays _ _ refl refl
 
 pub loop-to-preserved : goal.loop-to-preserved
 loop-to-preserved c = goes_further _ _ _ c.loop-to.invariant c.in_ok-pulse_to.ensures
+
+pub returns-in_err-pulse_to : goal.returns-in_err-pulse_to
+returns-in_err-pulse_to c = IfOk-from_err c.from_residual.result _ c.from_residual.ensures.0

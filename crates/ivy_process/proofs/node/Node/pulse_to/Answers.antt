@@ -1,16 +1,19 @@
-use Rattle.std.proofs.Common.{rules, ◌≡◌, [], ap, sym, ◌∙◌}
+use Rattle.std.proofs.Common.{◌≡◌, ℕ, ◌<◌, [], ap, refl, sym, subst, ◌∙◌}
 use Rattle.std.specs.Prelude.{string_bytes}
 use Rattle.ivy_moves.specs.declared.event.Event.TheVariants.{Pulsed}
+use Rattle.ivy_model.specs.declared.Config.{Config}
+use Rattle.ivy_join.specs.ivy_site.SiteView.{SiteView}
 use Rattle.ivy_join.proofs.Steps.{pulsed-listed}
 use Rattle.ivy_process.specs.Logging.{Served, served, AddsEvents}
-use Rattle.ivy_process.proofs.Logged.{goes_further, noted-one, emptied}
+use Rattle.ivy_process.proofs.Logged.{stays, goes_further, noted-one, emptied}
+use Rattle.std.proofs.lemmas.Result.{IfOk-from_err}
 use Rattle.ivy_process.proofs.node.Node.pulse_to.Goals as goal
 
 pub returns-in_ok-note : goal.returns-in_ok-note
 returns-in_ok-note c =
     let s = c.self-2.inside.site in
     let was : c.take_frames.new.self ≡ served c.self-2.inside.site (string_bytes c.self-2.inside.lines) =
-    search rules in
+    sym c.self-2.view_is in
     let none : c.self-2.inside.site.waiting ≡ [] =
     ap (λ (x : Served). x.site.waiting) (sym was) ∙ c.in_ok-take_frames.ensures.none in
     let one : AddsEvents c.take_frames.new.self c.note.new.self =
@@ -19,3 +22,30 @@ returns-in_ok-note c =
     (pulsed-listed c.args.to s c.pulse.new.self c.in_ok-pulse.ensures.done none
     (c.has_frame.ensures.0 c.if-has_frame.true)) c.in_ok-note.ensures in
     goes_further _ _ _ (emptied c.args.self.now c.take_frames.new.self c.in_ok-take_frames.ensures) one
+
+pub returns-then-to-config : goal.returns-then-to-config
+returns-then-to-config c = stays _ _ refl refl
+
+pub returns-in_err-take_frames : goal.returns-in_err-take_frames
+returns-in_err-take_frames c = IfOk-from_err c.from_residual.result _ c.from_residual.ensures.0
+
+pub returns-in_err-pulse : goal.returns-in_err-pulse
+returns-in_err-pulse c =
+    IfOk-from_err c.from_residual-in_err-pulse.result _ c.from_residual-in_err-pulse.ensures.0
+
+pub returns-in_err-note : goal.returns-in_err-note
+returns-in_err-note c =
+    IfOk-from_err c.from_residual-in_err-note.result _ c.from_residual-in_err-note.ensures.0
+
+pub pulse-requires-clause-to : goal.pulse-requires-clause-to
+pulse-requires-clause-to c =
+    let same = ap (λ (x : Served). x.site.config) c.self-2.view_is
+    ∙ ap (λ (x : SiteView). x.config) c.in_ok-take_frames.ensures.site
+    ∙ ap (λ (x : Served). x.site.config) (sym c.self.view_is) ∙ sym c.config.ensures.is in
+    subst (λ (n : ℕ). c.args.to < n) (sym (ap (λ (k : Config). k.nodes) same)) c.if-to-config.false
+
+pub pulse-requires-clause-other : goal.pulse-requires-clause-other
+pulse-requires-clause-other c =
+    λ is. c.if-to-me.false (is ∙ ap (λ (x : Served). x.site.me) c.self-2.view_is
+    ∙ ap (λ (x : SiteView). x.me) c.in_ok-take_frames.ensures.site
+    ∙ ap (λ (x : Served). x.site.me) (sym c.self.view_is) ∙ sym c.me.ensures)

@@ -1,4 +1,4 @@
-use Rattle.std.proofs.Common.{rules, ◌≡◌, Some, ap, ◌∙◌}
+use Rattle.std.proofs.Common.{◌≡◌, Some, ap, sym, ◌∙◌}
 use Rattle.ivy_session.proofs.of_ivy_seating.Seats.{may_give}
 use Rattle.ivy_scope.proofs.Telling.{tells_of, is_so_far}
 use Rattle.ivy_scope.proofs.watched.closing.take_in.Goals as goal
@@ -10,7 +10,7 @@ close-requires-clause-events g c =
 
 pub returns-clause-told : goal.returns-clause-told
 returns-clause-told g c =
-    let same : c.args.site.now.me ≡ c.args.node = search rules in
+    let same : c.args.site.now.me ≡ c.args.node = sym c.me.ensures ∙ c.if-me-node.false in
     tells_of g.S.Setup.config g.S.Setup.programs _ _ c.args.pass.known _ c.args.site.now c.args.node
     c.close.ensures.known (c.requires.seated.node ∙ ap Some same) c.event_list.ensures.is
     (is_so_far g.S.Setup.config g.S.Setup.programs _ c.args.site.now c.args.pass c.args.node
