@@ -24,7 +24,7 @@ ARRAYS = ROOT / "bench" / "plays" / "arrays.rattle"
 # What is built stays where the gate does not look.
 KEPT = ROOT / ".git" / "ivy-bench"
 APART = Apart(
-    "bench_own: ivy_model ivy_alloc ivy_calls ivy_sync ivy_programs ivy_program ivy_session ivy_own anyhow",
+    "bench_own: ivy_model ivy_alloc ivy_calls ivy_sync example_programs ivy_program ivy_session ivy_own anyhow",
     SOURCES,
     (ARRAYS,),
 )

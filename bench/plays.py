@@ -10,7 +10,7 @@ from apart import ROOT, Apart
 
 # It lies apart from the crates: in the gate its proof would take five processor minutes.
 APART = Apart(
-    "plays: ivy_model ivy_calls ivy_sync ivy_programs ivy_replay ivy_drawn ivy_seeds example_works anyhow",
+    "plays: ivy_model ivy_calls ivy_sync ivy_moves ivy_world ivy_texts ivy_charts ivy_replay ivy_play example_programs anyhow",
     ROOT / "bench" / "plays",
 )
 PLAYS = 1_000

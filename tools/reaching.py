@@ -41,6 +41,8 @@ class Source:
         text, depth = line.strip(), len(line) - len(line.lstrip())
         if re.match(r"(pub )?use ", text):
             self.add_import(text)
+        elif depth == 0 and text in "})]":
+            return
         elif text.startswith("module ") or self.in_header:
             self.header = self.header + [text] if self.in_header else [text]
             self.in_header, self.depth = not text.endswith("where"), 2
@@ -118,7 +120,7 @@ class Reach:
     """What was found of the definitions so far."""
 
     def __init__(self):
-        self.seen, self.types, self.lines = set(), set(), collections.Counter()
+        self.seen, self.types, self.lines, self.defined = set(), set(), collections.Counter(), set()
 
     def follow(self, todo):
         """Takes definitions, and all that they speak of."""
@@ -137,6 +139,7 @@ class Reach:
         source = source_at(path_of(crate, module))
         if source and name in source.lines:
             self.lines[crate, name] = len(source.lines[name])
+            self.defined.add(it)
             text = source.headers[name] + source.lines[name]
             words = [word for line in text for word in WORD.findall(line)]
             return [further for word in words if (further := meant(source, (crate, module), word)) != it]
@@ -160,13 +163,19 @@ class Reach:
         print("types of the code:", *sorted({name for _, name in self.types}))
 
 
-def tell_reach(file, function, with_names):
-    """Prints what the contract of a function reaches. Whether it has clauses at all."""
+def reach_of(file, function):
+    """What the contract of a function reaches."""
     imports, words = clauses_of(pathlib.Path(file).resolve(), function)
-    if not words:
-        print(f"no clause of {function} in {file}", file=sys.stderr)
-        return False
     reach = Reach()
     reach.follow([meant(imports, None, word) for word in words])
+    return reach
+
+
+def tell_reach(file, function, with_names):
+    """Prints what the contract of a function reaches. Whether it has clauses at all."""
+    reach = reach_of(file, function)
+    if not reach.seen:
+        print(f"no clause of {function} in {file}", file=sys.stderr)
+        return False
     reach.tell(with_names)
     return True

@@ -1,11 +1,10 @@
 """The crates of the repository, as crates.txt lists them."""
 
 import pathlib
+import re
 
 ROOT = pathlib.Path(__file__).resolve().parent.parent
 CRATES = ROOT / "crates"
-# What tests share. A crate of tests begins with `test_`.
-SHARED_BY_TESTS = ("failing_alloc", "example_texts")
 
 
 def dependencies():
@@ -18,8 +17,25 @@ def dependencies():
     return found
 
 
+def wings():
+    """The headings of crates.txt, up to their colon, and the crates under each."""
+    found = []
+    for line in (ROOT / "crates.txt").read_text(encoding="utf-8").splitlines():
+        if line.startswith("# "):
+            found.append((line[2:].partition(":")[0], []))
+        elif line.strip():
+            found[-1][1].append(re.split(r"[ :]", line)[0])
+    return found
+
+
+def root_of(crate):
+    """The root file of a crate."""
+    library = CRATES / crate / "src" / "lib.rt"
+    return library if library.exists() else library.with_name("main.rt")
+
+
 def is_of_tests(crate):
-    return crate.startswith("test_") or crate in SHARED_BY_TESTS
+    return crate.startswith("test_")
 
 
 def sources(crate):

@@ -46,7 +46,7 @@ ivy_process *ivy_join(const ivy_config *config, uint32_t me, ivy_transport trans
                       long death_ms);
 
 /* The same, and the node's log of own code is written to `log`: what the node did, and each call with its reply, as
- * docs/PROCESSES.md says. Logs of all nodes are joined, by which it is checked that one flat memory could have replied so.
+ * docs/man/ivynode.1 says. Logs of all nodes are joined, by which it is checked that one flat memory could have replied so.
  * What a string follows from is in the log, and flushed, before the string is sent; a log that takes no more ends this
  * process with status 5. The file is the caller's, who may close it after ivy_leave. */
 ivy_process *ivy_join_logging(const ivy_config *config, uint32_t me, ivy_transport transport, ivy_progress progress,

@@ -1,4 +1,4 @@
-//! The program `ivy`: hands the words of the command line, the files and the streams to the commands.
+//! The program `ivy`: its `main` alone.
 #![tactic(auto)]
 
 use ivy_commands::{Failure, FilesOf, perform};

@@ -7,13 +7,14 @@ use Rattle.ivy_model.specs.declared.config.Config.{Config}
 use Rattle.ivy_model.specs.declared.call.Call.TheVariants.{Alloc, Free}
 use Rattle.ivy_model.specs.declared.call.Reply.{Reply}
 use Rattle.ivy_model.specs.declared.call.Reply.TheVariants.{Value, Done, Refused}
-use Rattle.ivy_model.specs.Memory.{Memory, Blocks}
-use Rattle.ivy_model.specs.Serves.{Allocates, IsLeast, IsRoom, Serves, rounded}
-use Rattle.ivy_alloc.specs.Told.{BlocksTold, alloc_told, ended, free_told, gives, least_room, placed}
-use Rattle.ivy_alloc.specs.Laws.{HasReplies, HeapIsFlat, IsAllocReply, IsFreeReply, StaysApart, TakesBack, with_blocks}
+use Rattle.ivy_model.specs.stated.Memory.{Memory, Blocks}
+use Rattle.ivy_model.specs.stated.Serves.{Allocates, IsLeast, IsRoom, Serves, rounded}
+use Rattle.ivy_alloc.specs.stated.HeapAnswers.{BlocksTold, alloc_told, ended, free_told, gives, least_room, placed}
+use Rattle.ivy_alloc.specs.Laws.{HasReplies, HeapIsFlat, IsAllocReply, StaysApart, TakesBack, with_blocks}
+use Rattle.ivy_alloc.specs.stated.Laws.{IsFreeReply}
 use Rattle.ivy_alloc.specs.Tied.{AreHeapBlocks}
 use Rattle.ivy_alloc.proofs.Changed.{added_here, removed-added}
-use Rattle.ivy_alloc.proofs.Limits.{rounded_some}
+use Rattle.ivy_alloc.proofs.HeapBounds.{rounded_some}
 use Rattle.ivy_alloc.proofs.Tied.{added_blocks, fresh_room, removed_blocks}
 use Rattle.ivy_alloc.proofs.Least.{IsLeastOf, least_room_is}
 

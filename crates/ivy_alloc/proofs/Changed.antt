@@ -7,8 +7,9 @@ use Rattle.std.proofs.lemmas.Bool.{cases_eq, cond-true, cond-false, false_from_n
 use Rattle.std.proofs.lemmas.Map.Lookups.{exact_unsigned}
 use Rattle.std.proofs.lemmas.Map.Views.{tells_apart}
 use Rattle.std.proofs.lemmas.Option.{none-some}
-use Rattle.ivy_model.specs.Memory.{Blocks}
-use Rattle.ivy_alloc.specs.Heap.{AddsBlock, HeapState, without_block}
+use Rattle.ivy_model.specs.stated.Memory.{Blocks}
+use Rattle.ivy_alloc.specs.Heap.{AddsBlock, without_block}
+use Rattle.ivy_alloc.specs.stated.Heap.{HeapState}
 
 same_key : (q : ℕ) → eq_by_cmp nat_cmp q q ≡ true
 same_key q = (eq_by_cmp_equiv nat_cmp_total).refl q

@@ -17,11 +17,11 @@ use Rattle.std.proofs.lemmas.Map.Lookups.{exact_unsigned}
 use Rattle.std.proofs.lemmas.Map.Views.{tells_apart}
 use Rattle.std.proofs.lemmas.Option.{none-some, same_Some}
 use Rattle.ivy_model.specs.declared.config.Config.{Config}
-use Rattle.ivy_model.specs.Config.{heap_end}
-use Rattle.ivy_model.specs.Memory.{Blocks}
-use Rattle.ivy_model.specs.Serves.{IsApart, IsLeast, IsRoom}
+use Rattle.ivy_model.specs.stated.Config.{heap_end}
+use Rattle.ivy_model.specs.stated.Memory.{Blocks}
+use Rattle.ivy_model.specs.stated.Serves.{IsApart, IsLeast, IsRoom}
 use Rattle.ivy_model.proofs.Blocks.{Misses}
-use Rattle.ivy_alloc.specs.Told.{misses, is_room, least_room}
+use Rattle.ivy_alloc.specs.stated.HeapAnswers.{misses, is_room, least_room}
 
 Decides-le : (a b : ℕ) → Decides (nat_le a b) (a ≤ b)
 Decides-le a b = (leb-true a b, le-leb a b)

@@ -4,6 +4,10 @@ pub mod Taken
 pub mod Changed
 pub mod Room
 pub mod Tied
-pub mod Limits
+pub mod HeapBounds
 pub mod Least
 pub mod Answered
+pub mod HeapMessages
+pub mod Spelled
+pub mod Growing
+pub mod HeapSides

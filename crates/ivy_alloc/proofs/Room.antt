@@ -4,9 +4,9 @@ use Rattle.std.specs.List.{All}
 use Rattle.std.proofs.lemmas.Bool.{cases_lt, cases_order}
 use Rattle.std.proofs.lemmas.List.{get_or_default}
 use Rattle.ivy_model.specs.declared.config.Config.{Config}
-use Rattle.ivy_model.specs.Config.{heap_end}
-use Rattle.ivy_model.specs.Memory.{Blocks}
-use Rattle.ivy_model.specs.Serves.{IsLeast, IsRoom, rounded}
+use Rattle.ivy_model.specs.stated.Config.{heap_end}
+use Rattle.ivy_model.specs.stated.Memory.{Blocks}
+use Rattle.ivy_model.specs.stated.Serves.{IsLeast, IsRoom, rounded}
 use Rattle.ivy_alloc.specs.declared.extent.Extent.{Extent}
 use Rattle.ivy_alloc.specs.Extents.{Has, IsFirstFit, IsFree, extent_end}
 use Rattle.ivy_alloc.specs.Tied.{IsInBlock, IsTied}

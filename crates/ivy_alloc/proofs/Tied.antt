@@ -4,9 +4,9 @@ use Rattle.std.specs.FinMap.{get, insert, remove}
 use Rattle.std.proofs.lemmas.Bool.{cases_lt, cases_eq}
 use Rattle.std.proofs.lemmas.Option.{none-some, same_Some}
 use Rattle.ivy_model.specs.declared.config.Config.{Config}
-use Rattle.ivy_model.specs.Config.{heap_end}
-use Rattle.ivy_model.specs.Memory.{Blocks}
-use Rattle.ivy_model.specs.Serves.{IsRoom}
+use Rattle.ivy_model.specs.stated.Config.{heap_end}
+use Rattle.ivy_model.specs.stated.Memory.{Blocks}
+use Rattle.ivy_model.specs.stated.Serves.{IsRoom}
 use Rattle.ivy_alloc.specs.declared.extent.Extent.{Extent}
 use Rattle.ivy_alloc.specs.Extents.{AreGivenBack, AreTakenFrom, Has, IsExtent, IsFree}
 use Rattle.ivy_alloc.specs.Tied.{AreHeapBlocks, IsHeapBlock, IsInBlock, IsTied}

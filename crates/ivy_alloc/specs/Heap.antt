@@ -5,23 +5,15 @@ use Rattle.std.specs.FinMap as map
 use Rattle.std.specs.Ordering.{nat_cmp}
 use Rattle.ivy_model.specs.declared.config.Config.{Config}
 use Rattle.ivy_model.specs.contracts.config.Config.{the_row}
-use Rattle.ivy_model.specs.Memory.{Blocks}
-use Rattle.ivy_model.specs.Serves.{IsLeast, IsRoom, rounded}
-
--- a configuration, and the live blocks, as the flat memory has them
-pub record HeapState : Type 0 where
-  pub config : Config
-  pub blocks : Blocks
+use Rattle.ivy_model.specs.stated.Memory.{Blocks}
+use Rattle.ivy_model.specs.stated.Serves.{IsLeast, IsRoom, rounded}
+use Rattle.ivy_alloc.specs.stated.Heap.{HeapState}
 
 -- a state is stored as the pair of its fields
 abbrev pub heap_state_code : Coded HeapState
 heap_state_code =
     code_by (Config × Blocks) (coded× the_row.coded (map.code {R = nat_cmp} coded_ℕ coded_ℕ))
     (λ s. (s.config, s.blocks)) (λ p. record { config = p.0; blocks = p.1 }) (λ _. refl)
-
--- the heap before the first call: no block
-abbrev pub first_heap : Config → HeapState
-first_heap c = record { config = c; blocks = map.empty }
 
 -- the address that the flat memory gives to a block of so many bytes
 abbrev pub IsLeastRoom : HeapState → ℕ → ℕ → Type 0

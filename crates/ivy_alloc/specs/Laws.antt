@@ -5,13 +5,14 @@ use Rattle.ivy_model.specs.declared.call.Call.{Call}
 use Rattle.ivy_model.specs.declared.call.Call.TheVariants.{Alloc, Free}
 use Rattle.ivy_model.specs.declared.call.Reply.{Reply}
 use Rattle.ivy_model.specs.declared.call.Reply.TheVariants.{Value, Done, Refused}
-use Rattle.ivy_model.specs.declared.fault.Fault.TheVariants.{ZeroSize, NoRoom, NotABlock}
-use Rattle.ivy_model.specs.Config.{heap_end}
-use Rattle.ivy_model.specs.Memory.{Memory, Blocks}
-use Rattle.ivy_model.specs.Numbers.{fault_number}
-use Rattle.ivy_model.specs.Serves.{Serves, rounded}
+use Rattle.ivy_model.specs.declared.fault.Fault.TheVariants.{ZeroSize, NoRoom}
+use Rattle.ivy_model.specs.stated.Config.{heap_end}
+use Rattle.ivy_model.specs.stated.Memory.{Memory, Blocks}
+use Rattle.ivy_model.specs.stated.Numbers.{fault_number}
+use Rattle.ivy_model.specs.stated.Serves.{Serves, rounded}
 use Rattle.ivy_alloc.specs.Tied.{AreHeapBlocks}
-use Rattle.ivy_alloc.specs.Told.{BlocksTold, alloc_told, free_told, gives}
+use Rattle.ivy_alloc.specs.stated.HeapAnswers.{BlocksTold, alloc_told, free_told, gives}
+use Rattle.ivy_alloc.specs.stated.Laws.{IsFreeReply}
 
 -- the flat memory with these live blocks
 abbrev pub with_blocks : Memory → Blocks → Memory
@@ -35,12 +36,6 @@ IsAllocReply c size (Value addr) =
 IsAllocReply c size Done = ⊥
 IsAllocReply c size (Refused code) =
     ((size ≡ 0) × (code ≡ fault_number ZeroSize)) ⊎ ((0 < size) × (code ≡ fault_number NoRoom))
-
--- done, or the refusal 10
-abbrev pub IsFreeReply : Reply → Type 0
-IsFreeReply (Value value) = ⊥
-IsFreeReply Done = Unit {0}
-IsFreeReply (Refused code) = code ≡ fault_number NotABlock
 
 -- whatever blocks are live, a call of the heap gets one of the replies above
 abbrev pub HasReplies : Type 0

@@ -1,5 +1,6 @@
+pub mod stated
 pub mod Extents
 pub mod Heap
 pub mod Tied
-pub mod Told
 pub mod Laws
+pub mod HeapCalls

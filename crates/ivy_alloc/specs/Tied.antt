@@ -2,8 +2,8 @@
 use Rattle.std.specs.Prelude.{◌≡◌, ℕ, ◌+◌, ◌%◌, ◌<◌, ◌≤◌, List, Some}
 use Rattle.std.specs.FinMap as map
 use Rattle.ivy_model.specs.declared.config.Config.{Config}
-use Rattle.ivy_model.specs.Config.{IsConfig, heap_end}
-use Rattle.ivy_model.specs.Memory.{Blocks}
+use Rattle.ivy_model.specs.stated.Config.{IsConfig, heap_end}
+use Rattle.ivy_model.specs.stated.Memory.{Blocks}
 use Rattle.ivy_alloc.specs.declared.extent.Extent.{Extent}
 use Rattle.ivy_alloc.specs.Extents.{AreExtents, IsFree}
 

@@ -1,9 +1,10 @@
 ghost use Rattle.std.specs.Prelude.{◌≡◌, ℕ, ◌+◌, ◌<◌, ◌≤◌, ◌*◌, ◌↔◌, ◌⊎◌, IsTrue, IsSome, IsOk, IfOk, IfErr, OnErr, OnOk, IsOkUnless};
 ghost use Rattle.std.specs.FinMap as map;
-ghost use Rattle.ivy_model.specs.Config.{IsConfig};
-ghost use Rattle.ivy_model.specs.Serves.{rounded};
-ghost use Rattle.ivy_alloc.specs.Heap.{AddsBlock, HasNoRoom, HeapState, IsLeastRoom, first_heap, without_block};
-ghost use Rattle.ivy_alloc.specs.Told.{alloc_reply, alloc_told, ended, free_reply, free_told, gives};
+ghost use Rattle.ivy_model.specs.stated.Config.{IsConfig};
+ghost use Rattle.ivy_model.specs.stated.Serves.{rounded};
+ghost use Rattle.ivy_alloc.specs.Heap.{AddsBlock, HasNoRoom, IsLeastRoom, without_block};
+ghost use Rattle.ivy_alloc.specs.stated.Heap.{HeapState, first_heap};
+ghost use Rattle.ivy_alloc.specs.stated.HeapAnswers.{alloc_reply, alloc_told, ended, free_reply, free_told, gives};
 
 use crate::extent::{Extent, first_fit, give_back, take_front};
 use ivy_model::{Config, Fault};
@@ -32,7 +33,8 @@ impl<A: Allocator> Model for Heap<A> {
     ghost use Rattle.std.specs.Prelude.{◌+◌, ◌≤◌, vec_len, vec_capacity};
     ghost use Rattle.std.specs.BTreeMap.{btree_map_len};
     ghost use Rattle.std.specs.FinMap.{from_entries};
-    ghost use Rattle.ivy_alloc.specs.Heap.{HeapState, heap_state_code};
+    ghost use Rattle.ivy_alloc.specs.stated.Heap.{HeapState};
+    ghost use Rattle.ivy_alloc.specs.Heap.{heap_state_code};
     ghost use Rattle.ivy_alloc.specs.Tied.{IsTied};
 
     ghost Value = { HeapState };

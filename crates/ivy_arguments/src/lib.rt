@@ -1,4 +1,4 @@
-//! What a command line asks for.
+//! The command line of `ivy`; the only crate that stands on `clap`.
 //!
 //! It stands apart, since the statements of `clap` take long to load.
 #![tactic(auto)]
@@ -7,5 +7,4 @@ mod error;
 mod request;
 
 pub use error::CommandLineError;
-pub use ivy_texts;
-pub use request::Request;
+pub use request::IvyCommand;

@@ -11,7 +11,7 @@ use std::alloc::{AllocError, Global};
 
 /// What a command line asks for.
 #[derive(Clone, Copy, Debug, PartialEq, Eq)]
-pub enum Request<'a> {
+pub enum IvyCommand<'a> {
     /// Runs the programs of a file in a session: each worker makes so many turns at most, the ether holds so many items,
     /// and each `pulse`-th turn on the wire begins with a pulse.
     Run {
@@ -149,10 +149,10 @@ fn settings_of<'a>(matches: &ArgMatches<'a>) -> Result<Settings, CommandLineErro
     })
 }
 
-fn run_of<'a>(matches: &ArgMatches<'a>) -> Result<Request<'a>, CommandLineError>
+fn run_of<'a>(matches: &ArgMatches<'a>) -> Result<IvyCommand<'a>, CommandLineError>
     ensures { IfOk result AsksNoMore }
 {
-    Ok(Request::Run {
+    Ok(IvyCommand::Run {
         file: word_of(matches, FILE)?,
         turns: number_of(matches, TURNS)?,
         capacity: number_of(matches, CAPACITY)?,
@@ -161,24 +161,24 @@ fn run_of<'a>(matches: &ArgMatches<'a>) -> Result<Request<'a>, CommandLineError>
     })
 }
 
-fn step_of<'a>(matches: &ArgMatches<'a>) -> Result<Request<'a>, CommandLineError>
+fn step_of<'a>(matches: &ArgMatches<'a>) -> Result<IvyCommand<'a>, CommandLineError>
     ensures { IfOk result AsksNoMore }
 {
-    Ok(Request::Step {
+    Ok(IvyCommand::Step {
         file: word_of(matches, FILE)?,
         schedule: word_of(matches, SCHEDULE)?,
         settings: settings_of(matches)?,
     })
 }
 
-fn sim_of<'a>(matches: &ArgMatches<'a>) -> Result<Request<'a>, CommandLineError>
+fn sim_of<'a>(matches: &ArgMatches<'a>) -> Result<IvyCommand<'a>, CommandLineError>
     ensures { IfOk result AsksNoMore }
 {
     let moves = number_of(matches, MOVES)?;
     if moves > MOST_MOVES {
         return Err(CommandLineError::BadCommandLine);
     }
-    Ok(Request::Sim {
+    Ok(IvyCommand::Sim {
         file: word_of(matches, FILE)?,
         seed: number_of(matches, SEED)?,
         moves,
@@ -186,20 +186,20 @@ fn sim_of<'a>(matches: &ArgMatches<'a>) -> Result<Request<'a>, CommandLineError>
     })
 }
 
-fn check_of<'a>(matches: &ArgMatches<'a>) -> Result<Request<'a>, CommandLineError>
+fn check_of<'a>(matches: &ArgMatches<'a>) -> Result<IvyCommand<'a>, CommandLineError>
     ensures { IfOk result AsksNoMore }
 {
-    Ok(Request::Check {
+    Ok(IvyCommand::Check {
         order: word_of(matches, ORDER)?,
     })
 }
 
-impl<'a> Request<'a> {
+impl<'a> IvyCommand<'a> {
     /// What the words ask for. The first is the program's name.
     ///
     /// Refused for memory where a growth was refused, and else as a bad command line where they are no request. A
     /// request for drawn moves is for 1,000,000 of them at most.
-    pub fn read(alloc: Global, words: &'a [String]) -> Result<Request<'a>, CommandLineError>
+    pub fn read(alloc: Global, words: &'a [String]) -> Result<IvyCommand<'a>, CommandLineError>
         ensures few { IfOk result AsksNoMore }
     {
         let matches = command(alloc)?.try_get_matches_from(words)?;

@@ -16,7 +16,7 @@ use Rattle.std.proofs.boxed.Box.TheLaws as box_laws
 use Rattle.std.proofs.mem.ManuallyDrop.TheLaws as kept_laws
 use Rattle.ivy_embedded.proofs.embedded.Embedded.TheLaws as node_laws
 use Rattle.ivy_embedded.specs.contracts.embedded.Embedded.{the_row as node_row}
-use Rattle.ivy_c.specs.Owned.{row}
+use Rattle.ivy_c.specs.Ownership.{row}
 
 -- a type as a call passes it
 abbrev pub passed : RattleType → RattleType

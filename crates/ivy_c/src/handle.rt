@@ -2,10 +2,10 @@
 ghost use Rattle.std.specs.Prelude.{◌≡◌, Option, None, Some, IfSome, MatchOption};
 ghost use Rattle.std.specs.Mem.{manually_drop_value};
 ghost use Rattle.ivy_embedded.specs.Nodes.{Embedded};
-ghost use Rattle.ivy_c.specs.Owned.{handle_owns};
+ghost use Rattle.ivy_c.specs.Ownership.{handle_owns};
 ghost use Rattle.std.specs.Coded.{codes};
-ghost use Rattle.ivy_pagetable.specs.NodeSets.{nodes_code};
-ghost use Rattle.ivy_site.specs.ivy_alloc.Heap.{heap_state_code};
+ghost use Rattle.ivy_pagetable.specs.stated.NodeSets.{nodes_code};
+ghost use Rattle.ivy_alloc.specs.Heap.{heap_state_code};
 
 use ivy_embedded::Embedded;
 use std::alloc::Global;

@@ -1,5 +1,4 @@
-//! One node of Ivy for C and other languages: an opaque handle, with no thread, lock, clock or
-//! socket.
+//! The functions of `ivy.h`, as a static library with an opaque handle over `ivy_embedded`.
 //!
 //! `include/ivy.h` says what a program in C owes, and what each status leaves.
 #![tactic(auto)]
@@ -19,7 +18,7 @@ pub use handle::{Handle, Held};
 use handle::{end, held};
 use ivy_embedded::{
     BAD_ARGUMENT, BAD_CONFIG, CLOSED, DONE, Embedded, MEMORY, NO_CALL, NO_FRAME, OPEN, PENDING,
-    SHORT_BUFFER, Taken, call_of, config_of, status_of, tell, verdict_number,
+    SHORT_BUFFER, TakenString, call_of, config_of, status_of, tell, verdict_number,
 };
 use ivy_model::Row;
 use std::alloc::Global;
@@ -372,16 +371,16 @@ pub extern "C" fn ivy_next_frame(
     let taken = node.take_into(buffer);
     put(alloc, handle, node);
     match taken {
-        Taken::Given(length, to) => {
+        TakenString::Given(length, to) => {
             *len = length;
             *dest = u32::from(to);
             DONE
         }
-        Taken::TooLong(length) => {
+        TakenString::TooLong(length) => {
             *len = length;
             SHORT_BUFFER
         }
-        Taken::Nothing => NO_FRAME,
+        TakenString::Nothing => NO_FRAME,
     }
 }
 

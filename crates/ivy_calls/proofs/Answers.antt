@@ -5,8 +5,8 @@ use Rattle.std.proofs.lemmas.Bool.{ne_eqb}
 use Rattle.std.specs.List.{AllByRecursion as Each}
 use Rattle.std.specs.Prelude.{if◌then◌else◌}
 use Rattle.ivy_model.specs.declared.call.Record.{Record}
-use Rattle.ivy_model.specs.Explains.{part}
-use Rattle.ivy_model.proofs.Parts.{part-append, part-own, part-push_own, part-push_other}
+use Rattle.ivy_model.specs.stated.Explains.{part}
+use Rattle.ivy_model.proofs.OrderParts.{part-append, part-own, part-push_own, part-push_other}
 use Rattle.ivy_calls.specs.declared.answer.Answer.{Answer}
 use Rattle.ivy_calls.specs.Answers.{by, answer, answers, answers_of}
 

@@ -4,9 +4,9 @@ use Rattle.std.proofs.lemmas.List.{map-append}
 use Rattle.ivy_model.specs.declared.call.Call.{Call}
 use Rattle.ivy_model.specs.declared.call.Reply.{Reply}
 use Rattle.ivy_model.specs.Flat.{FlatState}
-use Rattle.ivy_model.specs.Legal.{HasWidth, ServesAll}
-use Rattle.ivy_model.specs.Memory.{first}
-use Rattle.ivy_model.specs.Serves.{Serves}
+use Rattle.ivy_model.specs.stated.Legal.{HasWidth, ServesAll}
+use Rattle.ivy_model.specs.stated.Memory.{first}
+use Rattle.ivy_model.specs.stated.Serves.{Serves}
 use Rattle.ivy_model.proofs.Orders.{leads_push}
 use Rattle.ivy_calls.specs.declared.answer.Answer.{Answer}
 use Rattle.ivy_calls.specs.Answers.{by}

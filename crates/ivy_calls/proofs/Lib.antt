@@ -1,3 +1,3 @@
 pub mod Answers
 pub mod Flat
-pub mod Rows
+pub mod BlockAnswers

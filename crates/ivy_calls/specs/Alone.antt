@@ -4,8 +4,8 @@ use Rattle.std.specs.Coded.{Coded, code_by, coded×, coded_list}
 use Rattle.ivy_model.specs.declared.fault.Fault.{Fault}
 use Rattle.ivy_model.specs.declared.fault.Fault.TheVariants.{Memory, TurnLimit}
 use Rattle.ivy_model.specs.Flat.{FlatState, flat_state_code}
-use Rattle.ivy_model.specs.Legal.{ServesAll}
-use Rattle.ivy_model.specs.Memory.{first}
+use Rattle.ivy_model.specs.stated.Legal.{ServesAll}
+use Rattle.ivy_model.specs.stated.Memory.{first}
 use Rattle.ivy_calls.specs.declared.answer.Answer.{Answer}
 use Rattle.ivy_calls.specs.contracts.answer.Answer.{the_row}
 use Rattle.ivy_calls.specs.Answers.{by}

@@ -3,7 +3,7 @@ use Rattle.std.specs.Prelude.{◌≡◌, ℕ, List, [], ◌∷◌, ◌++◌, map
 use Rattle.ivy_model.specs.declared.call.Call.{Call}
 use Rattle.ivy_model.specs.declared.call.Record.{Record}
 use Rattle.ivy_model.specs.declared.call.Reply.{Reply}
-use Rattle.ivy_model.specs.Explains.{part}
+use Rattle.ivy_model.specs.stated.Explains.{part}
 use Rattle.ivy_calls.specs.declared.answer.Answer.{Answer}
 
 -- an answer as a record of the node that had it

@@ -7,8 +7,8 @@ use Rattle.ivy_model.specs.declared.call.Reply.{Reply}
 use Rattle.ivy_model.specs.declared.call.Reply.TheVariants as reply
 use Rattle.ivy_model.specs.declared.fault.Fault.{Fault}
 use Rattle.ivy_model.specs.declared.fault.Fault.TheVariants.{BadBody}
-use Rattle.ivy_model.specs.Accesses.{kind_of_call, gives_number}
-use Rattle.ivy_model.specs.Numbers.{fault_number}
+use Rattle.ivy_model.specs.stated.Accesses.{kind_of_call, gives_number}
+use Rattle.ivy_model.specs.stated.Numbers.{fault_number}
 use Rattle.ivy_calls.specs.declared.answer.Answer.{Answer}
 use Rattle.ivy_calls.specs.declared.error.CallError.{CallError}
 use Rattle.ivy_calls.specs.declared.error.CallError.TheVariants as error

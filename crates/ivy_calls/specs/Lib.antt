@@ -1,5 +1,5 @@
 pub mod Answers
-pub mod Rows
+pub mod BlockAnswers
 pub mod Fails
 pub mod Alone
 pub mod Shared

@@ -2,8 +2,8 @@
 use Rattle.std.specs.Prelude.{◌≡◌, ℕ, List, length, slice_get, Some}
 use Rattle.ivy_model.specs.declared.config.Config.{Config}
 use Rattle.ivy_model.specs.declared.call.Record.{Record}
-use Rattle.ivy_model.specs.Config.{IsConfig}
-use Rattle.ivy_model.specs.Legal.{Legal}
+use Rattle.ivy_model.specs.stated.Config.{IsConfig}
+use Rattle.ivy_model.specs.stated.Legal.{Legal}
 use Rattle.ivy_calls.specs.declared.answer.Answer.{Answer}
 use Rattle.ivy_calls.specs.Answers.{answers_of}
 

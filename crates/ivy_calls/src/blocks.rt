@@ -3,7 +3,7 @@ ghost use Rattle.std.specs.Prelude.{◌≡◌, ◌+◌, ◌*◌, ◌/◌, ◌^�
 ghost use Rattle.ivy_model.specs.declared.row.Row.TheVariants.{Loads, Stores};
 ghost use Rattle.ivy_model.specs.Rows.{numbers_in};
 ghost use Rattle.ivy_calls.specs.Fails.{Fails};
-ghost use Rattle.ivy_calls.specs.Rows.{AtSome, StopsInRow, first_number, in_row, block_numbers, block_words};
+ghost use Rattle.ivy_calls.specs.BlockAnswers.{AtSome, StopsInRow, first_number, in_row, block_numbers, block_words};
 
 use crate::calls::{load, store};
 use crate::error::CallError;

@@ -1,13 +1,13 @@
 //! One call each.
 ghost use Rattle.std.specs.Prelude.{◌≡◌, ◌<◌, ◌*◌, ◌^◌, ℕ, IfErr, IfOk};
-ghost use Rattle.ivy_model.specs.Accesses.{kind_of_call};
-ghost use Rattle.ivy_model.specs.Legal.{HasWidth};
+ghost use Rattle.ivy_model.specs.stated.Accesses.{kind_of_call};
+ghost use Rattle.ivy_model.specs.stated.Legal.{HasWidth};
 ghost use Rattle.ivy_calls.specs.Answers.{Adds};
 ghost use Rattle.ivy_calls.specs.Fails.{Fails, GivesNone, GivesNumber, IsCarriedOut};
 
 use crate::error::{CallError, refusal};
 use crate::memory::SharedMemory;
-use crate::word::Word;
+use crate::word::SharedWord;
 use ivy_model::{Call, Reply};
 
 /// Makes the call. An `Ok` is no refusal.
@@ -61,7 +61,7 @@ fn number<M: SharedMemory>(memory: &mut M, call: Call) -> Result<u64, CallError>
 
 /// Makes a call that gives the number in a word.
 #[inline(always)]
-fn word<W: Word, M: SharedMemory>(memory: &mut M, call: Call) -> Result<W, CallError>
+fn word<W: SharedWord, M: SharedMemory>(memory: &mut M, call: Call) -> Result<W, CallError>
     requires width { HasWidth call }
     requires some { GivesNone (kind_of_call call) → ⊥ }
     requires fits { (n : ℕ) → GivesNumber (kind_of_call call) n → n < 2 ^ (8 * W.WIDTH) }
@@ -82,7 +82,7 @@ fn word<W: Word, M: SharedMemory>(memory: &mut M, call: Call) -> Result<W, CallE
 ///
 /// Refused with 3 where `addr` is no multiple of the width, else 4 past the heap, else 5 in page 0.
 #[inline(always)]
-pub fn load<W: Word, M: SharedMemory>(memory: &mut M, addr: u64) -> Result<W, CallError>
+pub fn load<W: SharedWord, M: SharedMemory>(memory: &mut M, addr: u64) -> Result<W, CallError>
     ensures asks { IfOk result (λ found. Adds (Call.Load W.WIDTH addr) (Reply.Value (W.number_of found)) (M.answers memory.old) (M.answers memory.new)) }
     ensures fails { IfErr result (λ error. Fails (M.can_fail memory.old) (Call.Load W.WIDTH addr) error (M.answers memory.old) (M.answers memory.new)) }
 {
@@ -99,7 +99,11 @@ pub fn load<W: Word, M: SharedMemory>(memory: &mut M, addr: u64) -> Result<W, Ca
 ///
 /// Refused with 3 where `addr` is no multiple of the width, else 4 past the heap, else 5 in page 0.
 #[inline(always)]
-pub fn store<W: Word, M: SharedMemory>(memory: &mut M, addr: u64, value: W) -> Result<(), CallError>
+pub fn store<W: SharedWord, M: SharedMemory>(
+    memory: &mut M,
+    addr: u64,
+    value: W,
+) -> Result<(), CallError>
     ensures asks { IfOk result (λ _. Adds (Call.Store W.WIDTH addr (W.number_of value)) (Reply.Done) (M.answers memory.old) (M.answers memory.new)) }
     ensures fails { IfErr result (λ error. Fails (M.can_fail memory.old) (Call.Store W.WIDTH addr (W.number_of value)) error (M.answers memory.old) (M.answers memory.new)) }
 {
@@ -116,7 +120,11 @@ pub fn store<W: Word, M: SharedMemory>(memory: &mut M, addr: u64, value: W) -> R
 /// Writes the value into the word at `addr`, and gives what was there, with no other call between.
 ///
 /// Refused with 3 where `addr` is no multiple of the width, else 4 past the heap, else 5 in page 0.
-pub fn swap<W: Word, M: SharedMemory>(memory: &mut M, addr: u64, value: W) -> Result<W, CallError>
+pub fn swap<W: SharedWord, M: SharedMemory>(
+    memory: &mut M,
+    addr: u64,
+    value: W,
+) -> Result<W, CallError>
     ensures asks { IfOk result (λ found. Adds (Call.Swap W.WIDTH addr (W.number_of value)) (Reply.Value (W.number_of found)) (M.answers memory.old) (M.answers memory.new)) }
     ensures fails { IfErr result (λ error. Fails (M.can_fail memory.old) (Call.Swap W.WIDTH addr (W.number_of value)) error (M.answers memory.old) (M.answers memory.new)) }
 {
@@ -134,7 +142,7 @@ pub fn swap<W: Word, M: SharedMemory>(memory: &mut M, addr: u64, value: W) -> Re
 /// call between: a compare-and-swap.
 ///
 /// Refused with 3 where `addr` is no multiple of the width, else 4 past the heap, else 5 in page 0.
-pub fn cas<W: Word, M: SharedMemory>(
+pub fn cas<W: SharedWord, M: SharedMemory>(
     memory: &mut M,
     addr: u64,
     expected: W,
@@ -158,7 +166,7 @@ pub fn cas<W: Word, M: SharedMemory>(
 /// with no other call between: a fetch-and-add.
 ///
 /// Refused with 3 where `addr` is no multiple of the width, else 4 past the heap, else 5 in page 0.
-pub fn fetch_add<W: Word, M: SharedMemory>(
+pub fn fetch_add<W: SharedWord, M: SharedMemory>(
     memory: &mut M,
     addr: u64,
     value: W,
@@ -179,7 +187,7 @@ pub fn fetch_add<W: Word, M: SharedMemory>(
 /// Adds one to eventcount `k`.
 ///
 /// Refused with 6 where there is none, and 7 at `u64::MAX`.
-pub fn advance<M: SharedMemory>(memory: &mut M, k: u64) -> Result<(), CallError>
+pub fn advance_count<M: SharedMemory>(memory: &mut M, k: u64) -> Result<(), CallError>
     ensures asks { IfOk result (λ _. Adds (Call.Advance k) (Reply.Done) (M.answers memory.old) (M.answers memory.new)) }
     ensures fails { IfErr result (λ error. Fails (M.can_fail memory.old) (Call.Advance k) error (M.answers memory.old) (M.answers memory.new)) }
 {
@@ -187,7 +195,7 @@ pub fn advance<M: SharedMemory>(memory: &mut M, k: u64) -> Result<(), CallError>
 }
 
 /// The value of eventcount `k`. Refused with 6 where there is none.
-pub fn read<M: SharedMemory>(memory: &mut M, k: u64) -> Result<u64, CallError>
+pub fn read_count<M: SharedMemory>(memory: &mut M, k: u64) -> Result<u64, CallError>
     ensures asks { IfOk result (λ count. Adds (Call.Count k) (Reply.Value count) (M.answers memory.old) (M.answers memory.new)) }
     ensures fails { IfErr result (λ error. Fails (M.can_fail memory.old) (Call.Count k) error (M.answers memory.old) (M.answers memory.new)) }
 {

@@ -1,5 +1,5 @@
 ghost use Rattle.std.specs.Prelude.{◌≡◌, ◌≤◌, IfNone, IfSome};
-ghost use Rattle.ivy_model.specs.Numbers.{fault_number};
+ghost use Rattle.ivy_model.specs.stated.Numbers.{fault_number};
 
 use ivy_model::{Call, Fault, Reply};
 use thiserror::Error;

@@ -3,13 +3,13 @@ use ivy_model::{Call, Fault, Reply};
 /// A memory as one node sees it, which serves one call after another.
 pub trait SharedMemory {
     ghost use Rattle.std.specs.Prelude.{◌≡◌, ◌≤◌, ◌*◌, ◌++◌, ◌∷◌, [], List, IfErr, IfOk, length};
-    ghost use Rattle.ivy_model.specs.Legal.{HasWidth};
+    ghost use Rattle.ivy_model.specs.stated.Legal.{HasWidth};
     ghost use Rattle.ivy_model.specs.Rows.{numbers_in};
     ghost use Rattle.ivy_model.specs.declared.row.Row.TheVariants.{Loads, Stores};
     ghost use Rattle.ivy_model.specs.declared.fault.Fault.{Fault};
     ghost use Rattle.ivy_calls.specs.declared.answer.Answer.{Answer};
     ghost use Rattle.ivy_calls.specs.Answers.{Adds};
-    ghost use Rattle.ivy_calls.specs.Rows.{in_row};
+    ghost use Rattle.ivy_calls.specs.BlockAnswers.{in_row};
 
     /// What was answered so far.
     ghost answers: { Self → List Answer };

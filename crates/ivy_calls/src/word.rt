@@ -1,7 +1,7 @@
 /// A number that lies in a word of the heap, with its highest byte first.
-pub trait Word: Copy {
+pub trait SharedWord: Copy {
     ghost use Rattle.std.specs.Prelude.{◌≡◌, ◌≤◌, ◌*◌, ◌^◌, ℕ, IfNone, IfSome};
-    ghost use Rattle.ivy_model.specs.Legal.{IsWidth};
+    ghost use Rattle.ivy_model.specs.stated.Legal.{IsWidth};
 
     /// Bytes of the word.
     ghost WIDTH: { ℕ };
@@ -25,7 +25,7 @@ pub trait Word: Copy {
     ghost is_width: { IsWidth WIDTH };
 }
 
-impl Word for u8 {
+impl SharedWord for u8 {
     ghost use Rattle.std.proofs.Common.{arith, refl};
 
     ghost WIDTH = { 1 };
@@ -45,7 +45,7 @@ impl Word for u8 {
     ghost is_width = { (0, Prim.omega arith, refl) };
 }
 
-impl Word for u16 {
+impl SharedWord for u16 {
     ghost use Rattle.std.proofs.Common.{arith, refl};
 
     ghost WIDTH = { 2 };
@@ -65,7 +65,7 @@ impl Word for u16 {
     ghost is_width = { (1, Prim.omega arith, refl) };
 }
 
-impl Word for u32 {
+impl SharedWord for u32 {
     ghost use Rattle.std.proofs.Common.{arith, refl};
 
     ghost WIDTH = { 4 };
@@ -85,7 +85,7 @@ impl Word for u32 {
     ghost is_width = { (2, Prim.omega arith, refl) };
 }
 
-impl Word for u64 {
+impl SharedWord for u64 {
     ghost use Rattle.std.proofs.Common.{arith, refl};
 
     ghost WIDTH = { 8 };

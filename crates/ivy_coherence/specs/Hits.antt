@@ -6,13 +6,13 @@ use Rattle.ivy_pagetable.specs.declared.Access.{Access}
 use Rattle.ivy_pagetable.specs.declared.Entry.{Entry}
 use Rattle.ivy_pagetable.specs.declared.Entry.TheVariants as entry
 use Rattle.ivy_pagetable.specs.declared.Out.{Out}
-use Rattle.ivy_pagetable.specs.Accesses.{reads, writes}
-use Rattle.ivy_pagetable.specs.Tables.{entry_at}
-use Rattle.ivy_pagetable.specs.Rows.{word_in, out_in}
-use Rattle.ivy_pagetable.specs.Manager.{Ops}
+use Rattle.ivy_pagetable.specs.stated.Accesses.{reads, writes}
+use Rattle.ivy_pagetable.specs.stated.Tables.{entry_at}
+use Rattle.ivy_pagetable.specs.WordRows.{word_in, out_in}
+use Rattle.ivy_pagetable.specs.stated.Manager.{Ops}
 use Rattle.ivy_coherence.specs.declared.need.Need.TheVariants.{Have}
-use Rattle.ivy_coherence.specs.Coherent.{Coherent}
-use Rattle.ivy_coherence.specs.PageFaults.{begun}
+use Rattle.ivy_coherence.specs.stated.Coherent.{Coherent}
+use Rattle.ivy_coherence.specs.stated.PageFaults.{begun}
 
 -- the words of a row may be carried out at once, with this access to their page
 abbrev pub permits : Access → Row → Bool

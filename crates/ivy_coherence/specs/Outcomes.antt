@@ -3,11 +3,11 @@
 use Rattle.std.specs.Prelude.{◌≡◌, ◌<◌, ◌⊎◌, Result, OnOk, OnErr, IfErr}
 use Rattle.ivy_model.specs.declared.Fault.{Fault}
 use Rattle.ivy_model.specs.declared.Fault.TheVariants.{Memory}
-use Rattle.ivy_model.specs.Limits.{most_pages}
+use Rattle.ivy_model.specs.stated.Limits.{most_pages}
 use Rattle.ivy_model.specs.Wants.{RanOut}
 use Rattle.ivy_wire.specs.Posts.{PostOps, HasRefused}
-use Rattle.ivy_coherence.specs.Coherent.{Coherent}
-use Rattle.ivy_coherence.specs.Steps.{CoherenceEffect}
+use Rattle.ivy_coherence.specs.stated.Coherent.{Coherent}
+use Rattle.ivy_coherence.specs.stated.MessageSteps.{CoherenceEffect}
 
 -- there was no memory for a page: only where there are more than a narrow configuration has, so that
 -- pages are made when they are first written

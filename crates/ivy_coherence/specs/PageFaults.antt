@@ -1,29 +1,15 @@
 -- What an access of this node's program comes to (Li and Hudak 1989): what the program is told, the
 -- state after, and what is posted, in order.
-use Rattle.std.specs.Prelude.{◌≡◌, ℕ, true, false, List, [], ◌∷◌, Option, Some, None, if◌then◌else◌}
-use Rattle.ivy_wire.specs.declared.Content.TheVariants as content
-use Rattle.ivy_wire.specs.Data.{Parcel}
-use Rattle.ivy_wire.specs.Posts.{parcel_to}
-use Rattle.ivy_pagetable.specs.declared.Entry.{Entry}
+use Rattle.std.specs.Prelude.{◌≡◌, ℕ, true, false, None}
 use Rattle.ivy_pagetable.specs.declared.Entry.TheVariants as entry
 use Rattle.ivy_pagetable.specs.declared.Word.{Word}
-use Rattle.ivy_pagetable.specs.States.{IdleState, WaitingState}
-use Rattle.ivy_pagetable.specs.Accesses.{reads, suffices}
-use Rattle.ivy_pagetable.specs.TableState.{Table}
-use Rattle.ivy_pagetable.specs.Tables.{entry_at, page_at, with_entry, with_page}
-use Rattle.ivy_pagetable.specs.Words.{carried_out, needs_write}
-use Rattle.ivy_pagetable.specs.Manager.{Ops}
+use Rattle.ivy_pagetable.specs.stated.States.{IdleState}
+use Rattle.ivy_pagetable.specs.stated.Accesses.{suffices}
+use Rattle.ivy_pagetable.specs.stated.TableState.{Table}
+use Rattle.ivy_pagetable.specs.stated.Tables.{entry_at}
+use Rattle.ivy_pagetable.specs.stated.Words.{needs_write}
 use Rattle.ivy_pagetable.specs.Either.{MayBeUnmade}
-use Rattle.ivy_coherence.specs.declared.need.Need.{Need}
-use Rattle.ivy_coherence.specs.declared.need.Need.TheVariants.{Have, Started, Busy}
-use Rattle.ivy_coherence.specs.Coherent.{Coherent}
-use Rattle.ivy_coherence.specs.Serving.{invalidations}
-
--- what an access came to, the node's coherence after it, and what is posted
-pub record Begun (S : Type 0) : Type 0 where
-  pub need : Need
-  pub after : Coherent S
-  pub posted : List Parcel
+use Rattle.ivy_coherence.specs.stated.Coherent.{Coherent}
 
 -- no word waits for the page
 abbrev pub IsIdleAt : Table → ℕ → IdleState → Type 0
@@ -40,84 +26,3 @@ pub record HasToAsk {S : Type 0} (c : Coherent S) (page : ℕ) (word : Word) : T
 -- the word may be the first that is written to its page, which is made then
 abbrev pub MayMakePage : {S : Type 0} → Coherent S → ℕ → Word → Type 0
 MayMakePage c page word = MayBeUnmade c.table page × (needs_write word ≡ true)
-
--- the word of this call, and nothing put off yet
-abbrev pub waiting_from : Word → ℕ → WaitingState
-waiting_from word call = record { word = word; call = call; put_off = [] }
-
--- the entry that it waits at
-abbrev pub fault_entry : Word → ℕ → IdleState → Entry
-fault_entry word call s =
-    if needs_write word
-    then (if s.owner
-    then entry.AwaitAcks (record { left = s.copies; waiting = waiting_from word call })
-    else entry.AwaitWrite (record { had_copy = reads s.access; waiting = waiting_from word call }))
-    else entry.AwaitRead (waiting_from word call)
-
--- these words wait along with the one that has begun to wait
-abbrev pub along : {S : Type 0} → List Word → Coherent S → Coherent S
-along [] c = c
-along (word ∷ words) c = record c { more = word ∷ words }
-
--- where that one has begun to wait
-abbrev pub along_where : {S : Type 0} → Need → List Word → Coherent S → Coherent S
-along_where Started words c = along words c
-along_where need words c = c
-
-module _ {S : Type 0} (ops : Ops S) where
-  -- an entry of this node is locked already: nothing changes
-  abbrev pub busy : Coherent S → Begun S
-  busy c = record { need = Busy; after = c; posted = [] }
-
-  -- access suffices: the word is carried out at once
-  abbrev pub hit : Coherent S → ℕ → Word → Begun S
-  hit c page word =
-      let carried = carried_out word (page_at c.table page) in
-      record {
-        need = Have carried.out;
-        after = record c { table = with_page c.table page carried.bytes };
-        posted = [];
-      }
-
-  -- A read fault: a copy is asked for where the owner is believed to be. A write fault: the owner
-  -- tells those that have a copy to give it up, another node asks for the page.
-  abbrev pub fault_posted : Coherent S → ℕ → Word → ℕ → IdleState → List Parcel
-  fault_posted c page word call s =
-      if needs_write word
-      then (if s.owner then invalidations c.me page call s.copies
-      else parcel_to c.me (ops.next_hop c.manager page) c.me call (content.WriteReq page) ∷ [])
-      else parcel_to c.me (ops.next_hop c.manager page) c.me call (content.ReadReq page) ∷ []
-
-  -- the word waits at this entry then
-  abbrev pub started : Coherent S → ℕ → Entry → List Parcel → Begun S
-  started c page e posted = record {
-    need = Started;
-    after = record c { table = with_entry c.table page e; locked = Some page };
-    posted = posted;
-  }
-
-  -- access does not suffice: the word waits, and what it lacks is asked for
-  abbrev pub faulted : Coherent S → ℕ → Word → ℕ → IdleState → Begun S
-  faulted c page word call s =
-      started c page (fault_entry word call s) (fault_posted c page word call s)
-
-  -- an access to a page whose entry is this one
-  abbrev pub accessed : Coherent S → ℕ → Word → ℕ → Entry → Begun S
-  accessed c page word call (entry.Idle s) =
-      if suffices s.access word then hit c page word else faulted c page word call s
-  accessed c page word call e = busy c
-
-  -- no word begins while another one waits at a locked entry of this node
-  abbrev pub begun_at : Coherent S → ℕ → Word → ℕ → Option ℕ → Begun S
-  begun_at c page word call None = accessed c page word call (entry_at c.table page)
-  begun_at c page word call (Some locked) = busy c
-
-  -- an access of this node's program, for the call of this number
-  unfoldable pub begun : Coherent S → ℕ → Word → ℕ → Begun S
-  begun c page word call = begun_at c page word call c.locked
-
-  -- an access to a row of words, of which this is the first: where it has to wait, the others wait along
-  abbrev pub begun_row : Coherent S → ℕ → Word → List Word → ℕ → Begun S
-  begun_row c page word rest call =
-      let b = begun c page word call in
-      record { need = b.need; after = along_where b.need rest b.after; posted = b.posted }

@@ -6,7 +6,7 @@ use Rattle.ivy_model.specs.declared.Row.{Row}
 use Rattle.ivy_model.specs.Rows.{numbers_in}
 use Rattle.ivy_pagetable.specs.declared.Out.{Out}
 use Rattle.ivy_pagetable.specs.declared.Word.{Word}
-use Rattle.ivy_pagetable.specs.Rows.{word_in, out_in}
+use Rattle.ivy_pagetable.specs.WordRows.{word_in, out_in}
 
 -- the words of a row from a place in the page on, and what they give
 abbrev pub row_words : Row → ℕ → List ℕ → List Word

@@ -4,8 +4,8 @@ use Rattle.std.specs.Prelude.{◌≡◌, ℕ, Result, OnOk, OnErr, IfOk, IfErr}
 use Rattle.ivy_model.specs.declared.Fault.{Fault}
 use Rattle.ivy_model.specs.Wants.{RanOut}
 use Rattle.ivy_wire.specs.Posts.{PostOps, HasRefused}
-use Rattle.ivy_pagetable.specs.States.{IdleState}
-use Rattle.ivy_coherence.specs.Serving.{Serving}
+use Rattle.ivy_pagetable.specs.stated.States.{IdleState}
+use Rattle.ivy_coherence.specs.stated.Serving.{Serving}
 
 -- Messages were served, and what comes of that was posted: what the entry is then; the manager and
 -- the count of messages that fitted no rule, as they were and are.

@@ -4,9 +4,9 @@ use Rattle.ivy_model.specs.declared.Row.{Row}
 use Rattle.ivy_model.specs.declared.Row.TheVariants.{Loads, Stores}
 use Rattle.ivy_pagetable.specs.declared.Out.{Out}
 use Rattle.ivy_pagetable.specs.declared.Out.TheVariants.{Value, Done}
-use Rattle.ivy_pagetable.specs.Rows.{out_in}
-use Rattle.ivy_coherence.specs.Coherent.{Coherent}
-use Rattle.ivy_coherence.specs.Several.{first_out, later_outs}
+use Rattle.ivy_pagetable.specs.WordRows.{out_in}
+use Rattle.ivy_coherence.specs.stated.Coherent.{Coherent}
+use Rattle.ivy_coherence.specs.stated.Several.{first_out, later_outs}
 
 -- the answer that is there is taken, and that of the next word is there then
 abbrev pub next_taken : {S : Type 0} → Coherent S → Coherent S

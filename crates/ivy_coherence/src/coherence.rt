@@ -1,21 +1,22 @@
 //! The entries and pages of one node, and the rules by which they change.
 ghost use Rattle.std.specs.Prelude.{◌≡◌, ◌≢◌, ◌<◌, ◌≤◌, ◌+◌, ◌*◌, ◌%◌, ◌^◌, ◌⊎◌, ℕ, true, false, None, List, [], IfOk, IfErr, OnOk, OnErr, IsOkUnless, length, min, if◌then◌else◌};
 ghost use Rattle.ivy_model.specs.declared.Row.TheVariants.{Loads, Stores};
-ghost use Rattle.ivy_model.specs.Config.{IsConfig};
+ghost use Rattle.ivy_model.specs.stated.Config.{IsConfig};
 ghost use Rattle.ivy_model.specs.Rows.{numbers_in};
 ghost use Rattle.ivy_model.specs.Wants.{RanOut};
 ghost use Rattle.ivy_wire.specs.Posts.{IsPostOf, HasPosted, HasRefused};
-ghost use Rattle.ivy_pagetable.specs.Words.{IsWord, needs_write};
-ghost use Rattle.ivy_pagetable.specs.Rows.{row_len};
+ghost use Rattle.ivy_pagetable.specs.stated.Words.{IsWord, needs_write};
+ghost use Rattle.ivy_pagetable.specs.WordRows.{row_len};
 ghost use Rattle.ivy_pagetable.specs.Either.{MayBeUnmade};
-ghost use Rattle.ivy_pagetable.specs.Accesses.{suffices};
-ghost use Rattle.ivy_coherence.specs.PageFaults.{IsIdleAt, HasToAsk, MayMakePage, fault_entry, fault_posted, faulted, begun, begun_row};
+ghost use Rattle.ivy_pagetable.specs.stated.Accesses.{suffices};
+ghost use Rattle.ivy_coherence.specs.PageFaults.{IsIdleAt, HasToAsk, MayMakePage};
+ghost use Rattle.ivy_coherence.specs.stated.PageFaults.{fault_entry, fault_posted, faulted, begun, begun_row};
 ghost use Rattle.ivy_coherence.specs.Rests.{first_word, other_words};
 ghost use Rattle.ivy_coherence.specs.Hits.{permits, is_at_hand, has_to_wait, AreHits};
 ghost use Rattle.ivy_coherence.specs.Outcomes.{IsWantOfPage};
-ghost use Rattle.ivy_coherence.specs.Several.{first_out, later_outs};
+ghost use Rattle.ivy_coherence.specs.stated.Several.{first_out, later_outs};
 ghost use Rattle.ivy_coherence.specs.Takes.{are_given, AreOutsTaken, given_there};
-ghost use Rattle.ivy_coherence.specs.Sound.{first_coherent, IsSound};
+ghost use Rattle.ivy_coherence.specs.stated.Sound.{first_coherent, IsSound};
 
 use crate::need::Need;
 use crate::rest::{Rest, number_of, put_number, word_at};
@@ -47,15 +48,15 @@ pub struct Coherence<M: Manager, A: Allocator> {
 }
 
 impl<M: Manager, A: Allocator> Model for Coherence<M, A> {
-    ghost use Rattle.ivy_coherence.specs.Coherent.{Coherent};
-    ghost use Rattle.ivy_coherence.specs.Sound.{IsSound};
+    ghost use Rattle.ivy_coherence.specs.stated.Coherent.{Coherent};
+    ghost use Rattle.ivy_coherence.specs.stated.Sound.{IsSound};
 
     ghost Value = { Coherent M };
 
     ghost use Rattle.std.specs.Prelude.{◌≡◌, ◌≤◌, length};
-    ghost use Rattle.ivy_model.specs.Limits.{most_pages};
+    ghost use Rattle.ivy_model.specs.stated.Limits.{most_pages};
     ghost use Rattle.std.specs.Coded.{codes};
-    ghost use Rattle.ivy_pagetable.specs.NodeSets.{nodes_code};
+    ghost use Rattle.ivy_pagetable.specs.stated.NodeSets.{nodes_code};
 
     ghost coded = { Prim.hlevel (codes, nodes_code) };
 
@@ -299,7 +300,7 @@ impl<M: Manager, A: Allocator> Coherence<M, A> {
         Ok(())
     }
 
-    #[tactic(auto, unfolding(crate::specs::PageFaults::begun))]
+    #[tactic(auto, unfolding(crate::specs::stated::PageFaults::begun))]
     #[inline(always)]
     /// An access of this node's program to a word of a page, by the call of this number [1, 17].
     ///
@@ -340,7 +341,7 @@ impl<M: Manager, A: Allocator> Coherence<M, A> {
         self.begin(page, word, call, post)
     }
 
-    #[tactic(auto, unfolding(crate::specs::PageFaults::begun))]
+    #[tactic(auto, unfolding(crate::specs::stated::PageFaults::begun))]
     /// The access of [`Coherence::need`], whatever the table and the entry, where no word of this node waits.
     ///
     /// It stands apart, so that a word that hits does nothing that only other words need.
@@ -437,7 +438,7 @@ impl<M: Manager, A: Allocator> Coherence<M, A> {
 
     /// Whether words of a page, begun together by [`Coherence::need_row`], would wait: no word of this node waits, all answers
     /// of words that waited along with an earlier one were taken, and the access does not suffice. It takes no memory.
-    #[tactic(auto, using(crate::proofs::Hits::taken_is))]
+    #[tactic(auto, using(crate::proofs::batches::Hits::taken_is))]
     pub fn has_to_wait(&self, page: u32, kind: Row) -> bool
         requires { page < self.now.config.pages }
         ensures { result ≡ has_to_wait self.now page kind }

@@ -3,16 +3,18 @@ ghost use Rattle.std.specs.FinSet as set;
 ghost use Rattle.std.specs.Prelude.{◌≡◌, ◌≢◌, ◌<◌, ◌≤◌, ◌^◌, ◌⊎◌, ℕ, true, false, Some, None, [], OnOk, OnErr, IfErr, length};
 ghost use Rattle.ivy_model.specs.Wants.{RanOut};
 ghost use Rattle.ivy_wire.specs.Lent.{owned_message};
-ghost use Rattle.ivy_wire.specs.Spelling.{FitsMessage};
+ghost use Rattle.ivy_wire.specs.stated.Spelling.{FitsMessage};
 ghost use Rattle.ivy_wire.specs.Posts.{IsPostOf, HasRefused};
 ghost use Rattle.ivy_pagetable.specs.declared.Request.TheVariants as request;
-ghost use Rattle.ivy_pagetable.specs.Tables.{entry_at};
-ghost use Rattle.ivy_pagetable.specs.NodeSets.{IsBelow};
-ghost use Rattle.ivy_coherence.specs.IdleSound.{CanBeServed, AreOthers};
-ghost use Rattle.ivy_coherence.specs.Limits.{most_posted};
+ghost use Rattle.ivy_pagetable.specs.stated.Tables.{entry_at};
+ghost use Rattle.ivy_pagetable.specs.stated.NodeSets.{IsBelow};
+ghost use Rattle.ivy_coherence.specs.stated.IdleSound.{CanBeServed, AreOthers};
+ghost use Rattle.ivy_coherence.specs.EventLimits.{most_posted};
 ghost use Rattle.ivy_coherence.specs.Outcomes.{IsStep, IsWantOfPage};
-ghost use Rattle.ivy_coherence.specs.Steps.{IsWaiting, IsCollecting, is_none, unlocked_as, unlocked_by_reply, unlocked_by_last};
-ghost use Rattle.ivy_coherence.specs.Steps.{put_aside_at, given_up, asked_at, copy_came_at, owned_with, page_came_at, left_with, acknowledged_at, handled};
+ghost use Rattle.ivy_coherence.specs.MessageSteps.{IsWaiting, IsCollecting};
+ghost use Rattle.ivy_coherence.specs.stated.MessageSteps.{unlocked_as};
+ghost use Rattle.ivy_coherence.specs.stated.MessageSteps.{is_none, unlocked_by_reply, unlocked_by_last};
+ghost use Rattle.ivy_coherence.specs.stated.MessageSteps.{put_aside_at, given_up, asked_at, copy_came_at, owned_with, page_came_at, left_with, acknowledged_at, handled};
 
 use crate::coherence::Coherence;
 use crate::serving::{Place, count, invalidate, serve_put_off};
@@ -447,7 +449,7 @@ impl<M: Manager, A: Allocator> Coherence<M, A> {
         Ok(())
     }
 
-    #[tactic(auto, unfolding(crate::specs::Steps::handled))]
+    #[tactic(auto, unfolding(crate::specs::stated::MessageSteps::handled))]
     /// A message that comes from another node [1, 17]. One that fits no rule is counted, and changes
     /// nothing else.
     ///

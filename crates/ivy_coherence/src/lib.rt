@@ -1,5 +1,4 @@
-//! Faults and requests at one node: what an access of its program comes to, and what a message of another
-//! node does, over any manager and any post.
+//! The coherence protocol at one node: page faults, messages at an entry, deferred requests.
 //!
 //! `serving` has the messages at an entry where no word waits, `handle` those at any entry, `need` the accesses, and
 //! `rest` the words that wait along with one. What an event posts is posted together or not at all. A bracket such as

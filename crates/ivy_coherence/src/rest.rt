@@ -5,9 +5,9 @@ ghost use Rattle.ivy_coherence.specs.Takes.{given, given_there};
 ghost use Rattle.ivy_model.specs.declared.Row.TheVariants.{Loads};
 ghost use Rattle.byteorder.specs.Endian.{big_number};
 ghost use Rattle.ivy_model.specs.Rows.{numbers_in};
-ghost use Rattle.ivy_pagetable.specs.Rows.{out_in};
-ghost use Rattle.ivy_model.specs.Serves.{overwrite};
-ghost use Rattle.ivy_coherence.specs.Several.{all_carried, first_out, later_outs};
+ghost use Rattle.ivy_pagetable.specs.WordRows.{out_in};
+ghost use Rattle.ivy_model.specs.stated.Serves.{overwrite};
+ghost use Rattle.ivy_coherence.specs.stated.Several.{all_carried, first_out, later_outs};
 ghost use Rattle.ivy_coherence.specs.Rests.{first_word, row_words, outs_of};
 
 use byteorder::{BigEndian, ByteOrder};

@@ -1,13 +1,14 @@
 //! Messages that are served at an idle entry, one after another, and posted together.
 ghost use Rattle.std.specs.Prelude.{◌≡◌, ◌+◌, ◌<◌, ◌≤◌, ◌++◌, ℕ, [], ◌∷◌, true, false, length, map, All, OnOk, OnErr, IfOk, IfErr};
 ghost use Rattle.ivy_wire.specs.Lent.{owned_parcel};
-ghost use Rattle.ivy_wire.specs.Spelling.{FitsParcel};
-ghost use Rattle.ivy_model.specs.Limits.{most_nodes};
-ghost use Rattle.ivy_wire.specs.Posts.{parcel_to, HasPosted};
-ghost use Rattle.ivy_pagetable.specs.NodeSets.{nodes_of};
+ghost use Rattle.ivy_wire.specs.stated.Spelling.{FitsParcel};
+ghost use Rattle.ivy_model.specs.stated.Limits.{most_nodes};
+ghost use Rattle.ivy_wire.specs.stated.Posts.{parcel_to};
+ghost use Rattle.ivy_wire.specs.Posts.{HasPosted};
+ghost use Rattle.ivy_pagetable.specs.stated.NodeSets.{nodes_of};
 ghost use Rattle.ivy_pagetable.specs.Manager.{brought_back};
-ghost use Rattle.ivy_coherence.specs.Serving.{serving, put_off_served, counted, is_write, served_by_owner, served_by_other, served, all_served, invalidations};
-ghost use Rattle.ivy_coherence.specs.Limits.{most_posted};
+ghost use Rattle.ivy_coherence.specs.stated.Serving.{serving, put_off_served, counted, is_write, served_by_owner, served_by_other, served, all_served, invalidations};
+ghost use Rattle.ivy_coherence.specs.EventLimits.{most_posted};
 ghost use Rattle.ivy_coherence.specs.Served.{HasServed};
 
 use arrayvec::ArrayVec;

@@ -1,15 +1,15 @@
 -- What a command has printed where it was carried out, and with which exit status a command ends.
 use Rattle.std.specs.Prelude.{◌≡◌, ℕ, Bool, List, length, map, Option, Result, Ok, Err, if◌then◌else◌}
 use Rattle.std.specs.Io.KnownBytes.{Appends}
-use Rattle.ivy_arguments.specs.declared.Request.{Request}
-use Rattle.ivy_arguments.specs.declared.Request.TheVariants as request
+use Rattle.ivy_arguments.specs.declared.IvyCommand.{IvyCommand}
+use Rattle.ivy_arguments.specs.declared.IvyCommand.TheVariants as request
 use Rattle.ivy_model.specs.declared.Config.{Config}
 use Rattle.ivy_model.specs.declared.Fault.{Fault}
 use Rattle.ivy_model.specs.declared.Fault.TheVariants.{BadConfig, ProgramFault}
-use Rattle.ivy_program.specs.Programs.{Program}
-use Rattle.ivy_program.specs.Texts.{SpellsText}
+use Rattle.ivy_program.specs.stated.Programs.{Program}
+use Rattle.ivy_program.specs.texts.Texts.{SpellsText}
 use Rattle.ivy_session.specs.Faults.{IsSessionFault}
-use Rattle.ivy_session.specs.Reports.{NodeReport, IsReport}
+use Rattle.ivy_seating.specs.Reports.{NodeReport, IsReport}
 use Rattle.ivy_simulation.specs.Judged.{PrintsVerdict}
 use Rattle.ivy_simulation.specs.Nodes.{outputs_text}
 use Rattle.ivy_simulation.specs.Played.{PrintsDrawn, PrintsSchedule, config_of}
@@ -32,7 +32,7 @@ abbrev pub SomeSpelled : (List Program → Type 0) → Type 0
 SomeSpelled P = (programs : List Program) × AreSpelled programs × P programs
 
 -- the request was carried out with this status
-abbrev pub IsCarriedOut : Request → ℕ → Option (List ℕ) → Option (List ℕ) → Type 0
+abbrev pub IsCarriedOut : IvyCommand → ℕ → Option (List ℕ) → Option (List ℕ) → Type 0
 IsCarriedOut (request.Run file turns capacity pulse settings) status old new = (status ≡ 0)
     × SomeSpelled (λ ps. PrintsSession (config_of settings (length ps)) ps old new)
 IsCarriedOut (request.Step file schedule settings) status old new = (status ≡ 0)
@@ -46,7 +46,7 @@ IsCarriedOut (request.Check order) status old new =
 
 -- some request was
 abbrev pub IsRequestDone : ℕ → Option (List ℕ) → Option (List ℕ) → Type 0
-IsRequestDone status old new = (request : Request) × IsCarriedOut request status old new
+IsRequestDone status old new = (request : IvyCommand) × IsCarriedOut request status old new
 
 -- the exit status of a refused call: 2 where the configuration or a program is at fault, else 1
 abbrev pub fault_status : Fault → ℕ

@@ -5,12 +5,11 @@ ghost use Rattle.ivy_commands.specs.Commands.{final_status, AreSpelled, IsCarrie
 
 use crate::failure::Failure;
 use crate::print::OutputLines;
-use ivy_arguments::Request;
-use ivy_arguments::ivy_texts::Settings;
-use ivy_files::Texts;
+use ivy_arguments::IvyCommand;
 use ivy_program::{Program, parse};
 use ivy_session::{Keep, Limits, OpenGate, Session};
 use ivy_simulation::{check, sim, step};
+use ivy_texts::{Settings, Texts};
 use std::alloc::Global;
 use std::io::{self, Write};
 use std::sync::Wait;
@@ -68,14 +67,14 @@ fn run<'a, R: Threads + Wait + Sync, W: Write>(
 fn carry_out<'a, R: Threads + Wait + Sync, T: Texts, W: Write>(
     rt: &R,
     alloc: Global,
-    request: Request<'a>,
+    request: IvyCommand<'a>,
     files: &T,
     out: &mut W,
 ) -> Result<u8, Failure<'a>>
     ensures { MatchResult result (λ status. IsCarriedOut request.entry status (W.contents out.old) (W.contents out.new)) (λ _. Unit {0}) }
 {
     match request {
-        Request::Run {
+        IvyCommand::Run {
             file,
             turns,
             capacity,
@@ -91,7 +90,7 @@ fn carry_out<'a, R: Threads + Wait + Sync, T: Texts, W: Write>(
             run(rt, alloc, programs, limits, settings, out)?;
             Ok(0)
         }
-        Request::Step {
+        IvyCommand::Step {
             file,
             schedule,
             settings,
@@ -101,7 +100,7 @@ fn carry_out<'a, R: Threads + Wait + Sync, T: Texts, W: Write>(
             step(alloc, programs, schedule.as_str(), settings, out)?;
             Ok(0)
         }
-        Request::Sim {
+        IvyCommand::Sim {
             file,
             seed,
             moves,
@@ -111,7 +110,7 @@ fn carry_out<'a, R: Threads + Wait + Sync, T: Texts, W: Write>(
             sim(alloc, programs, seed, moves, settings, out)?;
             Ok(0)
         }
-        Request::Check { order } => {
+        IvyCommand::Check { order } => {
             let text = text_of(files, order)?;
             let is_legal = check(alloc, text.as_str(), out)?;
             Ok(if is_legal { 0 } else { NOT_LEGAL })
@@ -129,7 +128,7 @@ fn obey<'a, R: Threads + Wait + Sync, T: Texts, W: Write>(
 ) -> Result<u8, Failure<'a>>
     ensures { MatchResult result (λ status. IsRequestDone status (W.contents out.old) (W.contents out.new)) (λ _. Unit {0}) }
 {
-    let request = Request::read(alloc, words)?;
+    let request = IvyCommand::read(alloc, words)?;
     carry_out(rt, alloc, request, files, out)
 }
 

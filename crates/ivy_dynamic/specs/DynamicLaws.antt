@@ -5,7 +5,7 @@ use Rattle.std.proofs.lemmas.List.{set-get_or, length-set, get_or-replicate, len
 use Rattle.std.proofs.lemmas.Bool.Decides.{eqb_tells}
 use Rattle.ivy_model.specs.declared.Config.{Config}
 use Rattle.ivy_pagetable.specs.Manager.{Laws, KeepsElsewhere, IsRouted, Change, Forward, Given, Replied, Invalidated, all_changed, brought_back}
-use Rattle.ivy_dynamic.specs.Dynamic.{Hints, first_hints, hinted, hint_of, dynamic_ops}
+use Rattle.ivy_dynamic.specs.stated.Dynamic.{Hints, first_hints, hinted, hint_of, dynamic_ops}
 
 -- a change at page p
 keeps : (s : Hints) (p o : ℕ) → KeepsElsewhere dynamic_ops s p (hinted s p o)

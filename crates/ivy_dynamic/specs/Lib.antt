@@ -1,2 +1,2 @@
-pub mod Dynamic
+pub mod stated
 pub mod DynamicLaws

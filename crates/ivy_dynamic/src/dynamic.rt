@@ -1,5 +1,5 @@
 ghost use Rattle.std.specs.Prelude.{◌≡◌, IfOk, IsOkUnless};
-ghost use Rattle.ivy_dynamic.specs.Dynamic.{first_hints, hinted};
+ghost use Rattle.ivy_dynamic.specs.stated.Dynamic.{first_hints, hinted};
 
 use ivy_model::{Config, Fault};
 use ivy_pagetable::Manager;
@@ -18,7 +18,7 @@ pub struct DynamicManager<A: Allocator> {
 }
 
 impl<A: Allocator> Model for DynamicManager<A> {
-    ghost use Rattle.ivy_dynamic.specs.Dynamic.{Hints};
+    ghost use Rattle.ivy_dynamic.specs.stated.Dynamic.{Hints};
 
     ghost Value = { Hints };
 
@@ -49,7 +49,7 @@ impl<A: Allocator> DynamicManager<A> {
 }
 
 impl<A: Allocator> Manager for DynamicManager<A> {
-    ghost use Rattle.ivy_dynamic.specs.Dynamic.{dynamic_ops};
+    ghost use Rattle.ivy_dynamic.specs.stated.Dynamic.{dynamic_ops};
     ghost use Rattle.ivy_dynamic.specs.DynamicLaws.{dynamic_laws};
 
     ghost ops = { dynamic_ops };

@@ -6,11 +6,11 @@ use Rattle.ivy_model.specs.declared.Record.{Record}
 use Rattle.ivy_model.specs.declared.Row.{Row}
 use Rattle.ivy_model.specs.Rows.{calls_of, numbers_in, row}
 use Rattle.ivy_model.proofs.Rows.{length-numbers_in, length-row}
-use Rattle.ivy_wire.specs.Data.{Frame}
-use Rattle.ivy_moves.specs.ivy_link.declared.Verdict.{Verdict}
-use Rattle.ivy_moves.specs.ivy_link.declared.Verdict.TheVariants as verdict
+use Rattle.ivy_wire.specs.stated.Data.{Frame}
+use Rattle.ivy_link.specs.declared.Verdict.{Verdict}
+use Rattle.ivy_link.specs.declared.Verdict.TheVariants as verdict
 use Rattle.ivy_moves.specs.Marks.{Mark, Turn, Delivery, Pulse}
-use Rattle.ivy_moves.specs.Nodes.{pulsing}
+use Rattle.ivy_moves.specs.stated.Nodes.{pulsing}
 use Rattle.ivy_moves.specs.Parts.{pulse_marks}
 use Rattle.ivy_site.specs.Calls.{AreAnswered, AreTaken, BeginsRow}
 use Rattle.ivy_site.specs.SiteView.{SiteView, after_pulse_to}

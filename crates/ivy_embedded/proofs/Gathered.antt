@@ -3,8 +3,8 @@ use Rattle.std.proofs.Common.{◌≡◌, ◌≢◌, inl, inr, ℕ, ◌+◌, ◌<
 use Rattle.std.specs.Ordering.{nat_cmp}
 use Rattle.std.specs.FinSet as set
 use Rattle.std.proofs.lemmas.Bool.{cases_eq, eq-eqb, ne_eqb}
-use Rattle.ivy_model.specs.Limits.{most_nodes}
-use Rattle.ivy_pagetable.specs.NodeSets.{Nodes, bits_of, nodes_with}
+use Rattle.ivy_model.specs.stated.Limits.{most_nodes}
+use Rattle.ivy_pagetable.specs.stated.NodeSets.{Nodes, bits_of, nodes_with}
 use Rattle.ivy_pagetable.proofs.NodeSets.{tied}
 use Rattle.ivy_pagetable.proofs.Bits.{with_bits_of}
 use Rattle.ivy_site.specs.SiteView.{SiteView}

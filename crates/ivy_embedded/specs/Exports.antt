@@ -11,18 +11,17 @@ use Rattle.ivy_model.specs.declared.Kind.TheVariants.{Fixed, Dynamic}
 use Rattle.ivy_model.specs.declared.Reply.{Reply}
 use Rattle.ivy_model.specs.declared.Reply.TheVariants.{Value, Done, Refused}
 use Rattle.ivy_model.specs.declared.Row.{Row}
-use Rattle.ivy_model.specs.Numbers.{fault_number}
+use Rattle.ivy_model.specs.stated.Numbers.{fault_number}
 use Rattle.ivy_model.specs.Rows.{calls_of, numbers_in, row}
 use Rattle.ivy_model.specs.Wants.{RanOut}
 use Rattle.ivy_wire.specs.Destinations.{dest_of}
-use Rattle.ivy_wire.specs.DecodeErrors.{checked}
-use Rattle.ivy_moves.specs.ivy_link.declared.Verdict.{Verdict}
-use Rattle.ivy_moves.specs.ivy_link.declared.Verdict.TheVariants as verdict
-use Rattle.ivy_moves.specs.Nodes.{pulsing}
-use Rattle.ivy_program.specs.Owned.{IsFree}
-use Rattle.ivy_program.specs.Steps.{Asks, step_of}
-use Rattle.ivy_site.specs.ivy_host.Hosts.{number_of}
-use Rattle.ivy_site.specs.Calls.{AreAnswered, AreTaken, BeginsRow}
+use Rattle.ivy_wire.specs.stated.DecodeErrors.{checked}
+use Rattle.ivy_link.specs.declared.Verdict.{Verdict}
+use Rattle.ivy_link.specs.declared.Verdict.TheVariants as verdict
+use Rattle.ivy_moves.specs.stated.Nodes.{pulsing}
+use Rattle.ivy_program.specs.OwnCode.{IsFree}
+use Rattle.ivy_host.specs.stated.Hosts.{number_of}
+use Rattle.ivy_site.specs.Calls.{AreAnswered, AreTaken, BeginsRow, IsCallOf}
 use Rattle.ivy_site.specs.Handed.{site_handed}
 use Rattle.ivy_site.specs.SiteView.{SiteView, after_pulse_to}
 use Rattle.ivy_site.specs.Sites.{AfterDelivery, SiteTurns}
@@ -59,11 +58,6 @@ IsManager number Dynamic = number ≡ DYNAMIC
 abbrev pub IsConfigOf : ℕ → ℕ → ℕ → ℕ → Config → Type 0
 IsConfigOf nodes pages page_size manager c = (c.nodes ≡ nodes) × (c.pages ≡ pages)
     × (c.page_size ≡ page_size) × IsManager manager c.manager
-
--- the call that a turn is about: the one in progress, or the one that begins
-abbrev pub IsCallOf : SiteView → Call → Type 0
-IsCallOf s call = MatchOption s.node.core.memory.asked (step_of s.node.core.process ≡ Asks call)
-    (λ asked. asked ≡ call)
 
 -- a turn, after which the reply to this call is recorded, once
 pub record Replies (call : Call) (reply : Reply) (old new : SiteView) : Type 0 where

@@ -3,4 +3,3 @@ pub mod Exports
 pub mod Peers
 pub mod Taking
 pub mod Turns
-pub use Rattle.ivy_site.specs as ivy_site

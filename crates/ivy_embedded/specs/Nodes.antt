@@ -4,7 +4,7 @@ use Rattle.ivy_model.specs.declared.Config.{Config}
 use Rattle.ivy_site.specs.SiteView.{SiteView}
 use Rattle.ivy_site.specs.Sites.{first_keeping}
 use Rattle.ivy_moves.specs.declared.Keep.TheVariants.{Nothing}
-use Rattle.ivy_program.specs.Programs.{Called}
+use Rattle.ivy_program.specs.stated.Programs.{Called}
 
 pub record Embedded : Type 0 where
   pub site : SiteView

@@ -1,8 +1,8 @@
 -- For which other nodes a pulse has something to say.
 use Rattle.std.specs.Prelude.{◌≡◌, ◌≢◌, ◌↔◌, ℕ, ◌<◌, true, []}
 use Rattle.std.specs.FinSet as set
-use Rattle.ivy_moves.specs.ivy_link.Linked.{peer_at}
-use Rattle.ivy_pagetable.specs.NodeSets.{Nodes, nodes_with}
+use Rattle.ivy_link.specs.stated.Linked.{peer_at}
+use Rattle.ivy_pagetable.specs.stated.NodeSets.{Nodes, nodes_with}
 use Rattle.ivy_site.specs.SiteView.{SiteView}
 use Rattle.ivy_embedded.specs.Nodes.{Embedded}
 use Rattle.ivy_embedded.specs.declared.status.TheConstants.{DONE}

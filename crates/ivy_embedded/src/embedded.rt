@@ -1,24 +1,24 @@
 //! A node with own code, and the string that its owner looked at and has not taken.
 ghost use Rattle.std.specs.Prelude.{◌≡◌, ◌≢◌, ◌↔◌, ◌≤◌, ◌⊎◌, ◌-◌, ◌*◌, ◌∷◌, [], ◌<◌, None, Some, Ok, Err, take, length, slice_get, IfOk, IfErr, IsTrue, IsFalse, MatchOption, MatchResult, IsOkUnless};
-ghost use Rattle.ivy_model.specs.Config.{IsConfig};
-ghost use Rattle.ivy_model.specs.Legal.{HasWidth};
+ghost use Rattle.ivy_model.specs.stated.Config.{IsConfig};
+ghost use Rattle.ivy_model.specs.stated.Legal.{HasWidth};
 ghost use Rattle.ivy_model.specs.Rows.{calls_of, numbers_in, row};
 ghost use Rattle.ivy_model.specs.declared.Row.TheVariants.{Loads, Stores};
 ghost use Rattle.ivy_model.specs.Wants.{RanOut};
-ghost use Rattle.ivy_moves.specs.Nodes.{pulsing};
-ghost use Rattle.ivy_program.specs.Owned.{IsFree};
-ghost use Rattle.ivy_site.specs.ivy_host.ivy_memory.AtOnce.{IsStored, row_at_hand};
+ghost use Rattle.ivy_moves.specs.stated.Nodes.{pulsing};
+ghost use Rattle.ivy_program.specs.OwnCode.{IsFree};
+ghost use Rattle.ivy_memory.specs.AtOnce.{IsStored, row_at_hand};
 ghost use Rattle.ivy_site.specs.Calls.{AreAnswered, AreTaken, BeginsRow, MayCallInRow, MayCallTogether, row_together};
 ghost use Rattle.ivy_site.specs.SiteView.{after_pulse_to};
 ghost use Rattle.ivy_site.specs.Handed.{site_handed};
 ghost use Rattle.ivy_site.specs.Sites.{AfterDelivery, IsSpentTurn};
-ghost use Rattle.ivy_wire.specs.DecodeErrors.{checked};
+ghost use Rattle.ivy_wire.specs.stated.DecodeErrors.{checked};
 ghost use Rattle.ivy_embedded.specs.Taking.{IsTaken};
 ghost use Rattle.ivy_embedded.specs.Nodes.{first_embedded, waiting_in};
 ghost use Rattle.ivy_embedded.specs.Exports.{AfterCall, AfterBegin, ChangesWaiting, OfSite};
 ghost use Rattle.ivy_embedded.specs.Turns.{CountsTurns};
 ghost use Rattle.ivy_embedded.specs.Peers.{AreThose, KeepsFor, OwesTo};
-ghost use Rattle.ivy_pagetable.specs.NodeSets.{nodes_with};
+ghost use Rattle.ivy_pagetable.specs.stated.NodeSets.{nodes_with};
 
 use crate::peers::{Kept, Owed, peers_of};
 use ivy_model::{Call, Config, Fault, Reply, Row};
@@ -40,8 +40,8 @@ pub struct Embedded {
 impl Model for Embedded {
     ghost use Rattle.ivy_embedded.specs.Nodes as nodes;
     ghost use Rattle.std.specs.Coded.{codes};
-    ghost use Rattle.ivy_pagetable.specs.NodeSets.{nodes_code};
-    ghost use Rattle.ivy_site.specs.ivy_alloc.Heap.{heap_state_code};
+    ghost use Rattle.ivy_pagetable.specs.stated.NodeSets.{nodes_code};
+    ghost use Rattle.ivy_alloc.specs.Heap.{heap_state_code};
     ghost use Rattle.ivy_embedded.specs.Turns.{CountsTurns};
 
     ghost Value = { nodes.Embedded };
@@ -54,7 +54,7 @@ impl Model for Embedded {
 }
 
 /// What came of a look at the first string that waits.
-pub enum Taken {
+pub enum TakenString {
     /// It was written out: its length, and the node that it is for.
     Given(usize, u8),
     /// It is so long, which is longer than the buffer.
@@ -65,24 +65,19 @@ pub enum Taken {
 
 /// One turn of a node that has a call [1, 17]: its reply, or none yet. Where it is listed, it is
 /// counted.
-#[tactic(auto, using(crate::proofs::Recording::none_recorded, crate::proofs::Recording::reply_recorded, crate::proofs::Recording::reply_there))]
+#[tactic(auto, using(crate::proofs::Recording::turned, crate::proofs::Counting::counted_turn))]
 fn turn(site: &mut Site<Global>, turns: &mut u64) -> Result<Option<Reply>, Fault>
     requires counts { CountsTurns turns.old site.old.events }
     ensures counted { CountsTurns turns.new site.new.events }
     ensures done { MatchResult result (λ progress. AfterCall progress site.old site.new) (λ _. site.new ≡ site.old) }
     ensures want { IfErr result RanOut }
 {
-    let before = site.records();
-    match site.program_turn()? {
-        Turn::Idle | Turn::Ended => return Ok(None),
-        Turn::Moved => *turns = turns.wrapping_add(1),
-    }
-    if site.records() == before {
-        return Ok(None);
-    }
-    match site.last_record() {
-        Some(record) => Ok(Some(record.reply)),
-        None => Ok(None),
+    match site.poll()? {
+        (Turn::Idle | Turn::Ended, _) => Ok(None),
+        (Turn::Moved, reply) => {
+            *turns = turns.wrapping_add(1);
+            Ok(reply)
+        }
     }
 }
 
@@ -318,19 +313,19 @@ impl Embedded {
 
     /// The first string that waits is written to the head of the buffer, where it fits, and waits
     /// no more.
-    pub fn take_into(&mut self, buffer: &mut [u8]) -> Taken
+    pub fn take_into(&mut self, buffer: &mut [u8]) -> TakenString
         ensures { IsTaken result buffer.new self.old self.new }
     {
         self.look();
         let Some(string) = &self.first else {
-            return Taken::Nothing;
+            return TakenString::Nothing;
         };
         let len = string.bytes().len();
         if !write_out(string.bytes(), buffer) {
-            return Taken::TooLong(len);
+            return TakenString::TooLong(len);
         }
         let dest = destination(string.bytes()).unwrap_or(0);
         self.first = None;
-        Taken::Given(len, dest)
+        TakenString::Given(len, dest)
     }
 }

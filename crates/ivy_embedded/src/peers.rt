@@ -1,6 +1,6 @@
 //! For which other nodes a pulse has something to say.
 ghost use Rattle.std.specs.Prelude.{◌≡◌, ◌≤◌};
-ghost use Rattle.ivy_model.specs.Limits.{most_nodes};
+ghost use Rattle.ivy_model.specs.stated.Limits.{most_nodes};
 ghost use Rattle.ivy_embedded.specs.Peers.{AreThose};
 
 use ivy_pagetable::NodeSet;

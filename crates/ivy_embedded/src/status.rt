@@ -1,7 +1,7 @@
 //! The numbers that C knows statuses, calls and verdicts by.
 ghost use Rattle.std.specs.Prelude.{◌≡◌, ◌≢◌, ◌+◌, IfSome, MatchOption, MatchResult};
-ghost use Rattle.ivy_model.specs.Config.{IsConfig};
-ghost use Rattle.ivy_model.specs.Legal.{HasWidth, IsWidth};
+ghost use Rattle.ivy_model.specs.stated.Config.{IsConfig};
+ghost use Rattle.ivy_model.specs.stated.Legal.{HasWidth, IsWidth};
 ghost use Rattle.ivy_embedded.specs.Exports.{IsConfigOf, IsRequest, IsStatus, Tells, TellsProgress, verdict_number};
 
 use ivy_model::{Call, Config, Fault, Kind, Reply};

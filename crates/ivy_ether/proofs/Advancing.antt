@@ -12,11 +12,11 @@ use Rattle.crossbeam_queue.proofs.Lists.{at_set, set_here, set_else}
 use Rattle.ivy_model.specs.declared.Call.{Call}
 use Rattle.ivy_model.specs.declared.Config.{Config}
 use Rattle.ivy_moves.specs.Carrying.{node_changed}
-use Rattle.ivy_moves.specs.Cores.{Core}
+use Rattle.ivy_moves.specs.stated.Cores.{Core}
 use Rattle.ivy_moves.specs.Marks.{Mark}
-use Rattle.ivy_moves.specs.Nodes.{Effect}
+use Rattle.ivy_moves.specs.stated.Nodes.{Effect}
 use Rattle.ivy_moves.specs.Parts.{AllCanBeMade}
-use Rattle.ivy_moves.specs.Worlds.{World}
+use Rattle.ivy_moves.specs.stated.Worlds.{World}
 use Rattle.ivy_moves.proofs.Splitting.{can-more}
 use Rattle.ivy_ether.specs.Data.{Item}
 use Rattle.ivy_ether.specs.declared.item.Item.TheVariants.{Seat, Frame, Report}
@@ -26,7 +26,7 @@ use Rattle.ivy_ether.specs.Rule.{total, one_if, is_number, sits, Reported}
 use Rattle.ivy_ether.specs.Rule.{IsStart, AreRunParts, IsNode, FitsRun, FitsItem, RuleHolds}
 use Rattle.ivy_ether.specs.Rule.{RuleAllows}
 use Rattle.ivy_ether.proofs.Further.{lists_go_on}
-use Rattle.ivy_ether.proofs.Totals.{total_set, total_one, total_two, total_in, in_list}
+use Rattle.ivy_ether.proofs.ListTotals.{total_set, total_one, total_two, total_in, in_list}
 
 -- what holds of each view after one changed
 pub fits_set : (F : ℕ → View → Type 0) (views : List View) (p : ℕ) (w : View)

@@ -3,7 +3,7 @@ use Rattle.std.proofs.Common.{◌≡◌, List, [], ◌∷◌, ◌++◌, subst, s
 use Rattle.std.proofs.lemmas.List.Elements.{All-push}
 use Rattle.atomic_table.specs.Seated.{TableId}
 use Rattle.ivy_ether.specs.Held.{Held}
-use Rattle.ivy_ether.specs.Words.{IsNewcomer}
+use Rattle.ivy_ether.specs.EtherViews.{IsNewcomer}
 
 pub newcomers_push : (t : TableId) (old new : List Held) (p : Held) → new ≡ old ++ p ∷ []
     → All (IsNewcomer t) old → IsNewcomer t p → All (IsNewcomer t) new

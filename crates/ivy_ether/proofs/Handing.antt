@@ -13,10 +13,10 @@ use Rattle.crossbeam_queue.proofs.Lists.{set_here, set_else, set_again}
 use Rattle.ivy_model.specs.declared.Call.{Call}
 use Rattle.ivy_model.specs.declared.Config.{Config}
 use Rattle.ivy_moves.specs.Carrying.{node_changed, IsChangedBy}
-use Rattle.ivy_moves.specs.Cores.{Core}
+use Rattle.ivy_moves.specs.stated.Cores.{Core}
 use Rattle.ivy_moves.specs.Marks.{Mark}
-use Rattle.ivy_moves.specs.Nodes.{Node}
-use Rattle.ivy_moves.specs.Worlds.{World}
+use Rattle.ivy_moves.specs.stated.Nodes.{Node}
+use Rattle.ivy_moves.specs.stated.Worlds.{World}
 use Rattle.ivy_moves.proofs.Carried.{carry_over}
 use Rattle.ivy_moves.proofs.Places.{set-there, set-elsewhere}
 use Rattle.ivy_ether.specs.Data.{Item}
@@ -25,7 +25,7 @@ use Rattle.ivy_ether.specs.Rule.{total, one_if, is_number, sits, Reported, IsHan
 use Rattle.ivy_ether.specs.Rule.{AreRunParts, IsNode, FitsRun, RuleKept}
 use Rattle.ivy_ether.proofs.Advancing.{fits_set, reported_set, item_stays, Goes, advanced}
 use Rattle.ivy_ether.proofs.Keeps.{fits_newcomer, forks}
-use Rattle.ivy_ether.proofs.Totals.{total_set, total-append, in_list}
+use Rattle.ivy_ether.proofs.ListTotals.{total_set, total-append, in_list}
 use Rattle.std.proofs.Common.{length-set, Option, None}
 use Rattle.std.specs.Prelude.{IsSome}
 

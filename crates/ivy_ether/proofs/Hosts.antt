@@ -4,15 +4,16 @@ use Rattle.std.proofs.Common.{refl, sym, ap, subst, ◌∙◌, arith, append_ass
 use Rattle.std.proofs.lemmas.Option.{none-some, same_Some}
 use Rattle.ivy_model.specs.declared.Call.{Call}
 use Rattle.ivy_model.specs.declared.Config.{Config}
-use Rattle.ivy_program.specs.Programs.{Program, Written, Called, handed}
+use Rattle.ivy_program.specs.stated.Programs.{Program, Written, Called}
+use Rattle.ivy_program.specs.Programs.{handed}
 use Rattle.ivy_moves.specs.Marks.{Mark}
 use Rattle.ivy_moves.specs.Parts.{AreParts}
-use Rattle.ivy_moves.specs.Worlds.{World}
+use Rattle.ivy_moves.specs.stated.Worlds.{World}
 use Rattle.ivy_moves.proofs.Carried.{changed-one}
 use Rattle.ivy_host.specs.Handing.{handing}
-use Rattle.ivy_host.specs.Hosts.{Host, host_rules}
-use Rattle.ivy_host.specs.Managers.{Managed, managed_ops}
-use Rattle.ivy_host.proofs.Handed.{unseen, handing_none, opening_handed}
+use Rattle.ivy_host.specs.stated.Hosts.{Host, host_rules}
+use Rattle.ivy_host.specs.stated.Managers.{Managed, managed_ops}
+use Rattle.ivy_host.proofs.HandedHosts.{unseen, handing_none, opening_handed}
 use Rattle.ivy_host.proofs.WellBehaved.{first_length}
 use Rattle.ivy_ether.specs.Programs.{beginning, all_handed_from, all_handed}
 use Rattle.ivy_ether.specs.Rule.{IsHanding, IsStart, AreRunParts, StartsWith}

@@ -11,10 +11,10 @@ use Rattle.crossbeam_queue.specs.Fifo.{Pushes, Pops, Forks, Learns}
 use Rattle.crossbeam_queue.proofs.Lists.{set_here, set_again, at_snoc, at_longer}
 use Rattle.ivy_model.specs.declared.Call.{Call}
 use Rattle.ivy_model.specs.declared.Config.{Config}
-use Rattle.ivy_moves.specs.Cores.{Core}
+use Rattle.ivy_moves.specs.stated.Cores.{Core}
 use Rattle.ivy_moves.specs.Marks.{Mark}
 use Rattle.ivy_moves.specs.Listed.{Listed}
-use Rattle.ivy_moves.specs.Worlds.{World}
+use Rattle.ivy_moves.specs.stated.Worlds.{World}
 use Rattle.ivy_moves.proofs.Splitting.{none-in}
 use Rattle.ivy_ether.specs.Data.{Item}
 use Rattle.ivy_ether.specs.declared.item.Item.TheVariants.{Seat, Frame, Report}
@@ -28,7 +28,7 @@ use Rattle.ivy_ether.specs.Rule.{IsStart, IsNode, FitsRun, FitsItem, RuleHolds, 
 use Rattle.ivy_ether.specs.Rule.{ListSends, RuleRuns, RuleTold}
 use Rattle.ivy_ether.proofs.Advancing.{fits_set, reported_set, contains_next, contains_first}
 use Rattle.ivy_ether.proofs.Advancing.{item_stays, same_start, list_over, advance}
-use Rattle.ivy_ether.proofs.Totals.{total_set, total-append, in_list}
+use Rattle.ivy_ether.proofs.ListTotals.{total_set, total-append, in_list}
 
 off : false ≡ true → ⊥
 off e = true≢false (sym e)

@@ -1,8 +1,7 @@
-pub mod Totals
+pub mod ListTotals
 pub mod Further
 pub mod Advancing
 pub mod Keeps
 pub mod Handing
 pub mod Fresh
 pub mod Hosts
-pub use Rattle.ivy_host.proofs as of_ivy_host

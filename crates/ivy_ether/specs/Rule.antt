@@ -5,10 +5,10 @@ use lib.ListN.{get_elem?}
 use Rattle.ivy_model.specs.declared.Call.{Call}
 use Rattle.ivy_model.specs.declared.Config.{Config}
 use Rattle.ivy_moves.specs.Carrying.{IsUnseen, IsChangedBy}
-use Rattle.ivy_moves.specs.Cores.{Core}
+use Rattle.ivy_moves.specs.stated.Cores.{Core}
 use Rattle.ivy_moves.specs.Marks.{Mark}
 use Rattle.ivy_moves.specs.Parts.{AreParts}
-use Rattle.ivy_moves.specs.Worlds.{World}
+use Rattle.ivy_moves.specs.stated.Worlds.{World}
 use Rattle.ivy_ether.specs.Data.{Item}
 use Rattle.ivy_ether.specs.declared.item.Item.TheVariants.{Seat, Frame, Report}
 use Rattle.ivy_ether.specs.Going.{ListGoesOn, Sends}

@@ -2,11 +2,12 @@
 ghost use Rattle.std.specs.Prelude.{◌≡◌, ◌⊎◌, ◌<◌, ℕ, List, Some, None, ◌∷◌, [], false, true, Contains, MatchOption, MatchResult, MatchBool, IfOk, IsOkUnless, IsSome, length, replicate, vec_len};
 ghost use Rattle.crossbeam_queue.specs.Passes.{view};
 ghost use Rattle.ivy_model.specs.Rows.{calls_of, numbers_in, row};
-ghost use Rattle.ivy_program.specs.Programs.{Called, one_by_one};
+ghost use Rattle.ivy_program.specs.stated.Programs.{Called};
+ghost use Rattle.ivy_program.specs.Programs.{one_by_one};
 ghost use Rattle.ivy_ether.specs.Programs.{MayGive, SendsFrom, Runs, Told};
 ghost use Rattle.ivy_ether.specs.Rule.{times};
 ghost use Rattle.ivy_ether.specs.Views.{with_put, with_refused, with_taken, with_empty, with_report, with_issued, with_seat, with_handed, with_all_handed, with_given, with_closed, with_told};
-ghost use Rattle.ivy_ether.specs.Words.{MatchPut, AreFresh, room_of};
+ghost use Rattle.ivy_ether.specs.EtherViews.{MatchPut, AreFresh, room_of};
 
 use crate::item::{Item, View, Wired};
 use crate::law::{Law, Setup};

@@ -10,7 +10,7 @@ use std::marker::{Brand, PhantomData};
 pub trait Setup {
     ghost use Rattle.std.specs.Prelude.{List};
     ghost use Rattle.ivy_model.specs.declared.Config.{Config};
-    ghost use Rattle.ivy_program.specs.Programs.{Program};
+    ghost use Rattle.ivy_program.specs.stated.Programs.{Program};
 
     ghost config: { Config };
 

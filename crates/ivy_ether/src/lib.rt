@@ -1,4 +1,4 @@
-//! The wire of a session: a queue under a rule, which threads share and nothing else.
+//! The network of a session: one bounded queue, and the passes by which nodes put and take.
 //!
 //! What stands in the queue, and what each pass knows, keep one rule at every moment (`specs/Rule.antt`): the event
 //! lists of all passes are the parts of one run of the session's programs.

@@ -49,7 +49,7 @@ impl<E: Given, A: Allocator> Outcome<Wired<A>, View> for Puts<E> {
 }
 
 impl<E: Given, A: Allocator> Lesson<Wired<A>, View> for Puts<E> {
-    ghost use Rattle.ivy_ether.specs.Words.{AnyItems};
+    ghost use Rattle.ivy_ether.specs.EtherViews.{AnyItems};
 
     ghost fact = { λ v items. AnyItems items };
 }
@@ -65,7 +65,7 @@ impl<E: Given, A: Allocator> Outcome<Wired<A>, View> for Takes<E> {
 }
 
 impl<E: Given, A: Allocator> Lesson<Wired<A>, View> for Takes<E> {
-    ghost use Rattle.ivy_ether.specs.Words.{AnyItems};
+    ghost use Rattle.ivy_ether.specs.EtherViews.{AnyItems};
 
     ghost fact = { λ v items. AnyItems items };
 }
@@ -82,7 +82,7 @@ impl<A: Allocator> Outcome<Wired<A>, View> for Reports {
 }
 
 impl<A: Allocator> Lesson<Wired<A>, View> for Reports {
-    ghost use Rattle.ivy_ether.specs.Words.{AnyItems};
+    ghost use Rattle.ivy_ether.specs.EtherViews.{AnyItems};
 
     ghost fact = { λ v items. AnyItems items };
 }
@@ -99,7 +99,7 @@ impl<A: Allocator> Outcome<Wired<A>, View> for Issues {
 }
 
 impl<A: Allocator> Lesson<Wired<A>, View> for Issues {
-    ghost use Rattle.ivy_ether.specs.Words.{AnyItems};
+    ghost use Rattle.ivy_ether.specs.EtherViews.{AnyItems};
 
     ghost fact = { λ v items. AnyItems items };
 }
@@ -115,7 +115,7 @@ impl<A: Allocator> Outcome<Wired<A>, View> for Sits {
 }
 
 impl<A: Allocator> Lesson<Wired<A>, View> for Sits {
-    ghost use Rattle.ivy_ether.specs.Words.{AnyItems};
+    ghost use Rattle.ivy_ether.specs.EtherViews.{AnyItems};
 
     ghost fact = { λ v items. AnyItems items };
 }
@@ -131,7 +131,7 @@ impl<A: Allocator> Outcome<Wired<A>, View> for Tells {
 }
 
 impl<A: Allocator> Lesson<Wired<A>, View> for Tells {
-    ghost use Rattle.ivy_ether.specs.Words.{AnyItems};
+    ghost use Rattle.ivy_ether.specs.EtherViews.{AnyItems};
 
     ghost fact = { λ v items. AnyItems items };
 }

@@ -1,8 +1,8 @@
 ghost use Rattle.std.specs.Prelude.{◌≡◌, IfOk};
-ghost use Rattle.ivy_model.specs.Config.{IsConfig};
-ghost use Rattle.ivy_pagetable.specs.Words.{IsWord};
+ghost use Rattle.ivy_model.specs.stated.Config.{IsConfig};
+ghost use Rattle.ivy_pagetable.specs.stated.Words.{IsWord};
 ghost use Rattle.ivy_pagetable.specs.declared.word.Word.TheVariants as word;
-ghost use Rattle.ivy_event.specs.Counts.{word_of_count, offset_of_count};
+ghost use Rattle.ivy_event.specs.stated.Counts.{word_of_count, offset_of_count};
 
 use ivy_model::{Config, Fault};
 use ivy_pagetable::Word;

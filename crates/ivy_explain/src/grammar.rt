@@ -1,8 +1,8 @@
 //! What the words of a line may be.
 
 use crate::blame::{Blame, Wanted};
-use crate::nearest::Nearest;
 use crate::words::{Word, Words};
+use ivy_options::Nearest;
 use ivy_program::parse_number;
 
 /// What a word after the first is to be.

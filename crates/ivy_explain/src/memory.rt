@@ -1,6 +1,6 @@
 //! What stood in one memory before a record.
 ghost use Rattle.std.specs.Prelude.{◌↔◌, IsTrue};
-ghost use Rattle.ivy_model.specs.Legal.{IsWidth};
+ghost use Rattle.ivy_model.specs.stated.Legal.{IsWidth};
 
 use ivy_model::{Call, CallKind, Config, Fault, Record, Reply, access_refusal};
 use std::alloc::{AllocError, Global};

@@ -5,7 +5,7 @@ use Rattle.std.proofs.lemmas.List.{set-get_or, length-set, get_or-replicate, len
 use Rattle.std.proofs.lemmas.Bool.Decides.{eqb_tells}
 use Rattle.ivy_model.specs.declared.Config.{Config}
 use Rattle.ivy_pagetable.specs.Manager.{Laws, KeepsElsewhere, Change, Forward, Given, Replied, Invalidated, all_changed, brought_back}
-use Rattle.ivy_fixed.specs.Fixed.{Owners, first_owners, manages, owner_kept, kept_if, hop_of, fixed_ops}
+use Rattle.ivy_fixed.specs.stated.Fixed.{Owners, first_owners, manages, owner_kept, kept_if, hop_of, fixed_ops}
 
 abbrev written : Bool → List ℕ → ℕ → ℕ → List ℕ
 written b xs p o = if b then set xs p o else xs

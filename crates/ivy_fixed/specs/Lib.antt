@@ -1,3 +1,2 @@
-pub mod Fixed
+pub mod stated
 pub mod FixedLaws
-pub use Rattle.ivy_model.specs.Config

@@ -1,6 +1,6 @@
 ghost use Rattle.std.specs.Prelude.{◌≡◌, ◌<◌, IfOk, IsOkUnless};
-ghost use Rattle.ivy_model.specs.Config.{IsConfig};
-ghost use Rattle.ivy_fixed.specs.Fixed.{first_owners, manages, owner_kept};
+ghost use Rattle.ivy_model.specs.stated.Config.{IsConfig};
+ghost use Rattle.ivy_fixed.specs.stated.Fixed.{first_owners, manages, owner_kept};
 
 use ivy_model::{Config, Fault};
 use ivy_pagetable::Manager;
@@ -18,7 +18,7 @@ pub struct FixedManager<A: Allocator> {
 
 impl<A: Allocator> Model for FixedManager<A> {
     ghost use Rattle.std.specs.Prelude.{◌<◌};
-    ghost use Rattle.ivy_fixed.specs.Fixed.{Owners};
+    ghost use Rattle.ivy_fixed.specs.stated.Fixed.{Owners};
 
     ghost Value = { Owners };
 
@@ -58,7 +58,7 @@ impl<A: Allocator> FixedManager<A> {
 }
 
 impl<A: Allocator> Manager for FixedManager<A> {
-    ghost use Rattle.ivy_fixed.specs.Fixed.{fixed_ops};
+    ghost use Rattle.ivy_fixed.specs.stated.Fixed.{fixed_ops};
     ghost use Rattle.ivy_fixed.specs.FixedLaws.{fixed_laws};
 
     ghost ops = { fixed_ops };

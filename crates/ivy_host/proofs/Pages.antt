@@ -2,12 +2,12 @@
 -- posts messages about pages alone.
 use Rattle.std.proofs.Common.{◌≡◌, ℕ, true, sym, ap, subst}
 use Rattle.std.specs.Prelude.{All}
-use Rattle.ivy_wire.specs.Data.{Message}
-use Rattle.ivy_pagetable.specs.Manager.{Ops}
-use Rattle.ivy_moves.specs.Cores.{Outcome}
-use Rattle.ivy_memory.specs.Memories.{MemoryEffect, by_coherence, memory_handled}
-use Rattle.ivy_memory.proofs.Pages.{is_of_pages, IsOfPages, handled-pages, page_handled}
-use Rattle.ivy_host.specs.Hosts.{Host, serving}
+use Rattle.ivy_wire.specs.stated.Data.{Message}
+use Rattle.ivy_pagetable.specs.stated.Manager.{Ops}
+use Rattle.ivy_moves.specs.stated.Cores.{Outcome}
+use Rattle.ivy_memory.specs.stated.Memories.{MemoryEffect, by_coherence, memory_handled}
+use Rattle.ivy_memory.proofs.serving.Pages.{is_of_pages, IsOfPages, handled-pages, page_handled}
+use Rattle.ivy_host.specs.stated.Hosts.{Host, serving}
 
 module _ {S : Type 0} (ops : Ops S) where
   -- a message does to the node what it does to its memory

@@ -2,23 +2,23 @@
 use Rattle.std.proofs.Common.{◌≡◌, ℕ, Bool, true, false, ◌+◌, ◌^◌, List, length, map, Option, Some, None, nat_lt, if◌then◌else◌, refl, sym, ap, ◌∙◌}
 use Rattle.std.proofs.lemmas.Option.{same_Some, none-some}
 use Rattle.ivy_model.specs.declared.Config.{Config}
-use Rattle.ivy_model.specs.Config.{IsConfig}
+use Rattle.ivy_model.specs.stated.Config.{IsConfig}
 use Rattle.ivy_model.specs.declared.Call.{Call}
-use Rattle.ivy_wire.specs.Data.{Parcel, Frame, Message}
-use Rattle.ivy_wire.specs.Spelling.{spelling, Spells}
+use Rattle.ivy_wire.specs.stated.Data.{Parcel, Frame, Message}
+use Rattle.ivy_wire.specs.stated.Spelling.{spelling, Spells}
 use Rattle.ivy_wire.proofs.Frames.{spelled_once}
-use Rattle.ivy_moves.specs.ivy_link.declared.Verdict.{Verdict}
-use Rattle.ivy_moves.specs.ivy_link.declared.Verdict.TheVariants as verdict
-use Rattle.ivy_moves.specs.ivy_link.Linked.{has_numbers, sends}
-use Rattle.ivy_moves.specs.ivy_link.Accepted.{offered, accepted}
-use Rattle.ivy_program.specs.Steps.{Step, Local, Asks, Ends, step_of, at_state, along_of}
-use Rattle.ivy_moves.specs.Cores.{Outcome}
-use Rattle.ivy_moves.specs.Nodes.{Node, Effect, stays, posting, accepting, served_next, received_as, received, delivered_as, delivered}
-use Rattle.ivy_memory.specs.ivy_heap.declared.Answer.{Answer}
-use Rattle.ivy_memory.specs.ivy_heap.declared.Answer.TheVariants.{Given, Awaited, Unserved}
-use Rattle.ivy_memory.specs.Memories.{CallBegun, call_begun, polled}
-use Rattle.ivy_host.specs.Managers.{Managed, managed_ops}
-use Rattle.ivy_host.specs.Hosts.{Host, host_rules, turn_of, serving, turned_at, steps, begins, begins_as, begins_with, quietly, recorded}
+use Rattle.ivy_link.specs.declared.Verdict.{Verdict}
+use Rattle.ivy_link.specs.declared.Verdict.TheVariants as verdict
+use Rattle.ivy_link.specs.stated.Linked.{has_numbers, sends}
+use Rattle.ivy_link.specs.stated.Accepted.{offered, accepted}
+use Rattle.ivy_program.specs.stated.InstructionSteps.{Step, Local, Asks, Ends, step_of, at_state, along_of}
+use Rattle.ivy_moves.specs.stated.Cores.{Outcome}
+use Rattle.ivy_moves.specs.stated.Nodes.{Node, Effect, stays, posting, accepting, served_next, received_as, received, delivered_as, delivered}
+use Rattle.ivy_alloc.specs.declared.CallProgress.{CallProgress}
+use Rattle.ivy_alloc.specs.declared.CallProgress.TheVariants.{Given, Awaited, Unserved}
+use Rattle.ivy_memory.specs.stated.Memories.{CallBegun, call_begun, polled}
+use Rattle.ivy_host.specs.stated.Managers.{Managed, managed_ops}
+use Rattle.ivy_host.specs.stated.Hosts.{Host, host_rules, turn_of, serving, turned_at, steps, begins, begins_as, begins_with, quietly, recorded}
 
 -- what a test guards
 pub guarded : {X : Type 0} (b : Bool) (o : Option X) (x : X) → (if b then o else None) ≡ Some x
@@ -29,7 +29,7 @@ guarded false o x e = absurd (none-some x e)
 -- a turn keeps it
 
 module _ where
-  with-program : (n : Host Managed) (c : Call) (a : CallBegun Managed) (r : Answer)
+  with-program : (n : Host Managed) (c : Call) (a : CallBegun Managed) (r : CallProgress)
       (o : Outcome (Host Managed)) → begins_with n c a r ≡ Some o
       → o.after.process.program ≡ n.process.program
   with-program n c a (Given r) o e =

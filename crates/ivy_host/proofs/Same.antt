@@ -2,21 +2,21 @@
 use Rattle.std.proofs.Common.{◌≡◌, ◌+◌, ◌^◌, Bool, true, false, length, Option, Some, None, nat_lt, refl, subst, if◌then◌else◌}
 use Rattle.std.proofs.lemmas.Option.{same_Some, none-some}
 use Rattle.ivy_model.specs.declared.Call.{Call}
-use Rattle.ivy_pagetable.specs.Manager.{Ops}
-use Rattle.ivy_program.specs.Steps.{Step, Local, Asks, Ends, step_of, at_state, along_of}
-use Rattle.ivy_moves.specs.Cores.{Outcome}
-use Rattle.ivy_memory.specs.ivy_heap.declared.Answer.{Answer}
-use Rattle.ivy_memory.specs.ivy_heap.declared.Answer.TheVariants.{Given, Awaited, Unserved}
-use Rattle.ivy_memory.specs.Memories.{CallBegun, call_begun, polled}
-use Rattle.ivy_host.specs.Hosts.{Host, recorded, quietly, begins, begins_as, begins_with, steps, turned_at, turn_of}
-use Rattle.ivy_memory.proofs.WellBehaved.{SameNode, call-same}
-use Rattle.ivy_memory.proofs.Polling.{polled-same}
+use Rattle.ivy_pagetable.specs.stated.Manager.{Ops}
+use Rattle.ivy_program.specs.stated.InstructionSteps.{Step, Local, Asks, Ends, step_of, at_state, along_of}
+use Rattle.ivy_moves.specs.stated.Cores.{Outcome}
+use Rattle.ivy_alloc.specs.declared.CallProgress.{CallProgress}
+use Rattle.ivy_alloc.specs.declared.CallProgress.TheVariants.{Given, Awaited, Unserved}
+use Rattle.ivy_memory.specs.stated.Memories.{CallBegun, call_begun, polled}
+use Rattle.ivy_host.specs.stated.Hosts.{Host, recorded, quietly, begins, begins_as, begins_with, steps, turned_at, turn_of}
+use Rattle.ivy_memory.proofs.keeping.WellBehaved.{SameNode, call-same}
+use Rattle.ivy_memory.proofs.keeping.Polling.{polled-same}
 
 module _ {S : Type 0} (ops : Ops S) where
   abbrev IsSame : Host S → Outcome (Host S) → Type 0
   IsSame n o = SameNode n.memory.coherence o.after.memory.coherence
 
-  with-same : (n : Host S) (c : Call) (a : CallBegun S) (r : Answer) (o : Outcome (Host S))
+  with-same : (n : Host S) (c : Call) (a : CallBegun S) (r : CallProgress) (o : Outcome (Host S))
       → SameNode n.memory.coherence a.after.coherence → begins_with n c a r ≡ Some o → IsSame n o
   with-same n c a (Given r) o same is =
       subst (IsSame n)

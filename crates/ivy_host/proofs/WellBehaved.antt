@@ -10,30 +10,32 @@ use Rattle.std.proofs.lemmas.Option.{same_Some, none-some}
 use Rattle.ivy_model.specs.declared.Config.{Config}
 use Rattle.ivy_model.specs.declared.Call.{Call}
 use Rattle.ivy_model.specs.declared.Reply.{Reply}
-use Rattle.ivy_model.specs.Config.{IsConfig}
-use Rattle.ivy_model.specs.Legal.{HasWidth}
-use Rattle.ivy_wire.specs.Data.{Message}
-use Rattle.ivy_wire.specs.Spelling.{FitsMessage, FitsParcel}
-use Rattle.ivy_pagetable.specs.Manager.{Ops, Laws}
-use Rattle.ivy_memory.proofs.of_ivy_coherence.IdleServing.{all_none}
-use Rattle.ivy_program.specs.Programs.{Program}
-use Rattle.ivy_program.specs.Steps.{Process, Step, Local, Asks, Ends, step_of, at_state, answered_with, AsksRow, along_of}
-use Rattle.ivy_program.proofs.Along.{asks_along, along_wide}
-use Rattle.ivy_program.proofs.Running.{asked_legal}
-use Rattle.ivy_moves.specs.Cores.{Outcome}
-use Rattle.ivy_moves.specs.Nodes.{Node}
-use Rattle.ivy_moves.specs.Following.{IsWellBehaved, IsOpening}
-use Rattle.ivy_memory.specs.ivy_heap.declared.Answer.{Answer}
-use Rattle.ivy_memory.specs.ivy_heap.declared.Answer.TheVariants.{Given, Awaited, Unserved}
-use Rattle.ivy_memory.specs.Memories.{NodeMemory, CallBegun, call_begun, polled}
-use Rattle.ivy_memory.specs.Sound.{IsSoundMemory}
-use Rattle.ivy_host.specs.Sound.{IsSoundHost}
-use Rattle.ivy_host.specs.Hosts.{Host, recorded, quietly, begins_with, begins_as, begins, steps, turned_at, turn_of, serving, host_rules, first_host}
-use Rattle.ivy_host.specs.Openings.{first_node, first_nodes, opening}
-use Rattle.ivy_memory.proofs.WellBehaved.{SameNode, KeepsMemory, first_sound-memory, told-sound, call-sound}
-use Rattle.ivy_memory.proofs.Begun.{GoesOn, IsBegunAs, IsBegun, call-begun}
-use Rattle.ivy_memory.proofs.Polling.{polled-keeps, polled-begun}
-use Rattle.ivy_memory.proofs.Same.{told-same, told-asked, told-along, told-number}
+use Rattle.ivy_model.specs.stated.Config.{IsConfig}
+use Rattle.ivy_model.specs.stated.Legal.{HasWidth}
+use Rattle.ivy_wire.specs.stated.Data.{Message}
+use Rattle.ivy_wire.specs.stated.Spelling.{FitsMessage, FitsParcel}
+use Rattle.ivy_pagetable.specs.stated.Manager.{Ops}
+use Rattle.ivy_pagetable.specs.Manager.{Laws}
+use Rattle.ivy_coherence.proofs.keeping.IdleServing.{all_none}
+use Rattle.ivy_program.specs.stated.Programs.{Program}
+use Rattle.ivy_program.specs.stated.InstructionSteps.{Process, Step, Local, Asks, Ends, step_of, at_state, answered_with, AsksRow, along_of}
+use Rattle.ivy_program.proofs.running.Along.{asks_along, along_wide}
+use Rattle.ivy_program.proofs.running.Running.{asked_legal}
+use Rattle.ivy_moves.specs.stated.Cores.{Outcome}
+use Rattle.ivy_moves.specs.stated.Nodes.{Node}
+use Rattle.ivy_moves.specs.Following.{IsWellBehaved}
+use Rattle.ivy_moves.specs.stated.Following.{IsOpening}
+use Rattle.ivy_alloc.specs.declared.CallProgress.{CallProgress}
+use Rattle.ivy_alloc.specs.declared.CallProgress.TheVariants.{Given, Awaited, Unserved}
+use Rattle.ivy_memory.specs.stated.Memories.{NodeMemory, CallBegun, call_begun, polled}
+use Rattle.ivy_memory.specs.stated.Sound.{IsSoundMemory}
+use Rattle.ivy_host.specs.stated.Sound.{IsSoundHost}
+use Rattle.ivy_host.specs.stated.Hosts.{Host, recorded, quietly, begins_with, begins_as, begins, steps, turned_at, turn_of, serving, host_rules, first_host}
+use Rattle.ivy_host.specs.stated.Openings.{first_node, first_nodes, opening}
+use Rattle.ivy_memory.proofs.keeping.WellBehaved.{SameNode, KeepsMemory, first_sound-memory, told-sound, call-sound}
+use Rattle.ivy_memory.proofs.keeping.Begun.{GoesOn, IsBegunAs, IsBegun, call-begun}
+use Rattle.ivy_memory.proofs.keeping.Polling.{polled-keeps, polled-begun}
+use Rattle.ivy_memory.proofs.keeping.Same.{told-same, told-asked, told-along, told-number}
 
 -- the calls in progress are those that the program makes
 abbrev pub IsAskingHost : {S : Type 0} → Host S → Type 0
@@ -61,7 +63,7 @@ module _ {S : Type 0} where
   -- whatever the call is answered: the program makes it and those along with it, and later ones
   -- after its reply
   pub begins_with-asking : (i : ℕ) (n : Host S) (k : Call) (calls later : List Call)
-      (a : CallBegun S) (r : Answer) (o : Outcome (Host S)) → AsksRow n.process (k ∷ calls)
+      (a : CallBegun S) (r : CallProgress) (o : Outcome (Host S)) → AsksRow n.process (k ∷ calls)
       → ((q : Reply) → AsksRow (answered_with n.process q) later)
       → IsBegunAs k calls later i a.after r → begins_with n k a r ≡ Some o → IsAskingHost o.after
   begins_with-asking i n k calls later a Awaited o asks rest begun at =
@@ -151,7 +153,7 @@ module _ {S : Type 0} {ops : Ops S} (laws : Laws ops) where
   )
 
   begins_with-well_behaved : (c : Config) (i : ℕ) (n : Host S) (k : Call) (calls later : List Call)
-      (a : CallBegun S) (r : Answer) (o : Outcome (Host S)) → IsSoundHost ops c i n
+      (a : CallBegun S) (r : CallProgress) (o : Outcome (Host S)) → IsSoundHost ops c i n
       → KeepsMemory ops n.memory a → IsBegunAs k calls later (length n.history + 1) a.after r
       → IsAskingHost o.after → begins_with n k a r ≡ Some o → KeepsWellBehaved c i o
   begins_with-well_behaved c i n k calls later a (Given r) o s h begun asking is =

@@ -4,13 +4,13 @@ use Rattle.std.proofs.Common.{ap, ◌∙◌}
 use Rattle.ivy_model.specs.declared.Config.{Config}
 use Rattle.ivy_model.specs.declared.Kind.{Kind}
 use Rattle.ivy_model.specs.declared.Kind.TheVariants as kind
-use Rattle.ivy_model.specs.Config.{IsConfig}
+use Rattle.ivy_model.specs.stated.Config.{IsConfig}
 use Rattle.ivy_pagetable.specs.Manager.{Laws, KeepsElsewhere, IsRouted, Change, Forward, Given, Replied, Invalidated, all_changed, brought_back}
-use Rattle.ivy_fixed.specs.Fixed.{Owners, fixed_ops}
+use Rattle.ivy_fixed.specs.stated.Fixed.{Owners, fixed_ops}
 use Rattle.ivy_fixed.specs.FixedLaws.{fixed_laws}
-use Rattle.ivy_dynamic.specs.Dynamic.{Hints, dynamic_ops}
+use Rattle.ivy_dynamic.specs.stated.Dynamic.{Hints, dynamic_ops}
 use Rattle.ivy_dynamic.specs.DynamicLaws.{dynamic_laws}
-use Rattle.ivy_host.specs.Managers.{Managed, Fixed, Dynamic, first_managed, managed_ops}
+use Rattle.ivy_host.specs.stated.Managers.{Managed, Fixed, Dynamic, first_managed, managed_ops}
 
 -- what holds of the one and of the other
 each : (P : Managed → Type 0) → ((s : Owners) → P (Fixed s)) → ((s : Hints) → P (Dynamic s))

@@ -1,7 +1,7 @@
 //! The manager of a node, which is the one of its configuration.
 ghost use Rattle.std.specs.Prelude.{◌≡◌, IfOk, IsOkUnless};
-ghost use Rattle.ivy_model.specs.Config.{IsConfig};
-ghost use Rattle.ivy_host.specs.Managers.{managed_ops};
+ghost use Rattle.ivy_model.specs.stated.Config.{IsConfig};
+ghost use Rattle.ivy_host.specs.stated.Managers.{managed_ops};
 
 use ivy_dynamic::DynamicManager;
 use ivy_fixed::FixedManager;
@@ -25,7 +25,7 @@ pub struct NodeManager<A: Allocator> {
 }
 
 impl<A: Allocator> Model for NodeManager<A> {
-    ghost use Rattle.ivy_host.specs.Managers.{Managed};
+    ghost use Rattle.ivy_host.specs.stated.Managers.{Managed};
 
     ghost Value = { Managed };
 
@@ -50,7 +50,7 @@ impl<A: Allocator> NodeManager<A> {
 }
 
 impl<A: Allocator> Manager for NodeManager<A> {
-    ghost use Rattle.ivy_host.specs.Managers.{managed_ops};
+    ghost use Rattle.ivy_host.specs.stated.Managers.{managed_ops};
     ghost use Rattle.ivy_host.specs.ManagedLaws.{managed_laws};
 
     ghost ops = { managed_ops };

@@ -3,7 +3,7 @@ use Rattle.std.proofs.Common.{◌≡◌, ℕ, zero, suc, List, [], ◌∷◌, Co
 use Rattle.std.proofs.lemmas.List.Elements.{Contains-append_left, Contains-append_cases}
 use Rattle.ivy_site.specs.SiteView.{SiteView}
 use Rattle.ivy_site.specs.Sites.{IsSentBy}
-use Rattle.ivy_join.specs.Joining.{Sends, AddsOne, AddsSent}
+use Rattle.ivy_join.specs.ReplaySites.{Sends, AddsOne, AddsSent}
 
 -- whatever waits at it
 pub sent_here : (s first : SiteView) (b : List ℕ)

@@ -1,20 +1,21 @@
 -- How far the logs were made: one of them goes on, none does, or all are at their end.
 use Rattle.std.proofs.Common.{◌≡◌, ◌≢◌, ℕ, zero, suc, ◌+◌, ◌-◌, ◌<◌, ◌≤◌, List, [], ◌∷◌, ◌++◌, length, map, take, drop, set, get_or, replicate, slice_get, Some, None, option_map, refl, sym, ap, subst, ◌∙◌, append_assoc, inl, inr, arith}
 use Rattle.std.proofs.lemmas.Bool.{cases_eq}
-use Rattle.std.proofs.lemmas.List.{take_all}
+use Rattle.std.proofs.lemmas.List.{take_all, take-append-drop}
 use Rattle.std.proofs.lemmas.Option.{same_Some, none-some, slice_get-map, slice_get_within, slice_get_cases}
-use Rattle.ivy_moves.specs.Events.{Event}
-use Rattle.ivy_moves.specs.Marks.{Mark, marks, marks_of}
+use Rattle.std.proofs.lemmas.List.Concat.{flat_map-append}
+use Rattle.ivy_logs.specs.Entries.{LogEntry, event_in, events_in}
+use Rattle.ivy_moves.specs.Marks.{Mark, marks}
 use Rattle.ivy_moves.proofs.Places.{set-elsewhere, set-there}
-use Rattle.ivy_lines.proofs.Cursors.{marks-taken-or}
+use Rattle.ivy_logs.proofs.Entries.{entries-taken, marks-append}
 use Rattle.ivy_site.specs.SiteView.{SiteView}
 use Rattle.ivy_join.specs.Exact.{left_of, AreAllMade, AreMadeTo, AreStuck, IsMadeTo, IsStuck}
 use Rattle.ivy_join.specs.Joined.{list_of, part_in}
-use Rattle.ivy_join.specs.Joining.{events_at, listed}
+use Rattle.ivy_join.specs.ReplaySites.{events_at, listed}
 use Rattle.ivy_join.proofs.Calls.{replicate-is}
-use Rattle.ivy_join.proofs.Handed.{there_is}
+use Rattle.ivy_join.proofs.HandedLogs.{there_is}
 
--- what stands behind the events that were made
+-- what stands behind the entries that were made
 pub drop_at : {X : Type 0} (xs : List X) (i : ℕ) (x : X) → i < length xs → x ≡ get_or xs i x
     → drop i xs ≡ x ∷ drop (i + 1) xs
 drop_at [] i x below is = absurd (omega (arith, below))
@@ -23,30 +24,30 @@ drop_at (y ∷ xs) (suc i) x below is =
     let further : suc i + 1 ≡ suc (i + 1) = omega arith in
     drop_at xs i x (omega (arith, below)) is ∙ ap (λ n. x ∷ drop n (y ∷ xs)) (sym further)
 
-pub marks-cut : (log : List Event) (m : ℕ) → marks log ≡ marks (take m log) ++ marks (drop m log)
-marks-cut log zero = refl
-marks-cut [] (suc m) = refl
-marks-cut (e ∷ log) (suc m) =
-    ap (λ l. marks_of e ++ l) (marks-cut log m)
-    ∙ sym (append_assoc (marks_of e) (marks (take m log)) (marks (drop m log)))
+pub marks-cut : (log : List LogEntry) (m : ℕ)
+    → marks (events_in log) ≡ marks (events_in (take m log)) ++ marks (events_in (drop m log))
+marks-cut log m =
+    ap (λ l. marks (events_in l)) (sym (take-append-drop m log))
+    ∙ ap marks (flat_map-append event_in (take m log) (drop m log))
+    ∙ marks-append (events_in (take m log)) (events_in (drop m log))
 
--- one event more of a log
-pub made_more : (log : List Event) (m : ℕ) (e : Event) (old new : List Mark) → m < length log
-    → e ≡ get_or log m e → IsMadeTo log m old → new ≡ old ++ marks_of e → IsMadeTo log (m + 1) new
+-- one entry more of a log
+pub made_more : (log : List LogEntry) (m : ℕ) (e : LogEntry) (old new : List Mark) → m < length log
+    → e ≡ get_or log m e → IsMadeTo log m old → new ≡ old ++ marks (event_in e) → IsMadeTo log (m + 1) new
 made_more log m e old new below is to more = record {
   few = omega (arith, below);
-  are = more ∙ ap (λ l. l ++ marks_of e) to.are ∙ sym (marks-taken-or log m e below is);
+  are = more ∙ ap (λ l. l ++ marks (event_in e)) to.are ∙ sym (entries-taken log m e below is);
 }
 
 -- the log of one node
-pub made-at-map : {X : Type 0} (f : X → List Event) (logs : List X) (made : List ℕ) (sites : List SiteView)
+pub made-at-map : {X : Type 0} (f : X → List LogEntry) (logs : List X) (made : List ℕ) (sites : List SiteView)
     (node : ℕ) (x : X) (m : ℕ) → AreMadeTo (map f logs) made sites → slice_get logs node ≡ Some x
     → slice_get made node ≡ Some m → IsMadeTo (f x) m (events_at sites node)
 made-at-map f logs made sites node x m each log was =
     each node (f x) m (slice_get-map f logs node ∙ ap (option_map f) log) was
 
 -- it goes on
-module _ {X : Type 0} (f : X → List Event) (logs : List X) (made : List ℕ) (node : ℕ) (x : X) (m m' : ℕ)
+module _ {X : Type 0} (f : X → List LogEntry) (logs : List X) (made : List ℕ) (node : ℕ) (x : X) (m m' : ℕ)
     (old new : List SiteView) (log : slice_get logs node ≡ Some x) (was : slice_get made node ≡ Some m) where
   log-there : slice_get (map f logs) node ≡ Some (f x)
   log-there = slice_get-map f logs node ∙ ap (option_map f) log
@@ -69,7 +70,7 @@ module _ {X : Type 0} (f : X → List Event) (logs : List X) (made : List ℕ) (
   ]
 
 -- what is left then
-left-set : (logs : List (List Event)) (made : List ℕ) (node : ℕ) (log : List Event) (m m' : ℕ)
+left-set : (logs : List (List LogEntry)) (made : List ℕ) (node : ℕ) (log : List LogEntry) (m m' : ℕ)
     → slice_get logs node ≡ Some log → slice_get made node ≡ Some m
     → left_of logs (set made node m') + (length log - m) ≡ left_of logs made + (length log - m')
 left-set [] made node log m m' there was = absurd (none-some log there)
@@ -81,7 +82,7 @@ left-set (x ∷ logs) (k ∷ made) zero log m m' there was =
 left-set (x ∷ logs) (k ∷ made) (suc node) log m m' there was =
     let rest = left-set logs made node log m m' there was in omega (arith, rest)
 
-pub left-less : {X : Type 0} (f : X → List Event) (logs : List X) (made : List ℕ) (node : ℕ) (x : X)
+pub left-less : {X : Type 0} (f : X → List LogEntry) (logs : List X) (made : List ℕ) (node : ℕ) (x : X)
     (m m' : ℕ) → slice_get logs node ≡ Some x → slice_get made node ≡ Some m → m < m' → m' ≤ length (f x)
     → left_of (map f logs) (set made node m') < left_of (map f logs) made
 left-less f logs made node x m m' log was more few =
@@ -95,9 +96,9 @@ set_again (y ∷ xs) zero x at = ap (λ z. z ∷ xs) (sym (same_Some y x at))
 set_again (y ∷ xs) (suc i) x at = ap (λ l. y ∷ l) (set_again xs i x at)
 
 -- at the end all was
-pub lists-made : {X : Type 0} (f : X → List Event) (logs : List X) (made : List ℕ) (sites : List SiteView)
+pub lists-made : {X : Type 0} (f : X → List LogEntry) (logs : List X) (made : List ℕ) (sites : List SiteView)
     → length logs ≡ length sites → length made ≡ length sites → AreMadeTo (map f logs) made sites
-    → AreAllMade (map f logs) made → (i : ℕ) → events_at sites i ≡ part_in (map (λ x. marks (f x)) logs) i
+    → AreAllMade (map f logs) made → (i : ℕ) → events_at sites i ≡ part_in (map (λ x. marks (events_in (f x))) logs) i
 lists-made f logs made sites each count to all i = elim (slice_get_cases logs i).1 [
   | inl there ↦
       (let x = there.0 in
@@ -106,14 +107,14 @@ lists-made f logs made sites each count to all i = elim (slice_get_cases logs i)
       let inside : i < length made = (let l = there.1 in omega (arith, l, each, count)) in
       let m = there_is made i inside in
       let own = to i (f x) m.0 log m.1 in
-      own.are ∙ ap marks (take_all m.0 (f x) (all i (f x) m.0 log m.1))
-      ∙ sym (ap list_of (slice_get-map (λ x. marks (f x)) logs i
-      ∙ ap (option_map (λ x. marks (f x))) there.2)))
+      own.are ∙ ap (λ l. marks (events_in l)) (take_all m.0 (f x) (all i (f x) m.0 log m.1))
+      ∙ sym (ap list_of (slice_get-map (λ x. marks (events_in (f x))) logs i
+      ∙ ap (option_map (λ x. marks (events_in (f x)))) there.2)))
   | inr past ↦
       (let none : slice_get sites i ≡ None = beyond sites i (let l = past.0 in omega (arith, l, each)) in
       ap listed none
-      ∙ sym (ap list_of (slice_get-map (λ x. marks (f x)) logs i
-      ∙ ap (option_map (λ x. marks (f x))) past.1)))
+      ∙ sym (ap list_of (slice_get-map (λ x. marks (events_in (f x))) logs i
+      ∙ ap (option_map (λ x. marks (events_in (f x)))) past.1)))
 ]
   where
     beyond : (xs : List SiteView) (i : ℕ) → length xs ≤ i → slice_get xs i ≡ None
@@ -122,12 +123,12 @@ lists-made f logs made sites each count to all i = elim (slice_get_cases logs i)
     beyond (x ∷ xs) (suc i) past = beyond xs i (omega (arith, past))
 
 -- the logs below a place are stuck
-abbrev pub AreStuckTo : ℕ → List (List ℕ) → List (List Event) → List ℕ → Type 0
-AreStuckTo n sent logs made = (i : ℕ) → i < n → (log : List Event) (m : ℕ) → slice_get logs i ≡ Some log
+abbrev pub AreStuckTo : ℕ → List (List ℕ) → List (List LogEntry) → List ℕ → Type 0
+AreStuckTo n sent logs made = (i : ℕ) → i < n → (log : List LogEntry) (m : ℕ) → slice_get logs i ≡ Some log
     → slice_get made i ≡ Some m → IsStuck sent (drop m log)
 
 -- one more log does not go on
-pub stuck-more : {X : Type 0} (f : X → List Event) (logs : List X) (made : List ℕ) (node : ℕ) (x : X)
+pub stuck-more : {X : Type 0} (f : X → List LogEntry) (logs : List X) (made : List ℕ) (node : ℕ) (x : X)
     (m m' : ℕ) (sent sent' : List (List ℕ)) → slice_get logs node ≡ Some x → slice_get made node ≡ Some m
     → m' ≡ m → sent' ≡ sent → IsStuck sent (drop m (f x)) → AreStuckTo node sent (map f logs) made
     → AreStuckTo (node + 1) sent' (map f logs) (set made node m')
@@ -147,16 +148,16 @@ stuck-more f logs made node x m m' sent sent' there was same strings stuck befor
       | inr apart ↦ before i (omega (arith, below, apart)) log k at then_now
     ])
 
-pub stuck-all : (n : ℕ) (sent : List (List ℕ)) (logs : List (List Event)) (made : List ℕ) → length logs ≤ n
+pub stuck-all : (n : ℕ) (sent : List (List ℕ)) (logs : List (List LogEntry)) (made : List ℕ) → length logs ≤ n
     → AreStuckTo n sent logs made → AreStuck sent logs made
 stuck-all n sent logs made all to i log m at was =
     let l = slice_get_within logs i log at in to i (omega (arith, l, all)) log m at was
 
 -- none was made yet
-pub none-made : (logs : List (List Event)) (made : List ℕ) (n : ℕ) (sites : List SiteView)
+pub none-made : (logs : List (List LogEntry)) (made : List ℕ) (n : ℕ) (sites : List SiteView)
     → made ≡ replicate n 0 → ((i : ℕ) → events_at sites i ≡ []) → AreMadeTo logs made sites
 none-made logs made n sites zeros none i log m there now =
     let first : m ≡ 0 = (replicate-is n 0 i m (ap (λ l. slice_get l i) (sym zeros) ∙ now)).1 in record {
       few = omega (arith, first);
-      are = none i ∙ ap (λ j. marks (take j log)) (sym first);
+      are = none i ∙ ap (λ j. marks (events_in (take j log))) (sym first);
     }

@@ -4,24 +4,24 @@ use Rattle.std.proofs.Common.{◌≡◌, ℕ, zero, suc, ◌+◌, ◌<◌, List,
 use Rattle.std.proofs.lemmas.List.{length-map, length-take-le, map_push, take_more}
 use Rattle.std.proofs.lemmas.Option.{same_Some, none-some, slice_get-map}
 use Rattle.ivy_model.specs.declared.Config.{Config}
-use Rattle.ivy_model.specs.Config.{IsConfig}
+use Rattle.ivy_model.specs.stated.Config.{IsConfig}
 use Rattle.ivy_moves.specs.Marks.{Mark}
-use Rattle.ivy_moves.specs.Nodes.{Node, Effect}
+use Rattle.ivy_moves.specs.stated.Nodes.{Node, Effect}
 use Rattle.ivy_moves.specs.Parts.{AllHappen, AllCanBeMade, AreParts}
 use Rattle.ivy_moves.proofs.Parts.{runs_are_their_parts}
 use Rattle.ivy_moves.proofs.Splitting.{same-effect}
-use Rattle.ivy_site.specs.ivy_host.Hosts.{Host, host_rules}
-use Rattle.ivy_site.specs.ivy_host.Managers.{Managed, managed_ops}
-use Rattle.ivy_site.specs.ivy_host.Openings.{first_node, opening}
+use Rattle.ivy_host.specs.stated.Hosts.{Host, host_rules}
+use Rattle.ivy_host.specs.stated.Managers.{Managed, managed_ops}
+use Rattle.ivy_host.specs.stated.Openings.{first_node, opening}
 use Rattle.ivy_site.specs.SiteView.{SiteView}
 use Rattle.ivy_site.specs.Sites.{first_shown, IsMadeByEvents}
 use Rattle.ivy_world.specs.WorldSites.{programs_of}
-use Rattle.proof_headline.proofs.Headline.{keeps-reached}
+use Rattle.proof_worlds.proofs.headline.Headline.{keeps-reached}
 use Rattle.ivy_moves.specs.declared.keep.Keep.TheVariants.{All}
 use Rattle.ivy_site.proofs.Made.{first_made}
-use Rattle.ivy_program.specs.Programs.{Program}
-use Rattle.ivy_join.specs.Joining.{program_in, events_at, listed, kept_from, IsNode, ArePlayed, AreKept}
-use Rattle.ivy_lines.specs.declared.log.Head.{Head}
+use Rattle.ivy_program.specs.stated.Programs.{Program}
+use Rattle.ivy_join.specs.ReplaySites.{program_in, events_at, listed, kept_from, IsNode, ArePlayed, AreKept}
+use Rattle.ivy_logs.specs.declared.log.LogHead.{LogHead}
 use Rattle.ivy_join.specs.Exact.{HasSent, HaveSent}
 use Rattle.ivy_join.specs.Joined.{part_in, list_of, run_to, AreHeads, AreJoined}
 use Rattle.ivy_join.proofs.Played.{first_there}
@@ -157,26 +157,15 @@ pub part_at : {X : Type 0} (f : X → List Mark) (xs : List X) (i : ℕ) (x : X)
     → part_in (map f xs) i ≡ f x
 part_at f xs i x there = ap list_of (slice_get-map f xs i ∙ ap (option_map f) there)
 
-pub lists-all : {X : Type 0} (f : X → List Mark) (sites : List SiteView) (xs : List X)
-    → length xs ≡ length sites
-    → ((i : ℕ) → i < length xs → events_at sites i ≡ part_in (map f xs) i) → (i : ℕ)
-    → events_at sites i ≡ part_in (map f xs) i
-lists-all f [] [] each h i = refl
-lists-all f [] (x ∷ xs) each h i = absurd (omega (arith, each))
-lists-all f (s ∷ ss) [] each h i = absurd (omega (arith, each))
-lists-all f (s ∷ ss) (x ∷ xs) each h zero = h 0 (omega arith)
-lists-all f (s ∷ ss) (x ∷ xs) each h (suc i) =
-    lists-all f ss xs (omega (arith, each)) (λ j below. h (suc j) (omega (arith, below))) i
-
 -- one head more
-heads-push : (c : Config) (n m : ℕ) (hs : List Head) (h : Head) → AreHeads c n hs → m ≡ n + length hs
+heads-push : (c : Config) (n m : ℕ) (hs : List LogHead) (h : LogHead) → AreHeads c n hs → m ≡ n + length hs
     → h ≡ record { me = m; config = c } → AreHeads c n (hs ++ h ∷ [])
 heads-push c n m [] h heads at is =
     (is ∙ ap (λ k. record { me = k; config = c }) (omega (arith, at)), tt)
 heads-push c n m (x ∷ hs) h heads at is =
     (heads.0, heads-push c (n + 1) m hs h heads.1 (omega (arith, at)) is)
 
-pub heads-more : {X : Type 0} (f : X → Head) (c : Config) (xs : List X) (i : ℕ) (x : X) → i < length xs
+pub heads-more : {X : Type 0} (f : X → LogHead) (c : Config) (xs : List X) (i : ℕ) (x : X) → i < length xs
     → x ≡ get_or xs i x → AreHeads c 0 (map f (take i xs)) → f x ≡ record { me = i; config = c }
     → AreHeads c 0 (map f (take (i + 1) xs))
 heads-more f c xs i x below there heads is =

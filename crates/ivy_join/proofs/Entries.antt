@@ -5,25 +5,26 @@ use Rattle.std.proofs.lemmas.List.Concat.{flat_map-append}
 use Rattle.std.proofs.lemmas.List.Elements.{Contains-append_left, Contains-append_right}
 use Rattle.ivy_model.specs.declared.Call.{Call}
 use Rattle.ivy_model.specs.declared.Fault.{Fault}
-use Rattle.ivy_model.specs.Config.{IsConfig}
-use Rattle.ivy_lines.specs.ivy_calls.declared.Answer.{Answer}
-use Rattle.ivy_lines.specs.declared.own.Entry.TheVariants.{Did, Asked, Answered}
-use Rattle.ivy_lines.specs.Own.{Entry, call_in, calls_in, event_in, events_in}
-use Rattle.ivy_lines.proofs.Owned.{marks-append}
+use Rattle.ivy_model.specs.stated.Config.{IsConfig}
+use Rattle.ivy_calls.specs.declared.Answer.{Answer}
+use Rattle.ivy_logs.specs.declared.entry.LogEntry.TheVariants.{Did, Asked, Answered}
+use Rattle.ivy_logs.specs.Entries.{LogEntry, call_in, calls_in, event_in, events_in}
+use Rattle.ivy_logs.proofs.Entries.{marks-append}
 use Rattle.ivy_moves.specs.Events.{Event}
 use Rattle.ivy_moves.specs.Marks.{marks, marks_of}
 use Rattle.ivy_moves.specs.Parts.{AllCanBeMade}
-use Rattle.ivy_program.specs.Programs.{Program, Written, Called, handed, one_by_one}
-use Rattle.ivy_site.proofs.of_ivy_host.Handed.{handed_none}
+use Rattle.ivy_program.specs.stated.Programs.{Program, Written, Called}
+use Rattle.ivy_program.specs.Programs.{handed, one_by_one}
+use Rattle.ivy_host.proofs.HandedHosts.{handed_none}
 use Rattle.ivy_site.specs.Handed.{site_handed}
 use Rattle.ivy_site.specs.SiteView.{SiteView}
-use Rattle.ivy_join.specs.Joining.{program_in, taken_by, taken_in, CanGoOnBy, GoesOnBy}
+use Rattle.ivy_join.specs.ReplaySites.{program_in, taken_by, taken_in, CanGoOnBy, GoesOnBy}
 use Rattle.ivy_join.specs.Remade.{CanTake, GoesOnByEntries}
-use Rattle.ivy_join.proofs.Steps.{took-further}
+use Rattle.ivy_join.proofs.EventSteps.{took-further}
 use Rattle.ivy_join.proofs.Taken.{can-more-strings, taken-own}
 
 -- further rows of calls, and then others
-handed-further : (more rest : List (List Call)) (p : Program)
+pub handed-further : (more rest : List (List Call)) (p : Program)
     → handed rest (handed more p) ≡ handed (more ++ rest) p
 handed-further more rest (Written is) = refl
 handed-further more rest (Called rows) = ap Called (append_assoc rows more rest)
@@ -74,7 +75,7 @@ module _ (sent : List (List ℕ)) where
   }
 
   -- strings that wait are taken out
-  pub entries-emptied : (entries : List Entry) (a b d : SiteView) → GoesOnByEntries sent entries a b
+  pub entries-emptied : (entries : List LogEntry) (a b d : SiteView) → GoesOnByEntries sent entries a b
       → record d { waiting = [] } ≡ record b { waiting = [] } → GoesOnByEntries sent entries a d
   entries-emptied entries a b d x same =
       let here : GoesOnByEntries sent entries a (record b { waiting = [] }) = record {
@@ -94,7 +95,7 @@ module _ (sent : List (List ℕ)) where
       }
 
   -- one entry more
-  pub entries-more : (entries : List Entry) (i : ℕ) (entry : Entry) (a b d : SiteView)
+  pub entries-more : (entries : List LogEntry) (i : ℕ) (entry : LogEntry) (a b d : SiteView)
       → i < length entries → entry ≡ get_or entries i entry
       → GoesOnByEntries sent (take i entries) a b → GoesOnByEntries sent (entry ∷ []) b d
       → GoesOnByEntries sent (take (i + 1) entries) a d
@@ -121,7 +122,7 @@ module _ (sent : List (List ℕ)) where
       })
 
 -- what is said of an event that was made
-pub did-made : (entry : Entry) (event : Event) (s s' : SiteView) (made : Result Bool Fault)
+pub did-made : (entry : LogEntry) (event : Event) (s s' : SiteView) (made : Result Bool Fault)
     → entry ≡ Did event → CanGoOnBy event s s'
     → IfOk made (λ happens. IsTrue happens → s'.events ≡ s.events ++ marks_of event)
     → IfOk made (λ happens. IsTrue happens → (sent : List (List ℕ)) → IsConfig s.config
@@ -132,14 +133,14 @@ did-made entry event s s' (Ok happens) is on made =
     (did-on sent event s s' took (on sent limits took (subst (CanTake sent) is can)) (made yes))
 did-made entry event s s' (Err fault) is on made = tt
 
-entry-more : (strings others : List (List ℕ)) (entry : Entry)
+entry-more : (strings others : List (List ℕ)) (entry : LogEntry)
     → ((s : List ℕ) → Contains strings s → Contains others s) → CanTake strings entry
     → CanTake others entry
 entry-more strings others (Did event) all can = can-more-strings strings others event all can
 entry-more strings others (Asked call) all can = tt
 entry-more strings others (Answered answer) all can = tt
 
-entry-own : (entry : Entry) → CanTake (taken_by (event_in entry)) entry
+entry-own : (entry : LogEntry) → CanTake (taken_by (event_in entry)) entry
 entry-own (Did event) =
     can-more-strings (taken_in event) (taken_by (event ∷ [])) event
     (λ s there. Contains-append_left (taken_in event) [] s there) (taken-own event)
@@ -147,7 +148,7 @@ entry-own (Asked call) = tt
 entry-own (Answered answer) = tt
 
 -- what an entry delivers is among the strings that the log delivers
-pub entry-taken : (log : List Entry) (i : ℕ) (entry : Entry) → i < length log → entry ≡ get_or log i entry
+pub entry-taken : (log : List LogEntry) (i : ℕ) (entry : LogEntry) → i < length log → entry ≡ get_or log i entry
     → CanTake (taken_by (events_in log)) entry
 entry-taken [] i entry below is = absurd (omega (arith, below))
 entry-taken (x ∷ xs) zero entry below is =

@@ -4,25 +4,25 @@ use Rattle.std.specs.Prelude.{Bool, true, false, Result, Ok, Err, MatchResult, I
 use Rattle.std.proofs.lemmas.Option.{none-some}
 use Rattle.ivy_model.specs.declared.Fault.{Fault}
 use Rattle.ivy_model.specs.declared.Fault.TheVariants.{NumbersSpent}
-use Rattle.ivy_model.specs.Config.{IsConfig}
-use Rattle.ivy_wire.specs.Data.{Frame}
+use Rattle.ivy_model.specs.stated.Config.{IsConfig}
+use Rattle.ivy_wire.specs.stated.Data.{Frame}
 use Rattle.ivy_wire.proofs.Frames.{spelled_once}
-use Rattle.ivy_moves.specs.ivy_link.Accepted.{offered}
-use Rattle.ivy_moves.specs.ivy_link.declared.Verdict.{Verdict}
-use Rattle.ivy_moves.specs.ivy_link.declared.Verdict.TheVariants as verdict
+use Rattle.ivy_link.specs.stated.Accepted.{offered}
+use Rattle.ivy_link.specs.declared.Verdict.{Verdict}
+use Rattle.ivy_link.specs.declared.Verdict.TheVariants as verdict
 use Rattle.ivy_moves.specs.Marks.{Mark, Turn, Delivery, turns}
-use Rattle.ivy_moves.specs.Nodes.{Effect, turned, turned_to, verdict_as, verdict_of}
+use Rattle.ivy_moves.specs.stated.Nodes.{Effect, turned, turned_to, verdict_as, verdict_of}
 use Rattle.ivy_moves.specs.Parts.{followed_by, AllHappen, Happens}
 use Rattle.ivy_moves.proofs.Parts.{all-append, single}
 use Rattle.ivy_moves.proofs.Splitting.{all-split, same-effect}
-use Rattle.ivy_site.specs.ivy_host.Hosts.{Host, host_rules, turn_of}
-use Rattle.ivy_site.specs.ivy_host.Managers.{Managed, managed_ops}
+use Rattle.ivy_host.specs.stated.Hosts.{Host, host_rules, turn_of}
+use Rattle.ivy_host.specs.stated.Managers.{Managed, managed_ops}
 use Rattle.ivy_site.specs.declared.turn.Turn as turn
 use Rattle.ivy_site.specs.declared.turn.Turn.TheVariants.{Idle, Moved, Ended}
 use Rattle.ivy_site.specs.SiteView.{SiteView, after_hearing, after_delivery}
 use Rattle.ivy_site.specs.Inside.{Receives, Holds}
 use Rattle.ivy_site.specs.Sites.{AfterTurn, SiteDelivers, IsSpentTurn}
-use Rattle.ivy_lines.proofs.Cursors.{turns-more}
+use Rattle.ivy_logs.proofs.Entries.{turns-more}
 use Rattle.ivy_join.specs.Exact.{Makes, NeverHappen, SaysMade}
 
 -- first these events, then those

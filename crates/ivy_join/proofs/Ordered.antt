@@ -4,26 +4,26 @@ use Rattle.std.proofs.lemmas.List.{length-map, nil_from_length}
 use Rattle.std.proofs.lemmas.Option.{slice_get-map, slice_get_within}
 use Rattle.ivy_model.specs.declared.Config.{Config}
 use Rattle.ivy_model.specs.declared.Record.{Record}
-use Rattle.ivy_model.specs.Explains.{IsOwed}
-use Rattle.ivy_lines.specs.ivy_calls.Answers.{answer, answers, answers_of}
-use Rattle.ivy_lines.specs.Own.{Entry, answers_in, events_in}
+use Rattle.ivy_model.specs.stated.Explains.{IsOwed}
+use Rattle.ivy_calls.specs.Answers.{answer, answers, answers_of}
+use Rattle.ivy_logs.specs.Entries.{LogEntry, answers_in, events_in}
 use Rattle.ivy_moves.specs.declared.Move.{Move}
 use Rattle.ivy_moves.specs.Marks.{marks}
-use Rattle.ivy_moves.specs.Explained.{IsExplainedBy, GoesOn}
-use Rattle.ivy_moves.specs.Nodes.{Node}
-use Rattle.ivy_moves.specs.Worlds.{World, Leads}
-use Rattle.ivy_site.specs.ivy_host.Hosts.{Host, host_rules, answered_by}
-use Rattle.ivy_site.specs.ivy_host.ivy_memory.Memories.{in_progress}
-use Rattle.ivy_site.specs.ivy_host.Managers.{Managed, managed_ops}
-use Rattle.ivy_site.specs.ivy_host.Openings.{opening}
+use Rattle.ivy_moves.specs.stated.Explained.{IsExplainedBy, GoesOn}
+use Rattle.ivy_moves.specs.stated.Nodes.{Node}
+use Rattle.ivy_moves.specs.stated.Worlds.{World, Leads}
+use Rattle.ivy_host.specs.stated.Hosts.{Host, host_rules, answered_by}
+use Rattle.ivy_memory.specs.stated.Memories.{in_progress}
+use Rattle.ivy_host.specs.stated.Managers.{Managed, managed_ops}
+use Rattle.ivy_host.specs.stated.Openings.{opening}
 use Rattle.ivy_site.specs.SiteView.{SiteView}
 use Rattle.ivy_world.specs.WorldSites.{programs_of}
-use Rattle.ivy_join.specs.Joining.{events_at, ArePlayed}
+use Rattle.ivy_join.specs.ReplaySites.{events_at, ArePlayed}
 use Rattle.ivy_join.specs.Joined.{part_in}
-use Rattle.ivy_join.specs.Owned.{programs_by, AreAllTold, AreAnswered, AreOwnJoined, AreTold, IsTold, Tells}
+use Rattle.ivy_join.specs.OwnJoined.{programs_by, AreAllTold, AreAnswered, AreOwnJoined, AreTold, IsTold, Tells}
 use Rattle.ivy_join.proofs.Ended.{joined}
-use Rattle.ivy_join.proofs.Handed.{there_is}
-use Rattle.ivy_join.proofs.Told.{map-twice}
+use Rattle.ivy_join.proofs.HandedLogs.{there_is}
+use Rattle.ivy_join.proofs.AnswersLogged.{map-twice}
 
 -- the order at the end of a run
 explained_end : (c : Config) (w end : World (Host Managed)) (order : List Record) (moves : List Move)
@@ -47,7 +47,7 @@ owed_none rest (inl none) = none
 owed_none rest (inr calls) = none_called rest calls
 
 -- the entries lack none of so many answers
-tells-all : (entries : List Entry) (history : List Record) → Tells entries history
+tells-all : (entries : List LogEntry) (history : List Record) → Tells entries history
     → length history ≡ length (answers_in entries) → answers history ≡ answers_in entries
 tells-all entries history told many =
     let long = length-append (answers_in entries) told.more in
@@ -56,7 +56,7 @@ tells-all entries history told many =
     let none : told.more ≡ [] = nil_from_length told.more (omega (arith, long, all, as_many, many)) in
     told.are ∙ ap (λ l. answers_in entries ++ l) none ∙ append-nil (answers_in entries)
 
-module _ (c : Config) (logs : List (List Entry)) (sites : List SiteView) (j : AreOwnJoined c logs sites)
+module _ (c : Config) (logs : List (List LogEntry)) (sites : List SiteView) (j : AreOwnJoined c logs sites)
     (all : AreAllTold logs sites) where
   whole : (order : List Record)
       × IsExplainedBy (host_rules managed_ops) c answered_by j.joined.end order
@@ -65,7 +65,7 @@ module _ (c : Config) (logs : List (List Entry)) (sites : List SiteView) (j : Ar
       explained_end c (opening managed_ops c (programs_by logs)) j.joined.end [] reached.0
       (j.joined.keeps.explained reached.0 reached.1) reached.1
 
-  each : (i : ℕ) (entries : List Entry) → slice_get logs i ≡ Some entries
+  each : (i : ℕ) (entries : List LogEntry) → slice_get logs i ≡ Some entries
       → answers_of i whole.0 ≡ answers_in entries
   each i entries log =
       let many = j.joined.each in
@@ -92,7 +92,7 @@ module _ (c : Config) (logs : List (List Entry)) (sites : List SiteView) (j : Ar
   own-answered = record { order = whole.0; legal = whole.1.explained.legal; each = each }
 
 -- logs that were made again, and compared with what that gave
-module _ {X : Type 0} (f : X → List Entry) (c : Config) (logs : List X) (sites : List SiteView)
+module _ {X : Type 0} (f : X → List LogEntry) (c : Config) (logs : List X) (sites : List SiteView)
     (sent : List (List ℕ)) (played : ArePlayed c sites sent)
     (called : programs_of sites ≡ programs_by (map f logs)) (count : length logs ≡ length sites)
     (listed : (i : ℕ) → events_at sites i ≡ part_in (map (λ x. marks (events_in (f x))) logs) i)

@@ -2,25 +2,25 @@
 use Rattle.std.proofs.Common.{◌≡◌, ℕ, ◌<◌, true, List, [], ◌∷◌, ◌++◌, length, length-set, slice_get, Option, Some, None, if◌then◌else◌, ◌==◌, ◌&&◌, nat_lt, not, sym, ap, subst, ◌∙◌, inl, inr, arith}
 use Rattle.std.proofs.lemmas.Bool.{and_parts, cases_eq, eq-eqb, eqb-false, ltb-true, ne_eqb, not-true}
 use Rattle.ivy_model.specs.declared.Config.{Config}
-use Rattle.ivy_moves.specs.ivy_link.declared.Verdict.{Verdict}
-use Rattle.ivy_moves.specs.ivy_link.declared.Verdict.TheVariants as verdict
+use Rattle.ivy_link.specs.declared.Verdict.{Verdict}
+use Rattle.ivy_link.specs.declared.Verdict.TheVariants as verdict
 use Rattle.ivy_moves.specs.declared.moves.Move.{Move}
 use Rattle.ivy_moves.specs.declared.moves.Move.TheVariants as move
-use Rattle.ivy_moves.specs.Cores.{Core, Outcome}
+use Rattle.ivy_moves.specs.stated.Cores.{Core, Outcome}
 use Rattle.ivy_moves.specs.Marks.{Mark}
-use Rattle.ivy_moves.specs.Nodes.{Node, verdict_of, pulsing}
+use Rattle.ivy_moves.specs.stated.Nodes.{Node, verdict_of, pulsing}
 use Rattle.ivy_moves.specs.Parts.{node_of, delivery_marks, pulse_marks, turn_marks, turn_given, delivery_given, pulse_given, given_by, given_further, given_after, given_at, parts_of, AreParts}
-use Rattle.ivy_moves.specs.Worlds.{World, is_named, made_by, moved, GoesOnWith, MayGoOn, Moves, Leads}
+use Rattle.ivy_moves.specs.stated.Worlds.{World, is_named, made_by, moved, GoesOnWith, MayGoOn, Moves, Leads}
 use Rattle.ivy_moves.proofs.Parts.{move-gone, runs_are_their_parts}
 use Rattle.ivy_moves.proofs.Places.{guarded}
-use Rattle.ivy_program.specs.Programs.{Program}
-use Rattle.ivy_site.specs.ivy_host.Hosts.{host_rules}
-use Rattle.ivy_site.specs.ivy_host.Managers.{managed_ops}
-use Rattle.ivy_site.specs.ivy_host.Openings.{first_node, opening}
-use Rattle.ivy_site.proofs.of_ivy_host.WellBehaved.{first_length}
+use Rattle.ivy_program.specs.stated.Programs.{Program}
+use Rattle.ivy_host.specs.stated.Hosts.{host_rules}
+use Rattle.ivy_host.specs.stated.Managers.{managed_ops}
+use Rattle.ivy_host.specs.stated.Openings.{first_node, opening}
+use Rattle.ivy_host.proofs.WellBehaved.{first_length}
 use Rattle.ivy_join.specs.Exact.{AreToOthers, IsNoPart}
 use Rattle.ivy_join.specs.Joined.{part_in, AreNoParts}
-use Rattle.ivy_join.proofs.Handed.{there_is}
+use Rattle.ivy_join.proofs.HandedLogs.{there_is}
 use Rattle.ivy_join.proofs.Played.{first_there}
 
 pub others-append : (nodes i : ℕ) (ms ms' : List Mark) → AreToOthers nodes i ms → AreToOthers nodes i ms'

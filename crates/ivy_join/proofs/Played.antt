@@ -5,27 +5,27 @@ use Rattle.std.proofs.lemmas.Bool.{cases_eq, eq-eqb, ne_eqb}
 use Rattle.std.proofs.lemmas.List.{length-map}
 use Rattle.std.proofs.lemmas.Option.{same_Some, none-some, slice_get-map, slice_get_within}
 use Rattle.ivy_model.specs.declared.Config.{Config}
-use Rattle.ivy_model.specs.Config.{IsConfig}
-use Rattle.ivy_moves.specs.Cores.{Core}
+use Rattle.ivy_model.specs.stated.Config.{IsConfig}
+use Rattle.ivy_moves.specs.stated.Cores.{Core}
 use Rattle.ivy_moves.specs.Marks.{Mark}
-use Rattle.ivy_moves.specs.Nodes.{Node, Effect, stays}
+use Rattle.ivy_moves.specs.stated.Nodes.{Node, Effect, stays}
 use Rattle.ivy_moves.specs.Parts.{AllHappen, AllCanBeMade, AreParts, GoOn}
-use Rattle.ivy_moves.specs.Worlds.{World}
+use Rattle.ivy_moves.specs.stated.Worlds.{World}
 use Rattle.ivy_moves.proofs.GoingOn.{only_at, parts_go_on}
 use Rattle.ivy_moves.proofs.Parts.{runs_are_their_parts}
 use Rattle.ivy_moves.proofs.Places.{set-cases, set-there, set-elsewhere}
 use Rattle.ivy_moves.proofs.Splitting.{all-split, same-effect, part_sent, can-more, can-append}
-use Rattle.ivy_site.specs.ivy_host.Hosts.{Host, host_rules}
-use Rattle.ivy_site.specs.ivy_host.Managers.{Managed, managed_ops}
-use Rattle.ivy_site.specs.ivy_host.Openings.{first_node, first_nodes, opening}
-use Rattle.ivy_site.proofs.of_ivy_host.WellBehaved.{first_length}
+use Rattle.ivy_host.specs.stated.Hosts.{Host, host_rules}
+use Rattle.ivy_host.specs.stated.Managers.{Managed, managed_ops}
+use Rattle.ivy_host.specs.stated.Openings.{first_node, first_nodes, opening}
+use Rattle.ivy_host.proofs.WellBehaved.{first_length}
 use Rattle.ivy_moves.specs.declared.keep.Keep.TheVariants.{All}
 use Rattle.ivy_site.specs.SiteView.{SiteView}
 use Rattle.ivy_site.specs.Sites.{IsMadeByEvents}
 use Rattle.ivy_world.specs.WorldSites.{programs_of}
 use Rattle.ivy_world.proofs.Making.{same_map}
-use Rattle.ivy_program.specs.Programs.{Program}
-use Rattle.ivy_join.specs.Joining.{program_in, events_at, listed, GoesOnBy, Sends, AddsSent, IsNode, ArePlayed}
+use Rattle.ivy_program.specs.stated.Programs.{Program}
+use Rattle.ivy_join.specs.ReplaySites.{program_in, events_at, listed, GoesOnBy, Sends, AddsSent, IsNode, ArePlayed}
 
 -- one of the lists goes on
 

@@ -2,22 +2,22 @@
 use Rattle.std.proofs.Common.{◌≡◌, ℕ, zero, suc, List, [], ◌∷◌, ◌++◌, set, slice_get, Contains, Some, refl, sym, ap, subst, ◌∙◌, inl, inr, ⊎_elim, arith}
 use Rattle.std.specs.Prelude.{◌⊎◌, Bool, true, false, IsTrue, MatchBool}
 use Rattle.std.proofs.lemmas.Option.{same_Some}
-use Rattle.ivy_model.specs.Config.{IsConfig}
+use Rattle.ivy_model.specs.stated.Config.{IsConfig}
 use Rattle.std.proofs.lemmas.List.Elements.{Contains-append_right, Contains-append_cases}
 use Rattle.ivy_model.specs.declared.Config.{Config}
 use Rattle.ivy_moves.specs.Events.{Event}
 use Rattle.ivy_moves.specs.Marks.{Mark, marks_of}
-use Rattle.ivy_moves.specs.Nodes.{Node, Effect}
+use Rattle.ivy_moves.specs.stated.Nodes.{Node, Effect}
 use Rattle.ivy_moves.specs.Parts.{AllHappen}
 use Rattle.ivy_moves.proofs.Places.{set-cases, set-elsewhere, set-there}
 use Rattle.ivy_moves.proofs.Splitting.{all-split, none-in, same-effect}
-use Rattle.ivy_site.specs.ivy_host.Hosts.{Host, host_rules}
-use Rattle.ivy_site.specs.ivy_host.Managers.{Managed, managed_ops}
-use Rattle.ivy_site.specs.ivy_host.Openings.{first_node}
+use Rattle.ivy_host.specs.stated.Hosts.{Host, host_rules}
+use Rattle.ivy_host.specs.stated.Managers.{Managed, managed_ops}
+use Rattle.ivy_host.specs.stated.Openings.{first_node}
 use Rattle.ivy_site.specs.SiteView.{SiteView}
 use Rattle.ivy_site.specs.Sites.{IsMadeByEvents}
 use Rattle.ivy_join.specs.Exact.{HasSent, HaveSent, IsMadeAt, IsNeverAt, Makes, NeverHappen, SaysMade}
-use Rattle.ivy_join.specs.Joining.{program_in, listed, GoesOnBy, Sends}
+use Rattle.ivy_join.specs.ReplaySites.{program_in, listed, GoesOnBy, Sends}
 
 -- one string is taken, and added
 pub taken-one : (first old new : List (List ℕ)) (sent sent' : List (List ℕ)) (string : List ℕ)
@@ -111,7 +111,7 @@ module _ (sites : List SiteView) (node : ℕ) (event : Event) (old mid new : Sit
       (λ q. (let own = have i s q in record { none = own.none; all = λ b x. kept b (own.all b x) }))
       (set-cases sites node i new s at)
 
-  pub made-at : IsMadeAt node event sites (set sites node new) sent'
+  pub made-at : IsMadeAt node (marks_of event) sites (set sites node new) sent'
   made-at = record {
     have = each;
     here = ap listed (set-there sites node new old there)
@@ -129,7 +129,7 @@ pub step-says : (sites : List SiteView) (node : ℕ) (event : Event) (old mid ne
     → record new { waiting = [] } ≡ record mid { waiting = [] }
     → ((b : List ℕ) → Contains sent b → Contains sent' b)
     → ((b : List ℕ) → Contains mid.waiting b → Contains sent' b) → new.waiting ≡ []
-    → MatchBool happens (IsMadeAt node event sites (set sites node new) sent') (IsNeverAt node event sites)
+    → MatchBool happens (IsMadeAt node (marks_of event) sites (set sites node new) sent') (IsNeverAt node (marks_of event) sites)
 step-says sites node event old mid new sent sent' true there was limits have on more says same kept taken none =
     made-at sites node event old mid new sent sent' there was have on (more refl) (says limits) same kept taken
     none

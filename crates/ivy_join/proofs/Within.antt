@@ -6,15 +6,15 @@ use Rattle.std.proofs.lemmas.List.{nil_from_length}
 use Rattle.std.proofs.lemmas.List.Elements.{Contains-append_left, Contains-append_right, Contains-append_cases, Contains-push_cases}
 use Rattle.std.proofs.lemmas.Option.{same_Some, none-some, slice_get_within, get_or_from_slice_get}
 use Rattle.ivy_model.specs.declared.Config.{Config}
-use Rattle.ivy_moves.specs.ivy_link.declared.Verdict.{Verdict}
-use Rattle.ivy_moves.specs.ivy_link.declared.Verdict.TheVariants as verdict
+use Rattle.ivy_link.specs.declared.Verdict.{Verdict}
+use Rattle.ivy_link.specs.declared.Verdict.TheVariants as verdict
 use Rattle.ivy_moves.specs.declared.moves.Move.{Move}
 use Rattle.ivy_moves.specs.declared.moves.Move.TheVariants as move
-use Rattle.ivy_moves.specs.Cores.{Core, Outcome}
+use Rattle.ivy_moves.specs.stated.Cores.{Core, Outcome}
 use Rattle.ivy_moves.specs.Marks.{Mark, Turn, Delivery, Pulse}
-use Rattle.ivy_moves.specs.Nodes.{Node, Effect, verdict_of, delivered, turned, pulsing}
+use Rattle.ivy_moves.specs.stated.Nodes.{Node, Effect, verdict_of, delivered, turned, pulsing}
 use Rattle.ivy_moves.specs.Parts.{followed_by, node_of, delivery_marks, pulse_marks, turn_marks, turn_given, delivery_given, pulse_given, given_by, given_further, given_after, given_at, parts_of, AllHappen, AreParts}
-use Rattle.ivy_moves.specs.Worlds.{World, early_of, remembered, turn_of, delivery_of, pulse_of, made_by, is_named, moved, GoesOnWith, MayGoOn, Moves, Leads}
+use Rattle.ivy_moves.specs.stated.Worlds.{World, early_of, remembered, turn_of, delivery_of, pulse_of, made_by, is_named, moved, GoesOnWith, MayGoOn, Moves, Leads}
 use Rattle.ivy_moves.proofs.Following.{went, remembered-went}
 use Rattle.ivy_moves.proofs.Parts.{all-append, move-gone, IsGone}
 use Rattle.ivy_moves.proofs.Places.{guarded, read-either, set-elsewhere, set-there}

@@ -2,19 +2,21 @@
 -- make.
 use Rattle.std.specs.Prelude.{◌≡◌, ◌≢◌, ℕ, ◌+◌, ◌-◌, ◌<◌, ◌≤◌, Bool, true, false, IsTrue, List, [], ◌∷◌, ◌++◌, length, take, drop, slice_get, Some, Contains}
 use Rattle.ivy_model.specs.declared.Config.{Config}
-use Rattle.ivy_model.specs.Config.{IsConfig}
-use Rattle.ivy_moves.specs.Events.{Event}
+use Rattle.ivy_model.specs.stated.Config.{IsConfig}
+use Rattle.ivy_logs.specs.declared.entry.LogEntry.TheVariants.{Did, Asked, Answered}
+use Rattle.ivy_logs.specs.Entries.{LogEntry, event_in, events_in}
 use Rattle.ivy_moves.specs.Marks.{Mark, Turn, Delivery, Pulse, marks, marks_of}
-use Rattle.ivy_moves.specs.Nodes.{Node, Effect}
+use Rattle.ivy_moves.specs.stated.Nodes.{Node, Effect}
 use Rattle.ivy_moves.specs.Parts.{AllHappen}
-use Rattle.ivy_program.specs.Programs.{Program}
-use Rattle.ivy_site.specs.ivy_host.Hosts.{Host, host_rules}
-use Rattle.ivy_site.specs.ivy_host.Managers.{Managed, managed_ops}
-use Rattle.ivy_site.specs.ivy_host.Openings.{first_node}
+use Rattle.ivy_program.specs.stated.Programs.{Program}
+use Rattle.ivy_host.specs.stated.Hosts.{Host, host_rules}
+use Rattle.ivy_host.specs.stated.Managers.{Managed, managed_ops}
+use Rattle.ivy_host.specs.stated.Openings.{first_node}
 use Rattle.ivy_site.specs.SiteView.{SiteView}
-use Rattle.ivy_join.specs.declared.playing.Outcome.{Outcome}
-use Rattle.ivy_join.specs.declared.playing.Outcome.TheVariants.{Made, Waits, Never}
-use Rattle.ivy_join.specs.Joining.{events_at, CanBeTaken, Sends}
+use Rattle.ivy_join.specs.declared.replay_entry.Outcome.{Outcome}
+use Rattle.ivy_join.specs.declared.replay_entry.Outcome.TheVariants.{Made, Waits, Never}
+use Rattle.ivy_join.specs.ReplaySites.{events_at, Sends}
+use Rattle.ivy_join.specs.Remade.{CanTake}
 
 -- a pulse of node i goes to another one of so many nodes
 abbrev pub IsToOther : ℕ → ℕ → Mark → Type 0
@@ -53,59 +55,66 @@ pub record HasSent (sent : List (List ℕ)) (s : SiteView) : Type 0 where
 abbrev pub HaveSent : List (List ℕ) → List SiteView → Type 0
 HaveSent sent sites = (i : ℕ) (s : SiteView) → slice_get sites i ≡ Some s → HasSent sent s
 
--- the site in this place made the event, and the others none; what it sent is among the strings
-pub record IsMadeAt (node : ℕ) (e : Event) (old new : List SiteView) (sent : List (List ℕ)) : Type 0
+-- the site in this place made these events, and the others none; what it sent is among the strings
+pub record IsMadeAt (node : ℕ) (ms : List Mark) (old new : List SiteView) (sent : List (List ℕ)) : Type 0
   where
     pub have : HaveSent sent new
-    pub here : events_at new node ≡ events_at old node ++ marks_of e
+    pub here : events_at new node ≡ events_at old node ++ ms
     pub elsewhere : (i : ℕ) → i ≢ node → events_at new i ≡ events_at old i
 
--- the site in this place can't make the event
-abbrev pub IsNeverAt : ℕ → Event → List SiteView → Type 0
-IsNeverAt node event sites = (s : SiteView) → slice_get sites node ≡ Some s
-    → NeverHappen s.config s.me s.node (marks_of event)
+-- the site in this place can't make these events
+abbrev pub IsNeverAt : ℕ → List Mark → List SiteView → Type 0
+IsNeverAt node ms sites = (s : SiteView) → slice_get sites node ≡ Some s
+    → NeverHappen s.config s.me s.node ms
 
--- the string that the event delivers is none of these, and all is as it was
-pub record IsWaiting (e : Event) (old new : List SiteView) (sent sent' : List (List ℕ)) : Type 0 where
-  pub unsent : CanBeTaken sent e → ⊥
-  pub sites : new ≡ old
-  pub strings : sent' ≡ sent
+-- nor the event of the entry; of a call that is not made nothing is said, and an answer is always passed over
+abbrev pub IsNeverBy : ℕ → LogEntry → List SiteView → Type 0
+IsNeverBy node (Did event) sites = IsNeverAt node (marks_of event) sites
+IsNeverBy node (Asked call) sites = Unit {0}
+IsNeverBy node (Answered answer) sites = ⊥
 
--- what became of the event
-abbrev pub CameTo : ℕ → Event → List SiteView → List SiteView → List (List ℕ) → List (List ℕ)
+-- the string that the entry delivers is none of these, and all is as it was
+pub record IsWaiting (entry : LogEntry) (old new : List SiteView) (sent sent' : List (List ℕ)) : Type 0
+  where
+    pub unsent : CanTake sent entry → ⊥
+    pub sites : new ≡ old
+    pub strings : sent' ≡ sent
+
+-- what became of the entry
+abbrev pub CameTo : ℕ → LogEntry → List SiteView → List SiteView → List (List ℕ) → List (List ℕ)
     → Outcome → Type 0
-CameTo node event old new sent sent' Made = IsMadeAt node event old new sent'
-CameTo node event old new sent sent' Waits = IsWaiting event old new sent sent'
-CameTo node event old new sent sent' Never = IsNeverAt node event old
+CameTo node entry old new sent sent' Made = IsMadeAt node (marks (event_in entry)) old new sent'
+CameTo node entry old new sent sent' Waits = IsWaiting entry old new sent sent'
+CameTo node entry old new sent sent' Never = IsNeverBy node entry old
 
--- so many events of the log were made, and these are they
-pub record IsMadeTo (log : List Event) (made : ℕ) (events : List Mark) : Type 0 where
+-- so many entries of the log were made, and these are their events
+pub record IsMadeTo (log : List LogEntry) (made : ℕ) (events : List Mark) : Type 0 where
   pub few : made ≤ length log
-  pub are : events ≡ marks (take made log)
+  pub are : events ≡ marks (events_in (take made log))
 
 -- so it is of each log, at the site of its place
-abbrev pub AreMadeTo : List (List Event) → List ℕ → List SiteView → Type 0
-AreMadeTo logs made sites = (i : ℕ) (log : List Event) (m : ℕ) → slice_get logs i ≡ Some log
+abbrev pub AreMadeTo : List (List LogEntry) → List ℕ → List SiteView → Type 0
+AreMadeTo logs made sites = (i : ℕ) (log : List LogEntry) (m : ℕ) → slice_get logs i ≡ Some log
     → slice_get made i ≡ Some m → IsMadeTo log m (events_at sites i)
 
--- nothing is left of the log, or its next event delivers a string that is none of these
-abbrev pub IsStuck : List (List ℕ) → List Event → Type 0
+-- nothing is left of the log, or its next entry delivers a string that is none of these
+abbrev pub IsStuck : List (List ℕ) → List LogEntry → Type 0
 IsStuck sent [] = Unit {0}
-IsStuck sent (event ∷ rest) = CanBeTaken sent event → ⊥
+IsStuck sent (entry ∷ rest) = CanTake sent entry → ⊥
 
 -- so it is of each log behind what was made of it
-abbrev pub AreStuck : List (List ℕ) → List (List Event) → List ℕ → Type 0
-AreStuck sent logs made = (i : ℕ) (log : List Event) (m : ℕ) → slice_get logs i ≡ Some log
+abbrev pub AreStuck : List (List ℕ) → List (List LogEntry) → List ℕ → Type 0
+AreStuck sent logs made = (i : ℕ) (log : List LogEntry) (m : ℕ) → slice_get logs i ≡ Some log
     → slice_get made i ≡ Some m → IsStuck sent (drop m log)
 
--- how many events of the logs are not made yet
-abbrev pub left_of : List (List Event) → List ℕ → ℕ
+-- how many entries of the logs are not made yet
+abbrev pub left_of : List (List LogEntry) → List ℕ → ℕ
 left_of [] made = 0
 left_of (log ∷ logs) [] = 0
 left_of (log ∷ logs) (m ∷ made) = (length log - m) + left_of logs made
 
 -- a node's log was gone on with; where it was not, it is stuck, and all is as it was
-pub record PlaysTo (node : ℕ) (log : List Event) (made made' : ℕ) (old new : List SiteView)
+pub record PlaysTo (node : ℕ) (log : List LogEntry) (made made' : ℕ) (old new : List SiteView)
     (sent sent' : List (List ℕ)) (went : Bool) : Type 0 where
   pub have : HaveSent sent' new
   pub here : IsMadeTo log made' (events_at new node)
@@ -117,7 +126,7 @@ pub record PlaysTo (node : ℕ) (log : List Event) (made made' : ℕ) (old new :
   pub stuck : went ≡ false → IsStuck sent (drop made log)
 
 -- each log was gone on with; where none was, all are stuck
-pub record PlaysAll (logs : List (List Event)) (made made' : List ℕ) (new : List SiteView)
+pub record PlaysAll (logs : List (List LogEntry)) (made made' : List ℕ) (new : List SiteView)
     (sent' : List (List ℕ)) (went : Bool) : Type 0 where
   pub have : HaveSent sent' new
   pub each : AreMadeTo logs made' new
@@ -125,14 +134,14 @@ pub record PlaysAll (logs : List (List Event)) (made made' : List ℕ) (new : Li
   pub stuck : went ≡ false → AreStuck sent' logs made'
 
 -- each log was made to its end
-abbrev pub AreAllMade : List (List Event) → List ℕ → Type 0
-AreAllMade logs made = (i : ℕ) (log : List Event) (m : ℕ) → slice_get logs i ≡ Some log
+abbrev pub AreAllMade : List (List LogEntry) → List ℕ → Type 0
+AreAllMade logs made = (i : ℕ) (log : List LogEntry) (m : ℕ) → slice_get logs i ≡ Some log
     → slice_get made i ≡ Some m → length log ≤ m
 
 -- one of them was not
-pub record IsOneLeft (logs : List (List Event)) (made : List ℕ) : Type 0 where
+pub record IsOneLeft (logs : List (List LogEntry)) (made : List ℕ) : Type 0 where
   pub node : ℕ
-  pub log : List Event
+  pub log : List LogEntry
   pub there : slice_get logs node ≡ Some log
   pub made_of : ℕ
   pub was : slice_get made node ≡ Some made_of

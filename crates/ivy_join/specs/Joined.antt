@@ -1,19 +1,19 @@
 -- What logs come to that are the parts of one run.
 use Rattle.std.specs.Prelude.{◌≡◌, ℕ, ◌+◌, List, [], ◌∷◌, length, slice_get, Option, Some, None}
 use Rattle.ivy_model.specs.declared.Config.{Config}
-use Rattle.ivy_lines.specs.declared.log.Head.{Head}
+use Rattle.ivy_logs.specs.declared.log.LogHead.{LogHead}
 use Rattle.ivy_moves.specs.Marks.{Mark}
 use Rattle.ivy_moves.specs.Parts.{AreParts}
-use Rattle.ivy_moves.specs.Worlds.{World}
-use Rattle.ivy_site.specs.ivy_host.Hosts.{Host, host_rules}
-use Rattle.ivy_site.specs.ivy_host.Managers.{Managed, managed_ops}
-use Rattle.ivy_site.specs.ivy_host.Openings.{opening}
+use Rattle.ivy_moves.specs.stated.Worlds.{World}
+use Rattle.ivy_host.specs.stated.Hosts.{Host, host_rules}
+use Rattle.ivy_host.specs.stated.Managers.{Managed, managed_ops}
+use Rattle.ivy_host.specs.stated.Openings.{opening}
 use Rattle.ivy_site.specs.SiteView.{SiteView}
-use Rattle.proof_headline.specs.Keeping.{Keeps}
-use Rattle.proof_headline.specs.RunState.{Run}
-use Rattle.ivy_program.specs.Programs.{Program}
-use Rattle.ivy_join.specs.declared.unjoined.Unjoined.{Unjoined}
-use Rattle.ivy_join.specs.declared.unjoined.Unjoined.TheVariants.{NotSent, NoSuchEvent, OtherEvents, OtherAnswers}
+use Rattle.proof_worlds.specs.stated.Keeping.{Keeps}
+use Rattle.proof_worlds.specs.stated.RunState.{Run}
+use Rattle.ivy_program.specs.stated.Programs.{Program}
+use Rattle.ivy_join.specs.declared.failure.Unjoined.{Unjoined}
+use Rattle.ivy_join.specs.declared.failure.Unjoined.TheVariants.{NotSent, NoSuchEvent, OtherAnswers}
 
 -- the events of node i, by the lists of all nodes
 abbrev pub list_of : Option (List Mark) → List Mark
@@ -24,7 +24,7 @@ abbrev pub part_in : List (List Mark) → ℕ → List Mark
 part_in lists i = list_of (slice_get lists i)
 
 -- each log names this configuration and the node of its place, counted from here
-abbrev pub AreHeads : Config → ℕ → List Head → Type 0
+abbrev pub AreHeads : Config → ℕ → List LogHead → Type 0
 AreHeads c i [] = Unit {0}
 AreHeads c i (h ∷ hs) = (h ≡ record { me = i; config = c }) × AreHeads c (i + 1) hs
 
@@ -55,6 +55,5 @@ module _ (c : Config) (programs : List Program) where
 abbrev pub SaysNoParts : Unjoined → Type 0
 SaysNoParts (NotSent node line) = Unit {0}
 SaysNoParts (NoSuchEvent node line) = Unit {0}
-SaysNoParts (OtherEvents node) = Unit {0}
 SaysNoParts (OtherAnswers node) = Unit {0}
 SaysNoParts why = ⊥

@@ -1,9 +1,7 @@
-pub mod Joining
+pub mod ReplaySites
 pub mod Joined
 pub mod Exact
 pub mod Latest
-pub mod Owned
+pub mod OwnJoined
 pub mod Remade
-pub use Rattle.ivy_lines.specs as ivy_lines
-pub use Rattle.ivy_pagetable.specs as ivy_pagetable
-pub use Rattle.ivy_site.specs as ivy_site
+pub mod Calls

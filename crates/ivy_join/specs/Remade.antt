@@ -1,23 +1,23 @@
--- A site with own code that is made again from its own log.
+-- A site that is made again from its own log.
 use Rattle.std.specs.Prelude.{◌≡◌, ℕ, List, ◌++◌}
-use Rattle.ivy_lines.specs.declared.own.Entry.TheVariants.{Did, Asked, Answered}
-use Rattle.ivy_lines.specs.Own.{Entry, calls_in, events_in}
+use Rattle.ivy_logs.specs.declared.entry.LogEntry.TheVariants.{Did, Asked, Answered}
+use Rattle.ivy_logs.specs.Entries.{LogEntry, calls_in, events_in}
 use Rattle.ivy_moves.specs.Marks.{marks}
 use Rattle.ivy_moves.specs.Parts.{AllCanBeMade}
 use Rattle.ivy_program.specs.Programs.{handed, one_by_one}
 use Rattle.ivy_site.specs.SiteView.{SiteView}
 use Rattle.ivy_site.specs.Sites.{IsMadeByEvents}
-use Rattle.ivy_join.specs.Joining.{program_in, CanBeTaken}
+use Rattle.ivy_join.specs.ReplaySites.{program_in, CanBeTaken}
 
 -- a string that the entry delivers is one of these
-abbrev pub CanTake : List (List ℕ) → Entry → Type 0
+abbrev pub CanTake : List (List ℕ) → LogEntry → Type 0
 CanTake sent (Did event) = CanBeTaken sent event
 CanTake sent (Asked call) = Unit {0}
 CanTake sent (Answered answer) = Unit {0}
 
 -- the site went on by the events of the entries, and its code made their calls; what was delivered to the site is
 -- among these strings
-pub record GoesOnByEntries (sent : List (List ℕ)) (entries : List Entry) (old new : SiteView) : Type 0 where
+pub record GoesOnByEntries (sent : List (List ℕ)) (entries : List LogEntry) (old new : SiteView) : Type 0 where
   pub me : new.me ≡ old.me
   pub config : new.config ≡ old.config
   pub program : program_in new ≡ handed (one_by_one (calls_in entries)) (program_in old)
@@ -26,7 +26,7 @@ pub record GoesOnByEntries (sent : List (List ℕ)) (entries : List Entry) (old 
 
 -- from its first event the site went on by those of the log, and by no other one, its code made the calls of the
 -- log, and no other one, and the site is what its events make of it
-pub record IsMadeByOwnLog (log : List Entry) (old new : SiteView) : Type 0 where
+pub record IsMadeByLog (log : List LogEntry) (old new : SiteView) : Type 0 where
   pub me : new.me ≡ old.me
   pub config : new.config ≡ old.config
   pub program : program_in new ≡ handed (one_by_one (calls_in log)) (program_in old)

@@ -1,7 +1,7 @@
 //! What logs come to that are the parts of one run.
 ghost use Rattle.std.specs.Prelude.{◌≡◌, ◌<◌, ◌↔◌, IfSome, IsTrue, length, slice_get};
-ghost use Rattle.ivy_program.specs.Steps.{HasEnded};
-ghost use Rattle.ivy_join.specs.Joining.{AreKept};
+ghost use Rattle.ivy_program.specs.InstructionSteps.{HasEnded};
+ghost use Rattle.ivy_join.specs.ReplaySites.{AreKept};
 
 use ivy_model::{Call, Record};
 use ivy_site::Site;
@@ -25,8 +25,8 @@ impl<A: Allocator> Model for Joined<A> {
     ghost use Rattle.std.specs.Prelude.{List};
     ghost use Rattle.ivy_site.specs.SiteView.{SiteView};
     ghost use Rattle.std.specs.Coded.{codes};
-    ghost use Rattle.ivy_pagetable.specs.NodeSets.{nodes_code};
-    ghost use Rattle.ivy_site.specs.ivy_alloc.Heap.{heap_state_code};
+    ghost use Rattle.ivy_pagetable.specs.stated.NodeSets.{nodes_code};
+    ghost use Rattle.ivy_alloc.specs.Heap.{heap_state_code};
 
     ghost Value = { List SiteView };
 
@@ -34,7 +34,7 @@ impl<A: Allocator> Model for Joined<A> {
 
     ghost view = { λ j. j.sites.items };
 
-    ghost use Rattle.ivy_join.specs.Joining.{AreKept};
+    ghost use Rattle.ivy_join.specs.ReplaySites.{AreKept};
 
     ghost invariant = { λ j. AreKept j.sites.items };
 }

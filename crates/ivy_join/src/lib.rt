@@ -1,4 +1,4 @@
-//! Logs of nodes that ran in processes of their own, joined: whether they are the parts of one run.
+//! Logs of separate processes, made again together: whether they are the parts of one run.
 //!
 //! Each node's events are made again at a site, each delivery once its string was sent by some node. So what every run
 //! promises holds of what happened, over whatever wire the nodes had.
@@ -6,21 +6,17 @@
 //! In a comment, numbers in brackets as [1, 2] are the fault numbers that a call may answer.
 #![tactic(auto)]
 
-mod calling;
+mod failure;
+mod join_logs;
 mod joined;
-mod making;
-mod merging;
-mod owned;
-mod playing;
-mod remaking;
+mod replay_entry;
+mod replay_event;
+mod replay_log;
+mod restart;
 mod strings;
-mod unjoined;
 
-pub use ivy_lines;
-pub use ivy_site;
+pub use failure::Unjoined;
+pub use join_logs::{join, join_own};
 pub use joined::Joined;
-pub use making::make;
-pub use merging::join;
-pub use owned::join_own;
-pub use remaking::{NotPlayed, replay, replay_own};
-pub use unjoined::Unjoined;
+pub use replay_event::make;
+pub use restart::{NotPlayed, replay};

@@ -1,6 +1,6 @@
 //! The strings that nodes sent, found by their bytes.
 ghost use Rattle.std.specs.Prelude.{◌≡◌, ◌↔◌, [], IsTrue, OnOk, Contains};
-ghost use Rattle.ivy_join.specs.Joining.{AddsOne};
+ghost use Rattle.ivy_join.specs.ReplaySites.{AddsOne};
 ghost use Rattle.ivy_join.specs.Latest.{hash_of};
 
 use ivy_wire::Bytes;

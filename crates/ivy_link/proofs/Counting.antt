@@ -9,8 +9,8 @@ use Rattle.std.proofs.lemmas.List.Sums.{sum_by-cons, sum_by-take-le, count_by-le
 use Rattle.std.proofs.lemmas.Grind.{get_or-set_at}
 use Rattle.std.proofs.Math.ListN.{set}
 use Rattle.std.specs.List.{slice_get}
-use Rattle.ivy_wire.specs.Data.{Parcel}
-use Rattle.ivy_link.specs.Linked.{Linked, peer_at, with_message, sent_one, after_sends, frame_of, frames_of, has_numbers, AreWithin}
+use Rattle.ivy_wire.specs.stated.Data.{Parcel}
+use Rattle.ivy_link.specs.stated.Linked.{Linked, peer_at, with_message, sent_one, after_sends, frame_of, frames_of, has_numbers, AreWithin}
 use Rattle.ivy_link.specs.Sides.{Sided, side_at, count_to}
 use Rattle.ivy_link.proofs.Peers.{at-with, IsAfter, sends-after, within-head, within-rest}
 

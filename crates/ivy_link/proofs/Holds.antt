@@ -7,11 +7,11 @@ use Rattle.std.proofs.lemmas.List.{get_or-set_other, get_or_past, set_past}
 use Rattle.std.proofs.lemmas.Grind.{get_or-set_at}
 use Rattle.std.proofs.lemmas.Option.{none-some}
 use Rattle.std.proofs.Math.ListN.{set}
-use Rattle.ivy_wire.specs.Data.{Parcel}
+use Rattle.ivy_wire.specs.stated.Data.{Parcel}
 use Rattle.ivy_wire.specs.declared.frame.Frame as frame
-use Rattle.ivy_link.specs.Linked.{Peer, Linked, fresh, peer_at, with_message, sent_one, after_sends}
-use Rattle.ivy_link.specs.Accepted.{verdict_on, delivered_then, heard, offered, accepted}
-use Rattle.ivy_link.specs.Pulsed.{owing_nothing, after_pulse}
+use Rattle.ivy_link.specs.stated.Linked.{Peer, Linked, fresh, peer_at, with_message, sent_one, after_sends}
+use Rattle.ivy_link.specs.stated.Accepted.{verdict_on, delivered_then, heard, offered, accepted}
+use Rattle.ivy_link.specs.stated.Pulsed.{owing_nothing, after_pulse}
 use Rattle.ivy_link.specs.Windows.{Window, place_at, shifted}
 use Rattle.ivy_link.specs.Holding.{window_of}
 use Rattle.ivy_link.proofs.Peers.{at-with, accepted-mine}

@@ -7,3 +7,5 @@ pub mod Pairs
 pub mod Making
 pub mod Orderly
 pub mod Holds
+pub mod Fits
+pub mod Boxes

@@ -4,10 +4,10 @@ use Rattle.std.proofs.lemmas.Bool.{cases_eq, cond_both}
 use Rattle.std.proofs.lemmas.List.{length-set, length-append, append-nil, take-append-drop}
 use Rattle.std.proofs.lemmas.List.Elements.{All-nil, All-cons, All-head, All-tail, All-weaker}
 use Rattle.std.specs.List.{slice_get}
-use Rattle.ivy_wire.specs.Data.{Message, Frame, Parcel}
-use Rattle.ivy_link.specs.Linked.{Peer, Linked, peer_at, with_message, sent_one, frame_of, frames_of}
-use Rattle.ivy_link.specs.Pulsed.{numbered, ack_alone, frames_of_pulse, frames_again}
-use Rattle.ivy_link.specs.Paired.{link_at, posted, extended, IsParcelOf, IsEnd, IsPaired, IsBody, IsMade}
+use Rattle.ivy_wire.specs.stated.Data.{Message, Frame, Parcel}
+use Rattle.ivy_link.specs.stated.Linked.{Peer, Linked, peer_at, with_message, sent_one, frame_of, frames_of}
+use Rattle.ivy_link.specs.stated.Pulsed.{numbered, ack_alone, frames_of_pulse, frames_again}
+use Rattle.ivy_link.specs.stated.Paired.{link_at, posted, extended, IsParcelOf, IsEnd, IsPaired, IsBody, IsMade}
 use Rattle.ivy_link.proofs.Peers.{at-with}
 use Rattle.ivy_link.proofs.Pairs.{posted-here, posted-other, get-seam}
 

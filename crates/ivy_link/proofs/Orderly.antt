@@ -7,13 +7,13 @@ use Rattle.std.proofs.lemmas.List.{length-set, length-replicate, take-append-dro
 use Rattle.std.proofs.lemmas.List.Elements.{All-nil, All-append, All-weaker, All-contains}
 use Rattle.std.proofs.Math.ListN.{set}
 use Rattle.std.specs.List.{slice_get}
-use Rattle.ivy_wire.specs.Data.{Message, Frame, Parcel}
+use Rattle.ivy_wire.specs.stated.Data.{Message, Frame, Parcel}
 use Rattle.ivy_link.specs.declared.verdict.Verdict.{Verdict}
 use Rattle.ivy_link.specs.declared.verdict.Verdict.TheVariants.{Next, Repeat, Ahead, NotMine}
-use Rattle.ivy_link.specs.Linked.{Peer, Linked, fresh, first_link, peer_at, after_sends}
-use Rattle.ivy_link.specs.Accepted.{verdict_on, offered, delivered_then, heard, accepted}
-use Rattle.ivy_link.specs.Pulsed.{owing_nothing, after_pulse}
-use Rattle.ivy_link.specs.Paired.{link_at, posted, extended, IsBeginning, IsPaired, IsMade}
+use Rattle.ivy_link.specs.stated.Linked.{Peer, Linked, fresh, first_link, peer_at, after_sends}
+use Rattle.ivy_link.specs.stated.Accepted.{verdict_on, offered, delivered_then, heard, accepted}
+use Rattle.ivy_link.specs.stated.Pulsed.{owing_nothing, after_pulse}
+use Rattle.ivy_link.specs.stated.Paired.{link_at, posted, extended, IsBeginning, IsPaired, IsMade}
 use Rattle.ivy_link.specs.InOrder.{LinkNet, Action, Send, Accept, Pulse, MayDo, handed, done, all_done, MayDoAll, links_from, first_net, DeliversInOrder}
 use Rattle.ivy_link.proofs.Peers.{at-with, accepted-mine, accepted-other}
 use Rattle.ivy_link.proofs.Pairs.{link_at-with, sent_to, sends-paired, accepted-paired, pulsed-paired, next-first, made-longer}

@@ -7,13 +7,13 @@ use Rattle.std.proofs.lemmas.Option.{slice_get_within}
 use Rattle.std.proofs.lemmas.Grind.{get_or-set_at}
 use Rattle.std.proofs.Math.ListN.{set}
 use Rattle.std.specs.List.{slice_get}
-use Rattle.ivy_wire.specs.Data.{Message, Frame, Parcel}
+use Rattle.ivy_wire.specs.stated.Data.{Message, Frame, Parcel}
 use Rattle.ivy_link.specs.declared.verdict.Verdict.{Verdict}
 use Rattle.ivy_link.specs.declared.verdict.Verdict.TheVariants.{Next, Repeat, Ahead, NotMine}
-use Rattle.ivy_link.specs.Linked.{Peer, Linked, fresh, first_link, peer_at, with_peer, with_message, sent_one, after_sends}
-use Rattle.ivy_link.specs.Accepted.{verdict_on, offered, still_kept, delivered_then, heard, accepted}
-use Rattle.ivy_link.specs.Pulsed.{owing_nothing, after_pulse}
-use Rattle.ivy_link.specs.Paired.{link_at, posted, extended, IsParcelOf, IsEnd, IsPaired, IsBody, IsMade}
+use Rattle.ivy_link.specs.stated.Linked.{Peer, Linked, fresh, first_link, peer_at, with_peer, with_message, sent_one, after_sends}
+use Rattle.ivy_link.specs.stated.Accepted.{verdict_on, offered, still_kept, delivered_then, heard, accepted}
+use Rattle.ivy_link.specs.stated.Pulsed.{owing_nothing, after_pulse}
+use Rattle.ivy_link.specs.stated.Paired.{link_at, posted, extended, IsParcelOf, IsEnd, IsPaired, IsBody, IsMade}
 use Rattle.ivy_link.proofs.Peers.{at-with, accepted-mine, accepted-other}
 
 -- reading one link of many after a change

@@ -8,7 +8,7 @@ use Rattle.std.proofs.lemmas.Option.{slice_get-get_or}
 use Rattle.std.specs.Borrow.{Bor}
 use Rattle.std.specs.List.{slice_get}
 use Rattle.std.specs.Option.{IfSome}
-use Rattle.ivy_model.specs.Limits.{most_nodes}
+use Rattle.ivy_model.specs.stated.Limits.{most_nodes}
 use Rattle.ivy_wire.specs.declared.parcel.Parcel as parcel
 use Rattle.ivy_wire.specs.Lent.{owned_parcel}
 use Rattle.ivy_link.specs.Sides.{count_to, IsCountOf}

@@ -5,10 +5,10 @@ use Rattle.std.proofs.lemmas.List.{get_or-set_other, get_or-map, set-get_or, len
 use Rattle.std.proofs.lemmas.Grind.{get_or-set_at}
 use Rattle.std.proofs.Math.ListN.{set}
 use Rattle.std.proofs.Math.ListN as lists
-use Rattle.ivy_wire.specs.Data.{Parcel}
-use Rattle.ivy_link.specs.Linked.{Peer, Linked, fresh, first_link, peer_at, with_peer, with_message, sent_one, after_sends, AreWithin}
+use Rattle.ivy_wire.specs.stated.Data.{Parcel}
+use Rattle.ivy_link.specs.stated.Linked.{Peer, Linked, fresh, first_link, peer_at, with_peer, with_message, sent_one, after_sends, AreWithin}
 use Rattle.ivy_wire.specs.declared.frame.Frame as frame
-use Rattle.ivy_link.specs.Accepted.{accepted, verdict_on, heard}
+use Rattle.ivy_link.specs.stated.Accepted.{accepted, verdict_on, heard}
 use Rattle.ivy_link.specs.Sides.{Sided, peer_of, held_of, linked, seen}
 use Rattle.ivy_link.specs.declared.verdict.Verdict.TheVariants.{NotMine}
 use Rattle.ivy_link.specs.Windows.{Window, first_window, can_hold, place_of, with_string, moved_by}

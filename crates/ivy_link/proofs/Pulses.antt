@@ -2,9 +2,9 @@
 use Rattle.std.proofs.Common.{◌≡◌, ℕ, ◌+◌, ◌-◌, ◌<◌, List, [], ◌∷◌, ◌++◌, length, get_or, take, sym, ap, ◌∙◌, arith, Some, min, inl, inr}
 use Rattle.std.proofs.lemmas.Bool.{cases_lt}
 use Rattle.std.proofs.lemmas.List.{take_more, take_all, length-take}
-use Rattle.ivy_wire.specs.Data.{Message, Frame}
-use Rattle.ivy_link.specs.Linked.{Peer}
-use Rattle.ivy_link.specs.Pulsed.{numbered, repeated}
+use Rattle.ivy_wire.specs.stated.Data.{Message, Frame}
+use Rattle.ivy_link.specs.stated.Linked.{Peer}
+use Rattle.ivy_link.specs.stated.Pulsed.{numbered, repeated}
 
 pub numbered-append : (me to ack first : ℕ) (ms ns : List Message)
     → numbered me to ack first (ms ++ ns)

@@ -9,9 +9,9 @@ use Rattle.std.specs.Borrow.{Bor}
 use Rattle.std.specs.List.{slice_get}
 use Rattle.ivy_wire.specs.declared.parcel.Parcel as parcel
 use Rattle.ivy_wire.specs.declared.frame.Content.TheVariants.{ReadReq}
-use Rattle.ivy_wire.specs.Data.{Message, Parcel}
+use Rattle.ivy_wire.specs.stated.Data.{Message, Parcel}
 use Rattle.ivy_wire.specs.Lent.{owned_parcel}
-use Rattle.ivy_link.specs.Linked.{Peer, Linked, fresh, peer_at, with_message, sent_one, after_sends, frames_of, has_numbers, AreWithin}
+use Rattle.ivy_link.specs.stated.Linked.{Peer, Linked, fresh, peer_at, with_message, sent_one, after_sends, frames_of, has_numbers, AreWithin}
 use Rattle.ivy_link.specs.Sides.{Sided, peer_of, message_of, linked, side_at, count_to, HasRoomFor}
 use Rattle.ivy_link.proofs.Peers.{within-head, within-rest, with_side, view-length}
 use Rattle.ivy_link.proofs.Counting.{count-here, count_other, count-part, has-number, numbers-within, numbers-spent, frame_at}

@@ -1,13 +1,13 @@
 -- A link with the strings that it holds: what was said of a link, said of the two together, and
 -- what holding adds.
 use Rattle.std.specs.Prelude.{ℕ, ◌==◌, ◌&&◌, Bool, List, [], replicate, slice_index_or, slice_set, Option, Some, None, if◌then◌else◌}
-use Rattle.ivy_wire.specs.Data.{Frame, Parcel}
+use Rattle.ivy_wire.specs.stated.Data.{Frame, Parcel}
 use Rattle.ivy_wire.specs.declared.frame.Frame as frame
 use Rattle.ivy_link.specs.declared.verdict.Verdict.{Verdict}
-use Rattle.ivy_link.specs.Linked as linked
-use Rattle.ivy_link.specs.Linked.{Peer, Linked, peer_at}
-use Rattle.ivy_link.specs.Accepted as accepting
-use Rattle.ivy_link.specs.Pulsed as pulsing
+use Rattle.ivy_link.specs.stated.Linked as linked
+use Rattle.ivy_link.specs.stated.Linked.{Peer, Linked, peer_at}
+use Rattle.ivy_link.specs.stated.Accepted as accepting
+use Rattle.ivy_link.specs.stated.Pulsed as pulsing
 use Rattle.ivy_link.specs.Windows.{Window, first_window, place_at, place_of, with_string, without_first, moved_by}
 use Rattle.ivy_link.specs.Windows as windows
 

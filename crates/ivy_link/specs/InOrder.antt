@@ -1,13 +1,13 @@
 -- In a network that loses, repeats and reorders frames, each node is given what another one sent
 -- it, in the order sent.
 use Rattle.std.specs.Prelude.{◌≡◌, ◌≢◌, ℕ, zero, suc, ◌<◌, List, [], ◌∷◌, ◌++◌, All, Contains, length, slice_set, true, ◌&&◌, ◌==◌, option_to_list, if◌then◌else◌}
-use Rattle.ivy_wire.specs.Data.{Message, Frame, Parcel}
+use Rattle.ivy_wire.specs.stated.Data.{Message, Frame, Parcel}
 use Rattle.ivy_link.specs.declared.verdict.Verdict.{Verdict}
 use Rattle.ivy_link.specs.declared.verdict.Verdict.TheVariants.{Next, Repeat, Ahead, NotMine}
-use Rattle.ivy_link.specs.Linked.{Linked, first_link, after_sends, frames_of, has_numbers}
-use Rattle.ivy_link.specs.Accepted.{offered, accepted}
-use Rattle.ivy_link.specs.Pulsed.{after_pulse, frames_again}
-use Rattle.ivy_link.specs.Paired.{link_at, extended, IsParcelOf, IsBeginning}
+use Rattle.ivy_link.specs.stated.Linked.{Linked, first_link, after_sends, frames_of, has_numbers}
+use Rattle.ivy_link.specs.stated.Accepted.{offered, accepted}
+use Rattle.ivy_link.specs.stated.Pulsed.{after_pulse, frames_again}
+use Rattle.ivy_link.specs.stated.Paired.{link_at, extended, IsParcelOf, IsBeginning}
 
 -- the links of all nodes, the frames ever made, and what was sent and delivered from each node to
 -- each other

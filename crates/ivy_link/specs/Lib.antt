@@ -1,12 +1,7 @@
-pub mod Limits
-pub mod Linked
-pub mod Accepted
-pub mod Pulsed
-pub use Rattle.ivy_model.specs.Wants
-pub use Rattle.ivy_wire.specs.Data
-pub use Rattle.ivy_wire.specs.Lent
-pub mod Paired
+pub mod stated
 pub mod InOrder
 pub mod Windows
 pub mod Sides
 pub mod Holding
+pub mod Fitting
+pub mod Outboxes

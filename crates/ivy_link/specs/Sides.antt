@@ -1,9 +1,9 @@
 -- What contracts see of a link's side to one node: what it knows, for how many more messages it has
 -- room, and the strings that it holds.
 use Rattle.std.specs.Prelude.{◌≡◌, ℕ, ◌<◌, ◌≤◌, ◌==◌, List, length, map, slice_index_or, count_by}
-use Rattle.ivy_model.specs.Limits.{most_nodes}
-use Rattle.ivy_wire.specs.Data.{Message, Parcel}
-use Rattle.ivy_link.specs.Linked.{Peer, Linked, fresh}
+use Rattle.ivy_model.specs.stated.Limits.{most_nodes}
+use Rattle.ivy_wire.specs.stated.Data.{Message, Parcel}
+use Rattle.ivy_link.specs.stated.Linked.{Peer, Linked, fresh}
 use Rattle.ivy_link.specs.Windows.{Window, first_window}
 use Rattle.ivy_link.specs.Holding.{Holding, holding}
 

@@ -3,7 +3,7 @@
 use Rattle.std.specs.Prelude.{ℕ, ◌-◌, List, [], ◌∷◌, ◌++◌, drop, replicate, slice_index_or, slice_set, Bool, ◌&&◌, nat_lt, is_none, Option, Some, None}
 use Rattle.ivy_link.specs.declared.verdict.Verdict.{Verdict}
 use Rattle.ivy_link.specs.declared.verdict.Verdict.TheVariants.{Next, Repeat, Ahead, NotMine}
-use Rattle.ivy_link.specs.Limits.{most_ahead}
+use Rattle.ivy_link.specs.stated.LinkLimits.{most_ahead}
 
 -- a place for the string of each number that follows those delivered, in order
 abbrev pub Window : Type 0

@@ -3,7 +3,7 @@ ghost use Rattle.std.specs.Prelude.{◌≡◌, [], ◌∷◌, ◌++◌, length, 
 ghost use Rattle.ivy_wire.specs.Lent.{owned_parcel, owned_frame};
 ghost use Rattle.ivy_link.specs.Sides.{message_of};
 
-use ivy_wire::{Frame, Message, Page, Parcel};
+use ivy_wire::{Frame, Message, OwnedPage, Parcel};
 use std::alloc::{AllocError, Allocator};
 use std::collections::VecDeque;
 
@@ -22,7 +22,7 @@ pub(crate) fn add<'p, A: Allocator>(
 pub(crate) fn copies<A: Allocator + Copy>(
     alloc: A,
     parcels: &[Parcel<&[u8]>],
-) -> Result<VecDeque<Message<Page<A>>, A>, AllocError>
+) -> Result<VecDeque<Message<OwnedPage<A>>, A>, AllocError>
     ensures ok { IfOk result (λ copies. copies.items ≡ map message_of (map owned_parcel parcels.now)) }
     ensures sure { length parcels.now ≡ 0 → IsOk result }
 {
@@ -37,7 +37,7 @@ pub(crate) fn copies<A: Allocator + Copy>(
 pub(crate) fn copied<A: Allocator + Copy>(
     alloc: A,
     frames: &[Frame<&[u8]>],
-) -> Result<Vec<Frame<Page<A>>, A>, AllocError>
+) -> Result<Vec<Frame<OwnedPage<A>>, A>, AllocError>
     ensures ok { IfOk result (λ copies. copies.items ≡ map owned_frame frames.now) }
     ensures sure { length frames.now ≡ 0 → IsOk result }
 {

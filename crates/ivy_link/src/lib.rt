@@ -1,13 +1,14 @@
-//! A node's links to the other nodes over a network that loses, repeats and reorders frames.
+//! A node's links: numbers, acknowledgements, retransmission, and the frames that wait to be sent.
 //!
-//! A [`Link`] numbers the messages that its node sends each other one and keeps them until they are
-//! acknowledged, tells by its [`Verdict`] which frames carry the next message, and sends what is kept
-//! again. The strings of frames that came before their turn it can hold until those before them have come. So
-//! each node is given the messages of another one in the order in which they were sent, each once
-//! ([`delivers_in_order`]).
+//! A [`Link`] numbers the messages that its node sends each other one and keeps them until they are acknowledged, tells
+//! by its [`Verdict`] which frames carry the next message, and sends what is kept again. The strings of frames that
+//! came before their turn it can hold until those before them have come. So each node is given the messages of another
+//! one in the order in which they were sent, each once ([`delivers_in_order`]).
 //!
-//! Numbers in brackets at the end of a sentence, as in `[1, 17]`, are those of the faults that a call may
-//! answer ([`ivy_model::Fault::number`]).
+//! Numbers in brackets at the end of a sentence, as in `[1, 17]`, are those of the faults that a call may answer
+//! ([`ivy_model::Fault::number`]).
+//!
+//! The post of a node: its link, and the strings of the frames that wait to be put on the wire.
 #![tactic(auto)]
 
 mod counts;
@@ -15,6 +16,7 @@ mod keeping;
 mod lent;
 mod link;
 mod order;
+mod outbox;
 mod side;
 mod verdict;
 mod window;
@@ -22,5 +24,6 @@ mod window;
 pub use counts::Counts;
 pub use link::{Link, MOST_AGAIN};
 pub use order::delivers_in_order;
+pub use outbox::Outbox;
 pub use verdict::Verdict;
 pub use window::MOST_AHEAD;

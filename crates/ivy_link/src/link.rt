@@ -3,8 +3,8 @@ ghost use Rattle.std.specs.Prelude.{◌≡◌, ◌≢◌, ◌↔◌, ℕ, ◌<�
 ghost use Rattle.ivy_model.specs.Wants.{RanOut};
 ghost use Rattle.ivy_model.specs.declared.Fault.TheVariants.{Memory, NumbersSpent};
 ghost use Rattle.ivy_wire.specs.Lent.{owned_parcel, owned_frame};
-ghost use Rattle.ivy_link.specs.Linked.{peer_at};
-ghost use Rattle.ivy_link.specs.Pulsed.{repeated};
+ghost use Rattle.ivy_link.specs.stated.Linked.{peer_at};
+ghost use Rattle.ivy_link.specs.stated.Pulsed.{repeated};
 ghost use Rattle.ivy_link.specs.Sides.{IsCountOf};
 ghost use Rattle.ivy_link.specs.Holding.{link_of, first_holding, offered_at, accepted_at, after_sending, frames_for, has_numbers_for};
 ghost use Rattle.ivy_link.specs.Holding.{AreToPeers, frames_repeated, after_pulsing, after_hold, given_back, ready_of, after_taking};
@@ -15,7 +15,7 @@ use crate::lent::{add, copied, copies};
 use crate::side::Side;
 use crate::verdict::Verdict;
 use ivy_model::Fault;
-use ivy_wire::{Bytes, Frame, Page, Parcel};
+use ivy_wire::{Bytes, Frame, OwnedPage, Parcel};
 use std::alloc::{AllocError, Allocator};
 use std::marker::Model;
 
@@ -295,7 +295,7 @@ impl<A: Allocator + Copy> Link<A> {
 
     /// Sends again what is kept for the node, as [`Link::pulse_frames`] says, with copies of the pages
     /// [1]. A refused call leaves the link as it was, and one that gives no frame takes no memory.
-    pub fn pulse(&mut self, to: u8) -> Result<Vec<Frame<Page<A>>, A>, Fault>
+    pub fn pulse(&mut self, to: u8) -> Result<Vec<Frame<OwnedPage<A>>, A>, Fault>
         requires to { to < length self.old.peers }
         ensures ok { OnOk result (self.new ≡ after_pulsing self.old to) }
         ensures nodes { length self.new.peers ≡ length self.old.peers }

@@ -1,12 +1,12 @@
 //! What a link knows of one other node.
 ghost use Rattle.std.specs.Prelude.{◌≡◌, ◌↔◌, ◌+◌, ◌<◌, ◌≤◌, length, drop, Some, None, IsTrue, IfOk, OnOk, if◌then◌else◌};
-ghost use Rattle.ivy_link.specs.Limits.{greatest_number};
-ghost use Rattle.ivy_link.specs.Linked.{with_message};
+ghost use Rattle.ivy_link.specs.stated.LinkLimits.{greatest_number};
+ghost use Rattle.ivy_link.specs.stated.Linked.{with_message};
 ghost use Rattle.ivy_link.specs.Windows.{first_window, place_at, place_of, can_hold, with_string, without_first, moved_by};
 
 use crate::verdict::Verdict;
 use crate::window::Window;
-use ivy_wire::{Bytes, Message, Page};
+use ivy_wire::{Bytes, Message, OwnedPage};
 use std::alloc::{AllocError, Allocator};
 use std::collections::VecDeque;
 use std::marker::Model;
@@ -18,7 +18,7 @@ pub(crate) struct Side<A: Allocator> {
     /// How many messages were sent.
     sent: u64,
     /// The last ones of them: those not acknowledged yet.
-    kept: VecDeque<Message<Page<A>>, A>,
+    kept: VecDeque<Message<OwnedPage<A>>, A>,
     /// How many messages were delivered.
     delivered: u64,
     /// Whether an acknowledgement is owed.
@@ -40,9 +40,9 @@ impl<A: Allocator> Model for Side<A> {
 }
 
 impl<A: Allocator> Side<A> {
-    ghost use Rattle.ivy_link.specs.Linked.{fresh};
-    ghost use Rattle.ivy_link.specs.Accepted.{verdict_on, heard};
-    ghost use Rattle.ivy_link.specs.Pulsed.{owing_nothing};
+    ghost use Rattle.ivy_link.specs.stated.Linked.{fresh};
+    ghost use Rattle.ivy_link.specs.stated.Accepted.{verdict_on, heard};
+    ghost use Rattle.ivy_link.specs.stated.Pulsed.{owing_nothing};
 
     pub(crate) fn new(alloc: A) -> Result<Side<A>, AllocError>
     where
@@ -83,7 +83,7 @@ impl<A: Allocator> Side<A> {
         self.owed
     }
 
-    pub(crate) fn kept(&self) -> &VecDeque<Message<Page<A>>, A>
+    pub(crate) fn kept(&self) -> &VecDeque<Message<OwnedPage<A>>, A>
         ensures items { result.now.items ≡ self.now.peer.kept }
         ensures within { length self.now.peer.kept ≤ self.now.peer.sent }
     {
@@ -100,7 +100,7 @@ impl<A: Allocator> Side<A> {
     }
 
     /// One more message was sent: it is kept, in the room that was made, and nothing is owed.
-    pub(crate) fn keep(&mut self, message: Message<Page<A>>)
+    pub(crate) fn keep(&mut self, message: Message<OwnedPage<A>>)
         requires room { 1 ≤ self.old.room }
         requires number { self.old.peer.sent < greatest_number }
         ensures peer { self.new.peer ≡ with_message self.old.peer message }

@@ -1,6 +1,6 @@
 //! The strings of one node that came before their turn.
 ghost use Rattle.std.specs.Prelude.{◌≡◌, ◌<◌, Some, None, IfOk, IsTrue, if◌then◌else◌};
-ghost use Rattle.ivy_link.specs.Limits.{most_ahead};
+ghost use Rattle.ivy_link.specs.stated.LinkLimits.{most_ahead};
 ghost use Rattle.ivy_link.specs.Windows.{first_window, place_at, is_free, with_string, without_first, shifted};
 
 use ivy_wire::Bytes;

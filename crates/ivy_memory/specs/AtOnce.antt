@@ -4,14 +4,14 @@ use Rattle.ivy_model.specs.declared.Config.{Config}
 use Rattle.ivy_model.specs.declared.Record.{Record}
 use Rattle.ivy_model.specs.declared.Row.{Row}
 use Rattle.ivy_model.specs.declared.Row.TheVariants.{Stores}
-use Rattle.ivy_model.specs.Serves.{access_refusal}
+use Rattle.ivy_model.specs.stated.Serves.{access_refusal}
 use Rattle.ivy_pagetable.specs.Either.{MayBeUnmade}
-use Rattle.ivy_pagetable.specs.Manager.{Ops}
-use Rattle.ivy_pagetable.specs.Rows.{row_len}
+use Rattle.ivy_pagetable.specs.stated.Manager.{Ops}
+use Rattle.ivy_pagetable.specs.WordRows.{row_len}
 use Rattle.ivy_coherence.specs.Hits.{is_at_hand}
-use Rattle.ivy_heap.specs.declared.Answer.TheVariants.{Given}
+use Rattle.ivy_alloc.specs.declared.CallProgress.TheVariants.{Given}
 use Rattle.ivy_memory.specs.declared.asked.RowPlace.{RowPlace}
-use Rattle.ivy_memory.specs.Memories.{NodeMemory, call_begun}
+use Rattle.ivy_memory.specs.stated.Memories.{NodeMemory, call_begun}
 
 -- calls in a row, each of which is answered when it begins, whatever its number, and posts nothing
 abbrev pub AnswerAtOnce : {S : Type 0} → Ops S → List Record → NodeMemory S → NodeMemory S → Type 0

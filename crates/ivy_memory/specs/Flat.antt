@@ -4,16 +4,16 @@ use Rattle.ivy_model.specs.declared.Config.{Config}
 use Rattle.ivy_model.specs.declared.Call.{Call}
 use Rattle.ivy_model.specs.declared.Reply.{Reply}
 use Rattle.ivy_model.specs.declared.Reply.TheVariants.{Refused}
-use Rattle.ivy_model.specs.Config.{IsConfig}
-use Rattle.ivy_model.specs.Legal.{HasWidth}
+use Rattle.ivy_model.specs.stated.Config.{IsConfig}
+use Rattle.ivy_model.specs.stated.Legal.{HasWidth}
 use Rattle.ivy_model.specs.Memory.{IsSized, flat_page}
-use Rattle.ivy_model.specs.Memory as model
-use Rattle.ivy_model.specs.Serves.{Serves}
+use Rattle.ivy_model.specs.stated.Memory as model
+use Rattle.ivy_model.specs.stated.Serves.{Serves}
 use Rattle.ivy_pagetable.specs.declared.Word.{Word}
-use Rattle.ivy_pagetable.specs.Words.{Carried, carried_out}
+use Rattle.ivy_pagetable.specs.stated.Words.{Carried, carried_out}
 use Rattle.ivy_memory.specs.declared.asked.Asked.TheVariants as asked
-use Rattle.ivy_memory.specs.Asking.{asked_of}
-use Rattle.ivy_memory.specs.Memories.{reply_of}
+use Rattle.ivy_memory.specs.stated.Asking.{asked_of}
+use Rattle.ivy_memory.specs.stated.Memories.{reply_of}
 
 -- the flat memory answers the call with this reply and goes on; without a reply it stays as it is
 abbrev pub Answers : Config → model.Memory → Call → Option Reply → model.Memory → Type 0

@@ -1,13 +1,13 @@
 //! What a call is to the memory of a node.
 ghost use Rattle.std.specs.Prelude.{◌≡◌, ◌/◌, ◌%◌, false, is_none, IfNone, IfSome};
-ghost use Rattle.ivy_model.specs.Config.{IsConfig};
-ghost use Rattle.ivy_model.specs.Legal.{HasKindWidth, HasWidth, IsWidth};
-ghost use Rattle.ivy_model.specs.Serves.{access_refusal};
-ghost use Rattle.ivy_memory.specs.Asking.{count_asked, asked_kind, asked_of, word_unless};
+ghost use Rattle.ivy_model.specs.stated.Config.{IsConfig};
+ghost use Rattle.ivy_model.specs.stated.Legal.{HasKindWidth, HasWidth, IsWidth};
+ghost use Rattle.ivy_model.specs.stated.Serves.{access_refusal};
+ghost use Rattle.ivy_memory.specs.stated.Asking.{count_asked, asked_kind, asked_of, word_unless};
 ghost use Rattle.ivy_memory.specs.AtOnce.{IsRowAt};
 
+use ivy_alloc::HeapCall;
 use ivy_event::{advance, await_at_least, read};
-use ivy_heap::HeapCall;
 use ivy_model::{Call, CallKind, Config, Fault, access_refusal};
 use ivy_pagetable::Word;
 
@@ -33,7 +33,7 @@ fn count_asked(word: Result<Word, Fault>) -> Asked
 }
 
 /// The page of an address. Pages have a power of two of bytes, so it takes no division.
-#[tactic(auto, using(crate::proofs::Placing::page_by_shift))]
+#[tactic(auto, using(crate::proofs::serving::Placing::page_by_shift))]
 #[inline(always)]
 fn page_of(config: &Config, addr: u64) -> u64
     requires limits { IsConfig config.now }
@@ -43,7 +43,7 @@ fn page_of(config: &Config, addr: u64) -> u64
 }
 
 /// The place of an address in its page.
-#[tactic(auto, using(crate::proofs::Placing::place_by_mask))]
+#[tactic(auto, using(crate::proofs::serving::Placing::place_by_mask))]
 #[inline(always)]
 fn offset_of(config: &Config, addr: u64) -> u32
     requires limits { IsConfig config.now }

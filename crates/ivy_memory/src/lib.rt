@@ -1,6 +1,7 @@
-//! The memory of one node, as its program sees it: one call at a time, or those of a row together, over the node's coherence.
+//! The memory of one node as its program sees it: one call in progress, or a batch of calls.
 //!
-//! `memory` has the calls one by one, `row` those of a row that begin together, `taken` their replies, and `rest` what is left of a row.
+//! `memory` has the calls one by one, `row` those of a row that begin together, `taken` their replies, and `rest` what
+//! is left of a row.
 //!
 //! In a comment, numbers in brackets as [1, 17] are the fault numbers that a call may answer.
 #![tactic(auto)]
@@ -13,8 +14,6 @@ mod row;
 mod taken;
 
 pub use asked::{Asked, asked_of};
-pub use ivy_coherence;
-pub use ivy_event;
-pub use ivy_heap::{Answer, HeapCall, HeapRequest, HeapSide, ivy_alloc};
+pub use ivy_alloc::{CallProgress, HeapCall, HeapRequest, HeapSide};
 pub use law::words_are_flat;
 pub use memory::Memory;

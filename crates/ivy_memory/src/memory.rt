@@ -2,23 +2,25 @@
 ghost use Rattle.std.specs.Prelude.{◌≡◌, ◌≢◌, ◌<◌, ◌≤◌, ◌↔◌, ◌⊎◌, ◌*◌, ℕ, [], false, None, IsSome, IfNone, IfSome, IfOk, IfErr, OnOk, OnErr, IsOkUnless, IsErrOf, length};
 ghost use Rattle.ivy_model.specs.declared.Row.{Row};
 ghost use Rattle.ivy_model.specs.declared.Row.TheVariants.{Loads, Stores};
-ghost use Rattle.ivy_model.specs.Config.{IsConfig};
-ghost use Rattle.ivy_model.specs.Legal.{HasWidth};
+ghost use Rattle.ivy_model.specs.stated.Config.{IsConfig};
+ghost use Rattle.ivy_model.specs.stated.Legal.{HasWidth};
 ghost use Rattle.ivy_model.specs.Rows.{numbers_in, row};
 ghost use Rattle.ivy_model.specs.Wants.{RanOut};
 ghost use Rattle.ivy_wire.specs.Lent.{owned_message};
-ghost use Rattle.ivy_wire.specs.Spelling.{FitsMessage};
+ghost use Rattle.ivy_wire.specs.stated.Spelling.{FitsMessage};
 ghost use Rattle.ivy_wire.specs.Posts.{IsPostOf, HasRefused};
-ghost use Rattle.ivy_memory.specs.Asking.{CallHasToAsk, CallMayMakePage, IsCallWant, IsMessageWant, MayBeRefused, asked_of};
+ghost use Rattle.ivy_memory.specs.Asking.{CallHasToAsk, CallMayMakePage, IsCallWant, IsMessageWant, MayBeRefused};
+ghost use Rattle.ivy_memory.specs.stated.Asking.{asked_of};
 ghost use Rattle.ivy_memory.specs.AtOnce.{AnswerAtOnce, IsRowAt, IsStored, is_row_at_hand, row_at_hand};
 ghost use Rattle.ivy_coherence.specs.Outcomes.{IsWantOfPage};
-ghost use Rattle.ivy_memory.specs.Memories.{first_memory, reply_of, reply_at, MayFailAgain, call_begun, polled, memory_handled, memory_told, taken_out};
-ghost use Rattle.ivy_coherence.specs.Limits.{most_posted};
+ghost use Rattle.ivy_memory.specs.stated.Memories.{first_memory, reply_of, reply_at, call_begun, polled, memory_handled, memory_told, taken_out};
+ghost use Rattle.ivy_memory.specs.Memories.{MayFailAgain};
+ghost use Rattle.ivy_coherence.specs.EventLimits.{most_posted};
 
 use crate::asked::{Asked, RowPlace, asked_of, row_place};
 use crate::rest::Rest;
+use ivy_alloc::{CallProgress, HeapSide};
 use ivy_coherence::{Coherence, Need};
-use ivy_heap::{Answer, HeapSide};
 use ivy_model::{Call, Config, Fault, Reply};
 use ivy_pagetable::{Manager, Out};
 use ivy_wire::{Message, Post};
@@ -53,15 +55,15 @@ pub struct Memory<M: Manager, A: Allocator> {
 }
 
 impl<M: Manager, A: Allocator> Model for Memory<M, A> {
-    ghost use Rattle.ivy_memory.specs.Memories as memories;
-    ghost use Rattle.ivy_memory.specs.Sound.{IsSoundMemory};
+    ghost use Rattle.ivy_memory.specs.stated.Memories as memories;
+    ghost use Rattle.ivy_memory.specs.stated.Sound.{IsSoundMemory};
 
     ghost Value = { memories.NodeMemory M };
 
     ghost use Rattle.std.specs.Prelude.{◌≡◌};
     ghost use Rattle.std.specs.Coded.{codes};
-    ghost use Rattle.ivy_pagetable.specs.NodeSets.{nodes_code};
-    ghost use Rattle.ivy_heap.specs.ivy_alloc.Heap.{heap_state_code};
+    ghost use Rattle.ivy_pagetable.specs.stated.NodeSets.{nodes_code};
+    ghost use Rattle.ivy_alloc.specs.Heap.{heap_state_code};
 
     ghost coded = { Prim.hlevel (codes, nodes_code, heap_state_code) };
 
@@ -105,7 +107,7 @@ impl<M: Manager, A: Allocator + Copy> Memory<M, A> {
         self.coherence.breaches()
     }
 
-    #[tactic(auto, unfolding(crate::specs::Memories::call_begun))]
+    #[tactic(auto, unfolding(crate::specs::stated::Memories::call_begun))]
     #[inline(always)]
     /// A call begins, as the one of this number [1, 17, 18]: it is answered at once, or it is in progress from now on.
     ///
@@ -114,14 +116,19 @@ impl<M: Manager, A: Allocator + Copy> Memory<M, A> {
     /// there are more than 256 pages, so may be a word that is the first to be written to its page.
     /// A call that is not refused does begin: it is never Unserved.
     /// Node 0 serves the calls of the heap at once, and any other node asks node 0.
-    pub fn begin<P: Post>(&mut self, call: Call, number: u64, post: &mut P) -> Result<Answer, Fault>
+    pub fn begin<P: Post>(
+        &mut self,
+        call: Call,
+        number: u64,
+        post: &mut P,
+    ) -> Result<CallProgress, Fault>
         requires width { HasWidth call }
         requires number { 1 ≤ number }
         requires post { IsPostOf P.ops post.old self.old.coherence.config self.old.coherence.me }
         ensures busy { IsErrOf result Fault.Busy ↔ IsSome self.old.asked }
         ensures unasked { IsSome self.old.asked → post.new ≡ post.old }
         ensures few { length (call_begun M.ops self.old call [] number).posted ≤ most_posted }
-        ensures begins { IfOk result (λ answer. answer ≢ Answer.Unserved) }
+        ensures begins { IfOk result (λ answer. answer ≢ CallProgress.Unserved) }
         ensures reply { IfOk result (λ answer. answer ≡ (call_begun M.ops self.old call [] number).answer) }
         ensures ok { OnOk result (self.new ≡ (call_begun M.ops self.old call [] number).after) }
         ensures posted { OnOk result (post.new ≡ P.ops.after post.old (call_begun M.ops self.old call [] number).posted) }
@@ -143,26 +150,26 @@ impl<M: Manager, A: Allocator + Copy> Memory<M, A> {
             return Err(Fault::Busy);
         }
         match asked_of(&self.coherence.config(), call) {
-            Asked::Refused(code) => Ok(Answer::Given(Reply::Refused(code))),
+            Asked::Refused(code) => Ok(CallProgress::Given(Reply::Refused(code))),
             Asked::Word { page, word } => match self.coherence.need(page, word, number, post)? {
                 Need::Have(out) => match reply_of(out) {
-                    Some(reply) => Ok(Answer::Given(reply)),
+                    Some(reply) => Ok(CallProgress::Given(reply)),
                     None => {
                         self.asked = Some(call);
                         self.number = number;
-                        Ok(Answer::Awaited)
+                        Ok(CallProgress::Awaited)
                     }
                 },
                 Need::Started => {
                     self.asked = Some(call);
                     self.number = number;
-                    Ok(Answer::Awaited)
+                    Ok(CallProgress::Awaited)
                 }
-                Need::Busy => Ok(Answer::Unserved),
+                Need::Busy => Ok(CallProgress::Unserved),
             },
             Asked::Heap(of_heap) => {
                 let answer = self.side.begin(self.coherence.me(), of_heap, number, post)?;
-                if let Answer::Awaited = answer {
+                if let CallProgress::Awaited = answer {
                     self.asked = Some(call);
                     self.number = number;
                 }
@@ -199,14 +206,14 @@ impl<M: Manager, A: Allocator + Copy> Memory<M, A> {
         }
     }
 
-    #[tactic(auto, unfolding(crate::specs::Memories::polled))]
+    #[tactic(auto, unfolding(crate::specs::stated::Memories::polled))]
     /// The reply of the call in progress [1, 17]: it is there, or the call's word is tried again, under the number of
     /// the call. The call is over with its reply, and the next of those made along with it is in progress.
     ///
     /// Where the word has no answer now either, and where no call is in progress, nothing changes. Only a word that
     /// other nodes have to be asked for is refused by a fault, or, where there are more than 256 pages, one that is the
     /// first to be written to its page: else it takes no memory, and asks the post nothing.
-    pub fn poll_reply<P: Post>(&mut self, post: &mut P) -> Result<Answer, Fault>
+    pub fn poll_reply<P: Post>(&mut self, post: &mut P) -> Result<CallProgress, Fault>
         requires post { IsPostOf P.ops post.old self.old.coherence.config self.old.coherence.me }
         ensures few { length (polled M.ops self.old).posted ≤ most_posted }
         ensures reply { IfOk result (λ answer. answer ≡ (polled M.ops self.old).answer) }
@@ -221,17 +228,17 @@ impl<M: Manager, A: Allocator + Copy> Memory<M, A> {
         ensures want { IfErr result RanOut }
     {
         let Some(call) = self.asked else {
-            return Ok(Answer::Unserved);
+            return Ok(CallProgress::Unserved);
         };
         if let Some(reply) = self.reply() {
             self.take_out();
-            return Ok(Answer::Given(reply));
+            return Ok(CallProgress::Given(reply));
         }
         if self.coherence.locked().is_some() {
-            return Ok(Answer::Unserved);
+            return Ok(CallProgress::Unserved);
         }
         let Asked::Word { page, word } = asked_of(&self.coherence.config(), call) else {
-            return Ok(Answer::Unserved);
+            return Ok(CallProgress::Unserved);
         };
         match self.coherence.need(page, word, self.number, post)? {
             Need::Have(out) => match reply_of(out) {
@@ -240,17 +247,17 @@ impl<M: Manager, A: Allocator + Copy> Memory<M, A> {
                     self.side.close();
                     self.along.clear();
                     self.asked = None;
-                    Ok(Answer::Given(reply))
+                    Ok(CallProgress::Given(reply))
                 }
-                None => Ok(Answer::Unserved),
+                None => Ok(CallProgress::Unserved),
             },
             Need::Started => {
                 let _ = self.coherence.returned();
                 self.side.close();
                 self.along.clear();
-                Ok(Answer::Awaited)
+                Ok(CallProgress::Awaited)
             }
-            Need::Busy => Ok(Answer::Unserved),
+            Need::Busy => Ok(CallProgress::Unserved),
         }
     }
 

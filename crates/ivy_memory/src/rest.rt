@@ -1,7 +1,7 @@
 //! Calls that are made along with the one in progress.
 ghost use Rattle.std.specs.Prelude.{◌≡◌, ◌+◌, ◌*◌, ◌^◌, ◌<◌, ◌≤◌, ℕ, true, List, [], length, take, drop, slice_get, IfOk};
 ghost use Rattle.ivy_model.specs.declared.Row.TheVariants.{Loads, Stores};
-ghost use Rattle.ivy_memory.specs.Rows.{row_calls, first_call};
+ghost use Rattle.ivy_memory.specs.BatchedCalls.{row_calls, first_call};
 
 use byteorder::{BigEndian, ByteOrder};
 use ivy_model::{Call, Row};
@@ -22,7 +22,7 @@ pub(crate) struct Rest<A: Allocator> {
 
 impl<A: Allocator> Model for Rest<A> {
     ghost use Rattle.std.specs.Prelude.{◌≡◌, ◌+◌, ◌*◌, ◌^◌, ◌<◌, ◌≤◌, length};
-    ghost use Rattle.ivy_memory.specs.Rows.{CallsAlong, calls_left};
+    ghost use Rattle.ivy_memory.specs.BatchedCalls.{CallsAlong, calls_left};
 
     ghost Value = { CallsAlong };
 

@@ -2,11 +2,11 @@
 ghost use Rattle.std.specs.Prelude.{◌≡◌, ◌+◌, ◌*◌, ◌%◌, ◌^◌, ◌≤◌, ◌⊎◌, true, Some, IfErr, OnOk, OnErr, length};
 ghost use Rattle.ivy_model.specs.Wants.{RanOut};
 ghost use Rattle.ivy_wire.specs.Posts.{IsPostOf, HasRefused};
-ghost use Rattle.ivy_coherence.specs.Limits.{most_posted};
+ghost use Rattle.ivy_coherence.specs.EventLimits.{most_posted};
 ghost use Rattle.ivy_coherence.specs.Outcomes.{IsWantOfPage};
-ghost use Rattle.ivy_heap.specs.declared.Answer.TheVariants.{Awaited};
+ghost use Rattle.ivy_alloc.specs.declared.CallProgress.TheVariants.{Awaited};
 ghost use Rattle.ivy_memory.specs.Asking.{CallHasToAsk};
-ghost use Rattle.ivy_memory.specs.Rows.{first_call, other_calls, row_begun, row_has_to_wait};
+ghost use Rattle.ivy_memory.specs.BatchedCalls.{first_call, other_calls, row_begun, row_has_to_wait};
 
 use crate::asked::row_place;
 use crate::memory::Memory;

@@ -2,9 +2,9 @@
 ghost use Rattle.std.specs.Prelude.{◌≡◌, ◌≢◌, ◌↔◌, ◌⊎◌, ◌+◌, ◌*◌, ◌≤◌, ℕ, List, [], true, None, IsTrue, IsSome, length};
 ghost use Rattle.ivy_model.specs.declared.Row.TheVariants.{Loads, Stores};
 ghost use Rattle.ivy_model.specs.Rows.{numbers_in, row};
-ghost use Rattle.ivy_memory.specs.Memories.{in_progress};
-ghost use Rattle.ivy_memory.specs.Rows.{row_calls};
-ghost use Rattle.ivy_memory.specs.Together.{TakesRecords, records_of};
+ghost use Rattle.ivy_memory.specs.stated.Memories.{in_progress};
+ghost use Rattle.ivy_memory.specs.BatchedCalls.{row_calls};
+ghost use Rattle.ivy_memory.specs.BatchedReplies.{TakesRecords, records_of};
 
 use crate::memory::Memory;
 use byteorder::{BigEndian, ByteOrder};

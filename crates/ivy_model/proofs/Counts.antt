@@ -5,7 +5,7 @@ use Rattle.std.specs.List.{flat_map}
 use Rattle.std.specs.Prelude.{slice_get, slice_set}
 use Rattle.byteorder.specs.Endian.{big_number, big_bytes}
 use Rattle.byteorder.specs.Numbers.{big_number-reads_back}
-use Rattle.ivy_model.specs.Serves.{overwrite}
+use Rattle.ivy_model.specs.stated.Serves.{overwrite}
 use Rattle.ivy_model.proofs.Lists.{overwrite-append}
 
 pub length-words : (ns : List ℕ) → length (flat_map (big_bytes 8) ns) ≡ 8 * length ns

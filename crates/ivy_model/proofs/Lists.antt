@@ -1,7 +1,7 @@
 -- Lists of which a piece was overwritten.
 use Rattle.std.proofs.Common.{◌≡◌, ℕ, ◌+◌, ◌≤◌, List, ◌++◌, length, take, drop, arith}
 use Rattle.std.proofs.lemmas.List.{places, same_lists}
-use Rattle.ivy_model.specs.Serves.{overwrite}
+use Rattle.ivy_model.specs.stated.Serves.{overwrite}
 
 pub length-overwrite : (xs : List ℕ) (at : ℕ) (new : List ℕ) → at + length new ≤ length xs
     → length (overwrite xs at new) ≡ length xs

@@ -16,15 +16,16 @@ use Rattle.ivy_model.specs.declared.call.CallKind.TheVariants.{Word, Count, Adva
 use Rattle.ivy_model.specs.declared.call.Record.{Record}
 use Rattle.ivy_model.specs.declared.call.Reply.{Reply}
 use Rattle.ivy_model.specs.declared.call.Reply.TheVariants.{Done, Refused, Value}
-use Rattle.ivy_model.specs.Accesses.{kind_of_call}
-use Rattle.ivy_model.specs.Config.{IsConfig, heap_end, heap_len, count_len}
-use Rattle.ivy_model.specs.Legal.{HasKindWidth, HasWidth, IsWidth, ServesAll}
-use Rattle.ivy_model.specs.Memory.{Memory, IsSized, first, flat_page}
-use Rattle.ivy_model.specs.Serves.{Serves, ServesKind, access_refusal, with_written}
+use Rattle.ivy_model.specs.stated.Accesses.{kind_of_call}
+use Rattle.ivy_model.specs.stated.Config.{IsConfig, heap_end, heap_len, count_len}
+use Rattle.ivy_model.specs.stated.Legal.{HasKindWidth, HasWidth, IsWidth, ServesAll}
+use Rattle.ivy_model.specs.stated.Memory.{Memory, first}
+use Rattle.ivy_model.specs.Memory.{IsSized, flat_page}
+use Rattle.ivy_model.specs.stated.Serves.{Serves, ServesKind, access_refusal, with_written}
 use Rattle.ivy_model.proofs.Counts.{length-words, zero_words}
 use Rattle.ivy_model.proofs.Limits.{page_has_words}
 use Rattle.ivy_model.proofs.Lists.{length-overwrite}
-use Rattle.ivy_model.proofs.Words.{IsPlaced, word_placed, page_inside, with_word, length-page, first_page}
+use Rattle.ivy_model.proofs.PageWords.{IsPlaced, word_placed, page_inside, with_word, length-page, first_page}
 
 pub none_refused : (aligned below reserved : Bool)
     → cond {A = Option ℕ} aligned (cond below (cond reserved (Some 5) None) (Some 4)) (Some 3)

@@ -15,8 +15,8 @@ use Rattle.std.proofs.lemmas.Map.Views.{btree_map_get_iff}
 use Rattle.std.proofs.lemmas.List.Elements.{All-nil, All-cons, All-head, All-tail, Contains-get_or}
 use Rattle.ivy_model.specs.declared.config.Config.{Config}
 use Rattle.ivy_model.specs.Blocks.{AreBlocks, IsBlock}
-use Rattle.ivy_model.specs.Config.{IsConfig, heap_end}
-use Rattle.ivy_model.specs.Serves.{IsLeast, IsRoom}
+use Rattle.ivy_model.specs.stated.Config.{IsConfig, heap_end}
+use Rattle.ivy_model.specs.stated.Serves.{IsLeast, IsRoom}
 use Rattle.ivy_model.proofs.Limits.{page_has_words}
 use Rattle.ivy_model.proofs.Blocks.{Misses, apart_from_all, all_from_apart, get_block}
 

@@ -2,8 +2,8 @@
 use Rattle.std.specs.Prelude.{◌≡◌, ℕ, ◌+◌, ◌%◌, ◌≤◌, Some}
 use Rattle.std.specs.FinMap as map
 use Rattle.ivy_model.specs.declared.config.Config.{Config}
-use Rattle.ivy_model.specs.Config.{heap_end}
-use Rattle.ivy_model.specs.Memory.{Blocks}
+use Rattle.ivy_model.specs.stated.Config.{heap_end}
+use Rattle.ivy_model.specs.stated.Memory.{Blocks}
 
 -- a block of whole words of 8 bytes that lies before the heap's end
 pub record IsBlock (c : Config) (start len : ℕ) : Type 0 where

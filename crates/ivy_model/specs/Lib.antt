@@ -1,12 +1,5 @@
-pub mod Limits
-pub mod Numbers
-pub mod PageSize
-pub mod Config
+pub mod stated
 pub mod Memory
-pub mod Accesses
-pub mod Serves
-pub mod Legal
-pub mod Explains
 pub mod Blocks
 pub mod Flat
 pub mod Wants

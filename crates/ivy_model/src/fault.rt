@@ -1,9 +1,13 @@
 ghost use Rattle.std.specs.Prelude.{◌≡◌, ℕ};
 ghost use Rattle.ivy_model.specs.declared.fault.Fault.TheVariants.{Memory};
-ghost use Rattle.ivy_model.specs.Numbers.{fault_number};
+ghost use Rattle.ivy_model.specs.stated.Numbers.{fault_number};
 
 use std::alloc::{AllocError, AllocFailed};
 use thiserror::Error;
+
+/// What code answers where no call of this library comes to it: a case that the types allow, and that no contract rules
+/// out. It is 21, so a session or a play that met it ends; who sees it without having used up any turns has found an error.
+pub const CANNOT_HAPPEN: Fault = Fault::TurnLimit;
 
 /// Why a call was refused. Its text is the fault's number, a space and its name.
 ///

@@ -6,16 +6,16 @@ use Rattle.std.proofs.Common.{Contains, if◌then◌else◌, arith}
 use Rattle.std.proofs.lemmas.Bool.{cases_eq}
 use Rattle.std.proofs.lemmas.Option.{same_Some, none-some}
 use Rattle.ivy_model.specs.declared.Config.{Config}
-use Rattle.ivy_wire.specs.DecodeErrors.{checked}
+use Rattle.ivy_wire.specs.stated.DecodeErrors.{checked}
 use Rattle.ivy_moves.specs.declared.moves.Move.{Move}
 use Rattle.ivy_moves.specs.declared.moves.Move.TheVariants as move
-use Rattle.ivy_moves.specs.Cores.{Core, Outcome}
+use Rattle.ivy_moves.specs.stated.Cores.{Core, Outcome}
 use Rattle.ivy_moves.specs.Marks.{Mark}
-use Rattle.ivy_moves.specs.Nodes.{Node, Effect, stays, posting, turned_to, turned, verdict_of}
-use Rattle.ivy_moves.specs.Nodes.{delivered, pulsing}
-use Rattle.ivy_moves.specs.Worlds.{World, early_of, gone_on, world_goes_on, remembered, remembering}
-use Rattle.ivy_moves.specs.Worlds.{is_named, turn_of, delivery_of, pulse_of, made_by, moved}
-use Rattle.ivy_moves.specs.Worlds.{GoesOnWith, Moves, Leads}
+use Rattle.ivy_moves.specs.stated.Nodes.{Node, Effect, stays, posting, turned_to, turned, verdict_of}
+use Rattle.ivy_moves.specs.stated.Nodes.{delivered, pulsing}
+use Rattle.ivy_moves.specs.stated.Worlds.{World, early_of, gone_on, world_goes_on, remembered, remembering}
+use Rattle.ivy_moves.specs.stated.Worlds.{is_named, turn_of, delivery_of, pulse_of, made_by, moved}
+use Rattle.ivy_moves.specs.stated.Worlds.{GoesOnWith, Moves, Leads}
 use Rattle.ivy_moves.specs.Parts.{delivery_marks, pulse_marks, turn_marks, turn_given, delivery_given}
 use Rattle.ivy_moves.specs.Parts.{pulse_given, given_by, given_further, given_at, parts_of, AreParts}
 use Rattle.ivy_moves.specs.Carrying.{changed, node_changed, effect_changed, IsUnseen, IsChangedBy}

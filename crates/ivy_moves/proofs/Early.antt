@@ -1,11 +1,11 @@
 -- What came too early by more events.
 use Rattle.std.proofs.Common.{◌≡◌, ◌⊎◌, ℕ, zero, suc, ◌<◌, List, [], ◌∷◌, ◌++◌, length, get_or, Contains, inl, inr, arith, sym, ap, subst, ◌∙◌, append-nil, append_assoc}
 use Rattle.ivy_model.specs.declared.Config.{Config}
-use Rattle.ivy_moves.specs.Cores.{Core}
+use Rattle.ivy_moves.specs.stated.Cores.{Core}
 use Rattle.ivy_moves.specs.Marks.{Mark, Turn, Delivery, Pulse}
 use Rattle.ivy_link.specs.declared.Verdict.{Verdict}
 use Rattle.ivy_link.specs.declared.Verdict.TheVariants as verdict
-use Rattle.ivy_moves.specs.Nodes.{Node, Effect, verdict_of}
+use Rattle.ivy_moves.specs.stated.Nodes.{Node, Effect, verdict_of}
 use Rattle.ivy_moves.specs.Early.{early_as, node_after, after_mark, early_by, early_in}
 use Rattle.ivy_moves.specs.Parts.{Happens, AllHappen, AllCanBeMade}
 

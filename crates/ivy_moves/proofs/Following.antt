@@ -9,27 +9,28 @@ use Rattle.std.proofs.lemmas.List.{map-set, set-set, length-map, get_or_past}
 use Rattle.std.proofs.lemmas.List.Elements.{All-nil, All-append, All-push, All-map, All-contains, All-weaker, Contains-append_left}
 use Rattle.std.proofs.lemmas.Option.{same_Some, none-some, slice_get_within, get_or_from_slice_get}
 use Rattle.std.proofs.Math.Seq.{map-set_same}
-use Rattle.ivy_model.specs.Config.{IsConfig}
+use Rattle.ivy_model.specs.stated.Config.{IsConfig}
 use Rattle.ivy_model.specs.declared.Config.{Config}
 use Rattle.ivy_wire.specs.declared.FrameKind.{FrameKind}
-use Rattle.ivy_wire.specs.Data.{Message, Frame, Parcel}
-use Rattle.ivy_wire.specs.Spelling.{FitsMessage, FitsParcel, Fits, Spells, spelling, frame_kind}
-use Rattle.ivy_wire.specs.DecodeErrors.{checked}
-use Rattle.ivy_wire.specs.Reading.{frame_at}
+use Rattle.ivy_wire.specs.stated.Data.{Message, Frame, Parcel}
+use Rattle.ivy_wire.specs.stated.Spelling.{FitsMessage, FitsParcel, Fits, Spells, spelling, frame_kind}
+use Rattle.ivy_wire.specs.stated.DecodeErrors.{checked}
+use Rattle.ivy_wire.specs.stated.Reading.{frame_at}
 use Rattle.ivy_wire.proofs.Frames.{spelled_once}
 use Rattle.ivy_link.specs.declared.Verdict.{Verdict}
 use Rattle.ivy_link.specs.declared.Verdict.TheVariants as verdict
-use Rattle.ivy_link.specs.Linked.{Linked, fresh, peer_at, after_sends, frames_of, has_numbers}
-use Rattle.ivy_link.specs.Accepted.{offered, accepted}
-use Rattle.ivy_link.specs.Pulsed.{after_pulse, frames_again}
-use Rattle.ivy_link.specs.Paired.{IsPaired, IsMade, IsBody, IsParcelOf, link_at, extended}
+use Rattle.ivy_link.specs.stated.Linked.{Linked, fresh, peer_at, after_sends, frames_of, has_numbers}
+use Rattle.ivy_link.specs.stated.Accepted.{offered, accepted}
+use Rattle.ivy_link.specs.stated.Pulsed.{after_pulse, frames_again}
+use Rattle.ivy_link.specs.stated.Paired.{IsPaired, IsMade, IsBody, IsParcelOf, link_at, extended}
 use Rattle.ivy_moves.specs.declared.moves.Move.{Move}
 use Rattle.ivy_moves.specs.declared.moves.Move.TheVariants.{Turn, Deliver, Pulse}
-use Rattle.ivy_moves.specs.Cores.{Core, Outcome}
-use Rattle.ivy_moves.specs.Nodes.{Node, Effect, stays, accepting, turned, turned_to, served_next, received, received_as, verdict_of, delivered, delivered_as, pulsing}
-use Rattle.ivy_moves.specs.Worlds.{World, early_of, gone_on, world_goes_on, remembered, remembering, is_named, turn_of, delivery_of, pulse_of, made_by, moved}
-use Rattle.ivy_moves.specs.FifoWorld.{rests, turns, delivers, one_more}
-use Rattle.ivy_moves.specs.Following.{links_of, fifo_of, IsString, Follows, IsWellBehaved, FollowsStep}
+use Rattle.ivy_moves.specs.stated.Cores.{Core, Outcome}
+use Rattle.ivy_moves.specs.stated.Nodes.{Node, Effect, stays, accepting, turned, turned_to, served_next, received, received_as, verdict_of, delivered, delivered_as, pulsing}
+use Rattle.ivy_moves.specs.stated.Worlds.{World, early_of, gone_on, world_goes_on, remembered, remembering, is_named, turn_of, delivery_of, pulse_of, made_by, moved}
+use Rattle.ivy_moves.specs.stated.FifoWorld.{rests, turns, delivers, one_more}
+use Rattle.ivy_moves.specs.stated.Following.{links_of, fifo_of, IsString, Follows}
+use Rattle.ivy_moves.specs.Following.{IsWellBehaved, FollowsStep}
 use Rattle.ivy_moves.proofs.Places.{guarded, read-either, set-cases, set_same, set-there, link_of, core_of, more_here, more-other_source, more-other_dest}
 use Rattle.ivy_link.proofs.Sending.{sends-peers}
 use Rattle.ivy_moves.proofs.Sent.{sends-delivered, sends-numbers, sends-acks}

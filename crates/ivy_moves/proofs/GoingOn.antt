@@ -13,10 +13,10 @@ use Rattle.ivy_link.specs.declared.Verdict.{Verdict}
 use Rattle.ivy_link.specs.declared.Verdict.TheVariants as verdict
 use Rattle.ivy_moves.specs.declared.moves.Move.{Move}
 use Rattle.ivy_moves.specs.declared.moves.Move.TheVariants as move
-use Rattle.ivy_moves.specs.Cores.{Core}
+use Rattle.ivy_moves.specs.stated.Cores.{Core}
 use Rattle.ivy_moves.specs.Marks.{Mark, Turn, Delivery, Pulse}
-use Rattle.ivy_moves.specs.Nodes.{Node, Effect, stays, verdict_of, pulsing}
-use Rattle.ivy_moves.specs.Worlds.{World, gone_on, world_goes_on, remembered, remembering, turn_of, delivery_of, pulse_of, made_by, moved, Leads}
+use Rattle.ivy_moves.specs.stated.Nodes.{Node, Effect, stays, verdict_of, pulsing}
+use Rattle.ivy_moves.specs.stated.Worlds.{World, gone_on, world_goes_on, remembered, remembering, turn_of, delivery_of, pulse_of, made_by, moved, Leads}
 use Rattle.ivy_moves.specs.Parts.{delivery_marks, pulse_marks, CanBeMade}
 use Rattle.ivy_moves.specs.Parts.{AllCanBeMade, Happens, AllHappen, turn_marks, turn_given}
 use Rattle.ivy_moves.specs.Parts.{delivery_given, pulse_given, given_by, given_at}

@@ -2,14 +2,15 @@
 -- with; and so all moves.
 use Rattle.std.proofs.Common.{◌≡◌, ℕ, List, [], ◌∷◌, Some, None, refl, sym, subst, ◌∙◌}
 use Rattle.std.proofs.lemmas.Option.{none-some}
-use Rattle.ivy_model.specs.Config.{IsConfig}
+use Rattle.ivy_model.specs.stated.Config.{IsConfig}
 use Rattle.ivy_model.specs.declared.Config.{Config}
-use Rattle.ivy_wire.specs.Data.{Message}
+use Rattle.ivy_wire.specs.stated.Data.{Message}
 use Rattle.ivy_moves.specs.declared.moves.Move.{Move}
 use Rattle.ivy_moves.specs.declared.moves.Move.TheVariants.{Turn, Deliver, Pulse}
-use Rattle.ivy_moves.specs.Cores.{Core}
-use Rattle.ivy_moves.specs.Worlds.{World, moved, Moves, HasNoneAfter, MayGoOn, GoesOnWith, Leads}
-use Rattle.ivy_moves.specs.Following.{Follows, IsWellBehaved, FollowsStep}
+use Rattle.ivy_moves.specs.stated.Cores.{Core}
+use Rattle.ivy_moves.specs.stated.Worlds.{World, moved, Moves, HasNoneAfter, MayGoOn, GoesOnWith, Leads}
+use Rattle.ivy_moves.specs.stated.Following.{Follows}
+use Rattle.ivy_moves.specs.Following.{IsWellBehaved, FollowsStep}
 use Rattle.ivy_moves.proofs.Following.{follows, early-follows}
 
 -- a move whose node goes on with nothing

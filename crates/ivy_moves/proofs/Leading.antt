@@ -2,8 +2,8 @@
 use Rattle.std.proofs.Common.{List, [], ◌∷◌, ◌++◌, refl, subst}
 use Rattle.ivy_model.specs.declared.Config.{Config}
 use Rattle.ivy_moves.specs.declared.moves.Move.{Move}
-use Rattle.ivy_moves.specs.Cores.{Core}
-use Rattle.ivy_moves.specs.Worlds.{World, Leads, Moves}
+use Rattle.ivy_moves.specs.stated.Cores.{Core}
+use Rattle.ivy_moves.specs.stated.Worlds.{World, Leads, Moves}
 
 module _ {C : Type 0} (rules : Core C) (c : Config) where
   -- first these, then those

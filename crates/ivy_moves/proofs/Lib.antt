@@ -13,4 +13,3 @@ pub mod Unseen
 pub mod Carried
 pub mod Lasts
 pub mod Rowed
-pub use Rattle.ivy_link.proofs as of_ivy_link

@@ -5,12 +5,12 @@ use Rattle.std.proofs.lemmas.List.{length-map, length-replicate, get_or_past}
 use Rattle.std.proofs.lemmas.List.Elements.{All-nil}
 use Rattle.std.proofs.lemmas.Option.{slice_get_cases}
 use Rattle.ivy_model.specs.declared.Config.{Config}
-use Rattle.ivy_wire.specs.Spelling.{FitsMessage}
-use Rattle.ivy_link.specs.Linked.{Peer, Linked, fresh, first_link, peer_at}
-use Rattle.ivy_link.specs.Paired.{IsPaired, link_at}
-use Rattle.ivy_moves.specs.Nodes.{Node}
-use Rattle.ivy_moves.specs.Worlds.{World}
-use Rattle.ivy_moves.specs.Following.{links_of, fifo_of, IsString, Follows, IsOpening}
+use Rattle.ivy_wire.specs.stated.Spelling.{FitsMessage}
+use Rattle.ivy_link.specs.stated.Linked.{Peer, Linked, fresh, first_link, peer_at}
+use Rattle.ivy_link.specs.stated.Paired.{IsPaired, link_at}
+use Rattle.ivy_moves.specs.stated.Nodes.{Node}
+use Rattle.ivy_moves.specs.stated.Worlds.{World}
+use Rattle.ivy_moves.specs.stated.Following.{links_of, fifo_of, IsString, Follows, IsOpening}
 use Rattle.ivy_moves.proofs.Places.{link_of}
 
 fresh-at : (n j : ℕ) → get_or (replicate n fresh) j fresh ≡ fresh

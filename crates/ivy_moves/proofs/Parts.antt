@@ -10,16 +10,16 @@ use Rattle.std.proofs.lemmas.Option.{same_Some, none-some, slice_get_within}
 use Rattle.ivy_model.specs.declared.Config.{Config}
 use Rattle.ivy_model.specs.declared.Fault.{Fault}
 use Rattle.ivy_wire.specs.declared.FrameKind.{FrameKind}
-use Rattle.ivy_wire.specs.DecodeErrors.{checked}
-use Rattle.ivy_wire.specs.Reading.{frame_at}
+use Rattle.ivy_wire.specs.stated.DecodeErrors.{checked}
+use Rattle.ivy_wire.specs.stated.Reading.{frame_at}
 use Rattle.ivy_link.specs.declared.Verdict.{Verdict}
 use Rattle.ivy_link.specs.declared.Verdict.TheVariants as verdict
 use Rattle.ivy_moves.specs.declared.moves.Move.{Move}
 use Rattle.ivy_moves.specs.declared.moves.Move.TheVariants as move
-use Rattle.ivy_moves.specs.Cores.{Core, Outcome}
+use Rattle.ivy_moves.specs.stated.Cores.{Core, Outcome}
 use Rattle.ivy_moves.specs.Marks.{Mark, Turn, Delivery, Pulse}
-use Rattle.ivy_moves.specs.Nodes.{Node, Effect, stays, turned, turned_to, verdict_as, verdict_of, received, received_as, delivered, delivered_as, pulsing}
-use Rattle.ivy_moves.specs.Worlds.{World, gone_on, remembered, is_named, turn_of, delivery_of, pulse_of, moved, GoesOnWith, MayGoOn, Moves, Leads}
+use Rattle.ivy_moves.specs.stated.Nodes.{Node, Effect, stays, turned, turned_to, verdict_as, verdict_of, received, received_as, delivered, delivered_as, pulsing}
+use Rattle.ivy_moves.specs.stated.Worlds.{World, gone_on, remembered, is_named, turn_of, delivery_of, pulse_of, moved, GoesOnWith, MayGoOn, Moves, Leads}
 use Rattle.ivy_moves.specs.Parts.{followed_by, delivery_marks, pulse_marks, node_of, sent_from}
 use Rattle.ivy_moves.specs.Parts.{Happens, AllHappen, turn_marks, turn_given, delivery_given}
 use Rattle.ivy_moves.specs.Parts.{pulse_given, given_by, given_further, given_after}

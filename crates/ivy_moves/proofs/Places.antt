@@ -7,10 +7,10 @@ use Rattle.std.proofs.lemmas.Bool.{eq-eqb, ne_eqb, and_left, and_right}
 use Rattle.std.proofs.lemmas.List.{get_or-set_other}
 use Rattle.std.proofs.lemmas.Grind.{get_or-set_at}
 use Rattle.std.proofs.lemmas.Option.{same_Some, none-some, slice_get-map, get_or_from_slice_get}
-use Rattle.ivy_link.specs.Linked.{Peer, Linked, fresh, first_link, peer_at, with_peer}
-use Rattle.ivy_link.specs.Paired.{link_at}
-use Rattle.ivy_moves.specs.Nodes.{Node}
-use Rattle.ivy_moves.specs.FifoWorld.{one_more}
+use Rattle.ivy_link.specs.stated.Linked.{Peer, Linked, fresh, first_link, peer_at, with_peer}
+use Rattle.ivy_link.specs.stated.Paired.{link_at}
+use Rattle.ivy_moves.specs.stated.Nodes.{Node}
+use Rattle.ivy_moves.specs.stated.FifoWorld.{one_more}
 
 -- what a test guards
 pub guarded : {X : Type 0} (b : Bool) (o : Option X) (x : X) → (if b then o else None) ≡ Some x

@@ -8,15 +8,15 @@ use Rattle.std.proofs.lemmas.List.{set-get_or}
 use Rattle.std.proofs.lemmas.List.Elements.{All-nil, All-cons, All-head, All-tail, All-append}
 use Rattle.std.proofs.lemmas.Option.{slice_get_within, get_or_from_slice_get}
 use Rattle.ivy_model.specs.declared.Config.{Config}
-use Rattle.ivy_wire.specs.Data.{Message, Frame, Parcel}
-use Rattle.ivy_wire.specs.Spelling.{FitsMessage, FitsParcel, Fits, spelling}
+use Rattle.ivy_wire.specs.stated.Data.{Message, Frame, Parcel}
+use Rattle.ivy_wire.specs.stated.Spelling.{FitsMessage, FitsParcel, Fits, spelling}
 use Rattle.ivy_link.specs.declared.Verdict.{Verdict}
 use Rattle.ivy_link.specs.declared.Verdict.TheVariants.{Next, Repeat, Ahead, NotMine}
-use Rattle.ivy_link.specs.Linked.{Peer, Linked, fresh, peer_at, with_peer, with_message, sent_one, after_sends, frame_of, frames_of, has_numbers}
-use Rattle.ivy_link.specs.Accepted.{verdict_on, offered, heard, accepted}
-use Rattle.ivy_link.specs.Limits.{most_again}
-use Rattle.ivy_link.specs.Pulsed.{numbered, ack_alone, frames_of_pulse, frames_again, owing_nothing, after_pulse}
-use Rattle.ivy_link.specs.Paired.{posted, extended, IsBody, IsMade}
+use Rattle.ivy_link.specs.stated.Linked.{Peer, Linked, fresh, peer_at, with_peer, with_message, sent_one, after_sends, frame_of, frames_of, has_numbers}
+use Rattle.ivy_link.specs.stated.Accepted.{verdict_on, offered, heard, accepted}
+use Rattle.ivy_link.specs.stated.LinkLimits.{most_again}
+use Rattle.ivy_link.specs.stated.Pulsed.{numbered, ack_alone, frames_of_pulse, frames_again, owing_nothing, after_pulse}
+use Rattle.ivy_link.specs.stated.Paired.{posted, extended, IsBody, IsMade}
 use Rattle.ivy_link.proofs.Sending.{sends-me}
 use Rattle.ivy_moves.proofs.Places.{peer-either, peer-there, peer-other}
 

@@ -4,18 +4,18 @@ use Rattle.std.proofs.Common.{option_map, refl, sym, ap, ◌∙◌, Result, Ok, 
 use Rattle.ivy_model.specs.declared.Config.{Config}
 use Rattle.ivy_model.specs.declared.Fault.{Fault}
 use Rattle.ivy_wire.specs.declared.FrameKind.{FrameKind}
-use Rattle.ivy_wire.specs.Data.{Message, Frame, Parcel}
-use Rattle.ivy_wire.specs.Spelling.{spelling}
-use Rattle.ivy_wire.specs.DecodeErrors.{checked}
-use Rattle.ivy_wire.specs.Reading.{frame_at}
+use Rattle.ivy_wire.specs.stated.Data.{Message, Frame, Parcel}
+use Rattle.ivy_wire.specs.stated.Spelling.{spelling}
+use Rattle.ivy_wire.specs.stated.DecodeErrors.{checked}
+use Rattle.ivy_wire.specs.stated.Reading.{frame_at}
 use Rattle.ivy_link.specs.declared.Verdict.{Verdict}
 use Rattle.ivy_link.specs.declared.Verdict.TheVariants as verdict
-use Rattle.ivy_link.specs.Linked.{has_numbers, sends}
-use Rattle.ivy_link.specs.Accepted.{offered}
-use Rattle.ivy_moves.specs.Cores.{Core, Outcome}
+use Rattle.ivy_link.specs.stated.Linked.{has_numbers, sends}
+use Rattle.ivy_link.specs.stated.Accepted.{offered}
+use Rattle.ivy_moves.specs.stated.Cores.{Core, Outcome}
 use Rattle.ivy_moves.specs.Marks.{Mark, Turn, Delivery, Pulse}
-use Rattle.ivy_moves.specs.Nodes.{Node, Effect, posting, accepting, turned_to, turned, served_next}
-use Rattle.ivy_moves.specs.Nodes.{received_as, received, delivered_as, delivered, verdict_as, pulsing}
+use Rattle.ivy_moves.specs.stated.Nodes.{Node, Effect, posting, accepting, turned_to, turned, served_next}
+use Rattle.ivy_moves.specs.stated.Nodes.{received_as, received, delivered_as, delivered, verdict_as, pulsing}
 use Rattle.ivy_moves.specs.Early.{early_as, early_by, after_mark, early_in}
 use Rattle.ivy_moves.specs.Parts.{Happens, AllHappen}
 use Rattle.ivy_moves.specs.Carrying.{changed, node_changed, effect_changed, IsUnseen}

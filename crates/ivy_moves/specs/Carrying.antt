@@ -2,13 +2,13 @@
 -- the change could have happened after it. So calls may be handed to a node while it runs.
 use Rattle.std.specs.Prelude.{◌≡◌, ℕ, List, length, slice_get, Some}
 use Rattle.ivy_model.specs.declared.Config.{Config}
-use Rattle.ivy_wire.specs.Data.{Message}
-use Rattle.ivy_moves.specs.Cores.{Core, Outcome}
+use Rattle.ivy_wire.specs.stated.Data.{Message}
+use Rattle.ivy_moves.specs.stated.Cores.{Core, Outcome}
 use Rattle.ivy_moves.specs.Early.{early_in}
 use Rattle.ivy_moves.specs.Marks.{Mark}
-use Rattle.ivy_moves.specs.Nodes.{Node, Effect}
+use Rattle.ivy_moves.specs.stated.Nodes.{Node, Effect}
 use Rattle.ivy_moves.specs.Parts.{AllHappen, AreParts}
-use Rattle.ivy_moves.specs.Worlds.{World}
+use Rattle.ivy_moves.specs.stated.Worlds.{World}
 
 module _ {C : Type 0} where
   -- the outcome, the node, the effect, with this change of the core

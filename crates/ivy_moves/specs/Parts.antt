@@ -7,10 +7,10 @@ use Rattle.ivy_link.specs.declared.Verdict.{Verdict}
 use Rattle.ivy_link.specs.declared.Verdict.TheVariants as verdict
 use Rattle.ivy_moves.specs.declared.moves.Move.{Move}
 use Rattle.ivy_moves.specs.declared.moves.Move.TheVariants as move
-use Rattle.ivy_moves.specs.Cores.{Core, Outcome}
+use Rattle.ivy_moves.specs.stated.Cores.{Core, Outcome}
 use Rattle.ivy_moves.specs.Marks.{Mark, Turn, Delivery, Pulse}
-use Rattle.ivy_moves.specs.Nodes.{Node, Effect, stays, turned, verdict_of, delivered, pulsing}
-use Rattle.ivy_moves.specs.Worlds.{World, Moves, GoesOnWith, MayGoOn, Leads}
+use Rattle.ivy_moves.specs.stated.Nodes.{Node, Effect, stays, turned, verdict_of, delivered, pulsing}
+use Rattle.ivy_moves.specs.stated.Worlds.{World, Moves, GoesOnWith, MayGoOn, Leads}
 
 -- one effect after another
 abbrev pub followed_by : {C : Type 0} → Effect C → Effect C → Effect C

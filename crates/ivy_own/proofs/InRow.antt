@@ -8,12 +8,12 @@ use Rattle.ivy_model.specs.declared.Row.TheVariants.{Loads, Stores}
 use Rattle.ivy_model.specs.Rows.{record_in, row}
 use Rattle.ivy_calls.specs.declared.answer.Answer.{Answer}
 use Rattle.ivy_calls.specs.Answers.{answer, answers}
-use Rattle.ivy_calls.specs.Rows.{in_row}
-use Rattle.ivy_twin.specs.Known.{Listed}
-use Rattle.ivy_seating.specs.ivy_site.SiteView.{SiteView}
-use Rattle.ivy_seating.specs.ivy_site.Handed.{site_handed}
-use Rattle.ivy_seating.specs.ivy_site.Calls.{AreAnswered, AreTaken, BeginsRow}
-use Rattle.ivy_own.specs.Owned.{IsOwned, AnswersMore, grown_by}
+use Rattle.ivy_calls.specs.BlockAnswers.{in_row}
+use Rattle.ivy_own.specs.Known.{Listed}
+use Rattle.ivy_site.specs.SiteView.{SiteView}
+use Rattle.ivy_site.specs.Handed.{site_handed}
+use Rattle.ivy_site.specs.Calls.{AreAnswered, AreTaken, BeginsRow}
+use Rattle.ivy_own.specs.OwnSeats.{IsOwned, AnswersMore, grown_by}
 use Rattle.ivy_own.proofs.Owning.{call_made, more_owned, recorded_more, recorded_none}
 
 -- what a word of a row is answered does not tell whose it is

@@ -2,3 +2,5 @@ mod Each
 mod Owning
 mod InRow
 mod Reported
+pub mod Totals
+pub mod Keeps

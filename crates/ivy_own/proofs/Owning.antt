@@ -7,24 +7,24 @@ use Rattle.ivy_model.specs.declared.Record.{Record}
 use Rattle.ivy_model.specs.declared.Reply.{Reply}
 use Rattle.ivy_calls.specs.declared.answer.Answer.{Answer}
 use Rattle.ivy_calls.specs.Answers.{answer, answers}
-use Rattle.ivy_twin.specs.Known.{Listed, listed}
-use Rattle.ivy_program.specs.Programs.{Called}
-use Rattle.ivy_moves.specs.Cores.{Outcome}
-use Rattle.ivy_moves.specs.Nodes.{Effect}
-use Rattle.ivy_seating.specs.ivy_ether.ivy_host.ivy_heap.declared.Answer as memory_answer
-use Rattle.ivy_seating.specs.ivy_ether.ivy_host.ivy_heap.declared.Answer.TheVariants.{Given, Awaited, Unserved}
-use Rattle.ivy_seating.specs.ivy_ether.ivy_host.ivy_memory.Memories.{CallBegun, polled}
-use Rattle.ivy_seating.specs.ivy_ether.ivy_host.Hosts.{Host, begins_with, number_of, recorded, turn_of, turned_at}
-use Rattle.ivy_seating.specs.ivy_ether.ivy_host.Managers.{Managed, managed_ops}
-use Rattle.ivy_seating.specs.ivy_site.SiteView.{SiteView}
-use Rattle.ivy_seating.specs.ivy_site.Handed.{site_handed}
-use Rattle.ivy_seating.specs.ivy_site.Calls.{BeginsCall}
-use Rattle.ivy_seating.specs.ivy_site.Sites.{AfterTurn, SiteTurns, first_keeping}
-use Rattle.ivy_seating.specs.ivy_site.declared.turn.Turn as turn
-use Rattle.ivy_seating.specs.ivy_site.declared.turn.Turn.TheVariants.{Idle, Moved, Ended}
+use Rattle.ivy_own.specs.Known.{Listed, listed}
+use Rattle.ivy_program.specs.stated.Programs.{Called}
+use Rattle.ivy_moves.specs.stated.Cores.{Outcome}
+use Rattle.ivy_moves.specs.stated.Nodes.{Effect}
+use Rattle.ivy_alloc.specs.declared.CallProgress as memory_answer
+use Rattle.ivy_alloc.specs.declared.CallProgress.TheVariants.{Given, Awaited, Unserved}
+use Rattle.ivy_memory.specs.stated.Memories.{CallBegun, polled}
+use Rattle.ivy_host.specs.stated.Hosts.{Host, begins_with, number_of, recorded, turn_of, turned_at}
+use Rattle.ivy_host.specs.stated.Managers.{Managed, managed_ops}
+use Rattle.ivy_site.specs.SiteView.{SiteView}
+use Rattle.ivy_site.specs.Handed.{site_handed}
+use Rattle.ivy_site.specs.Calls.{BeginsCall}
+use Rattle.ivy_site.specs.Sites.{AfterTurn, SiteTurns, first_keeping}
+use Rattle.ivy_site.specs.declared.turn.Turn as turn
+use Rattle.ivy_site.specs.declared.turn.Turn.TheVariants.{Idle, Moved, Ended}
 use Rattle.ivy_seating.specs.Turns.{KeepsAnswers}
 use Rattle.ivy_own.proofs.Each.{got_last}
-use Rattle.ivy_own.specs.Owned.{IsOwned, AnswersMore, TurnsOwn, came, grown, grown_by, last_reply_in}
+use Rattle.ivy_own.specs.OwnSeats.{IsOwned, AnswersMore, TurnsOwn, came, grown, grown_by, last_reply_in}
 
 abbrev H : Type 0
 H = Host Managed
@@ -38,7 +38,7 @@ RepliedHost c n o = (reply : Reply)
 abbrev CameHost : Call → H → H → Type 0
 CameHost c n o = (o.history ≡ n.history) ⊎ RepliedHost c n o
 
-with_came : (n : H) (c : Call) (a : CallBegun Managed) (r : memory_answer.Answer) (o : Outcome H)
+with_came : (n : H) (c : Call) (a : CallBegun Managed) (r : memory_answer.CallProgress) (o : Outcome H)
     → begins_with n c a r ≡ Some o → CameHost c n o.after
 with_came n c a (Given r) o e =
     subst (λ (x : Outcome H). CameHost c n x.after)

@@ -3,15 +3,15 @@ use Rattle.std.proofs.Common.{◌≡◌, ℕ, List, [], length, sym, subst, ◌�
 use Rattle.std.proofs.lemmas.List.{length-replicate}
 use Rattle.std.proofs.lemmas.Option.{slice_get_within, slice_get_cases}
 use Rattle.ivy_model.specs.declared.Config.{Config}
-use Rattle.ivy_model.specs.Config.{IsConfig}
+use Rattle.ivy_model.specs.stated.Config.{IsConfig}
 use Rattle.ivy_calls.specs.declared.answer.Answer.{Answer}
 use Rattle.ivy_calls.specs.Answers.{answers}
 use Rattle.ivy_calls.specs.Shared.{AreShared}
-use Rattle.ivy_program.specs.Programs.{Program, Called}
-use Rattle.ivy_seating.specs.ivy_ether.Views.{View}
-use Rattle.ivy_seating.specs.ivy_ether.Programs.{Told}
+use Rattle.ivy_program.specs.stated.Programs.{Program, Called}
+use Rattle.ivy_ether.specs.Views.{View}
+use Rattle.ivy_ether.specs.Programs.{Told}
 use Rattle.ivy_seating.specs.Reports.{NodeReport, IsHandedReport}
-use Rattle.ivy_seating.specs.Told.{AreTold}
+use Rattle.ivy_seating.specs.Collected.{AreTold}
 use Rattle.ivy_session.proofs.Reported.{reported}
 use Rattle.ivy_own.specs.Ended.{AreClosed}
 use Rattle.ivy_own.specs.Reports.{IsOwnReport, all_open}

@@ -2,7 +2,7 @@
 use Rattle.std.specs.Prelude.{◌≡◌, ℕ, List, [], slice_get, Some}
 use Rattle.ivy_calls.specs.declared.answer.Answer.{Answer}
 use Rattle.ivy_calls.specs.Answers.{answers}
-use Rattle.ivy_twin.specs.Known.{Listed, listed}
+use Rattle.ivy_own.specs.Known.{Listed, listed}
 use Rattle.ivy_seating.specs.Reports.{NodeReport}
 
 -- the halves of the first lists, which are empty

@@ -1,5 +1,6 @@
-pub mod Owned
+pub mod OwnSeats
 pub mod Ended
 pub mod Faults
 pub mod Reports
-pub use Rattle.ivy_session.specs as ivy_session
+pub mod Known
+pub mod Rule

@@ -3,7 +3,7 @@ use Rattle.std.specs.Prelude.{ℕ, List, [], replicate}
 use Rattle.ivy_model.specs.declared.Config.{Config}
 use Rattle.ivy_calls.specs.declared.answer.Answer.{Answer}
 use Rattle.ivy_calls.specs.Shared.{AreShared}
-use Rattle.ivy_program.specs.Programs.{Program, Called}
+use Rattle.ivy_program.specs.stated.Programs.{Program, Called}
 use Rattle.ivy_seating.specs.Reports.{NodeReport, IsHandedReport}
 
 -- of all nodes, and what the work of each gave

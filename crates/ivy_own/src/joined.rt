@@ -5,9 +5,9 @@ ghost use Rattle.ivy_own.specs.Ended.{HasEnded};
 ghost use Rattle.ivy_own.specs.Faults.{IsOwnStop};
 
 use crate::fault::OwnFault;
+use crate::{Half, Naming};
 use ivy_calls::{Answer, Work};
 use ivy_model::Fault;
-use ivy_twin::{Half, Naming};
 use std::alloc::Allocator;
 use std::thread::{Promise, PromisedHandle, Threads};
 

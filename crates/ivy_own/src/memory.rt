@@ -1,15 +1,15 @@
 //! The memory of a session as the worker of one node has it.
 ghost use Rattle.std.specs.Prelude.{◌≡◌, ◌*◌, ◌≤◌, Some, IfErr, MatchResult, length};
-ghost use Rattle.ivy_model.specs.Legal.{HasWidth};
+ghost use Rattle.ivy_model.specs.stated.Legal.{HasWidth};
 ghost use Rattle.ivy_model.specs.Rows.{numbers_in};
-ghost use Rattle.ivy_calls.specs.Rows.{in_row};
+ghost use Rattle.ivy_calls.specs.BlockAnswers.{in_row};
 ghost use Rattle.ivy_workers.specs.Stops.{IsStop};
-ghost use Rattle.ivy_own.specs.Owned.{grown, grown_by};
+ghost use Rattle.ivy_own.specs.OwnSeats.{grown, grown_by};
 
 use crate::owned::OwnSeat;
+use crate::{Half, Naming, Tie};
 use ivy_calls::{Answer, SharedMemory};
 use ivy_model::{Call, Fault, Reply, Row};
-use ivy_twin::{Half, Naming, Tie};
 use ivy_workers::{ProgramWorker, Turnstile};
 use std::alloc::Allocator;
 use std::marker::Model;
@@ -29,7 +29,7 @@ pub(crate) struct OwnMemory<'r, 's, 'g, 'a, 't, T, J: Naming, A: Allocator, R, G
 impl<'r, 's, 'g, 'a, 't, T, J: Naming, A: Allocator, R, G> Model
     for OwnMemory<'r, 's, 'g, 'a, 't, T, J, A, R, G> {
     ghost use Rattle.std.specs.Prelude.{◌≡◌};
-    ghost use Rattle.ivy_twin.specs.Known.{Listed};
+    ghost use Rattle.ivy_own.specs.Known.{Listed};
     ghost use Rattle.ivy_calls.specs.declared.answer.Answer.{Answer};
 
     ghost Value = { Listed Answer };

@@ -1,18 +1,18 @@
 //! The place of a node with own code, as it stands behind its lock.
 ghost use Rattle.std.specs.Prelude.{◌≡◌, ◌*◌, ◌≤◌, Some, IfErr, IfOk, IsTrue, MatchResult, length};
-ghost use Rattle.ivy_model.specs.Legal.{HasWidth};
+ghost use Rattle.ivy_model.specs.stated.Legal.{HasWidth};
 ghost use Rattle.ivy_model.specs.Rows.{numbers_in};
-ghost use Rattle.ivy_program.specs.Owned.{IsFree};
+ghost use Rattle.ivy_program.specs.OwnCode.{IsFree};
 ghost use Rattle.ivy_calls.specs.Answers.{answers};
-ghost use Rattle.ivy_calls.specs.Rows.{in_row};
+ghost use Rattle.ivy_calls.specs.BlockAnswers.{in_row};
 ghost use Rattle.ivy_workers.specs.Stops.{IsStop};
-ghost use Rattle.ivy_own.specs.Owned.{IsOwned, IsReady, IsAsked, TurnsOwn, grown, grown_by, last_reply_in};
+ghost use Rattle.ivy_own.specs.OwnSeats.{IsOwned, IsReady, IsAsked, TurnsOwn, grown, grown_by, last_reply_in};
 
+use crate::{Half, Naming, Tells, Tie};
 use ivy_calls::Answer;
+use ivy_ether::Setup;
 use ivy_model::{Call, Fault, Reply, Row};
-use ivy_seating::ivy_ether::Setup;
 use ivy_seating::{Home, Homed, Keep, Seated, Site, turn_on_wire};
-use ivy_twin::{Half, Naming, Tells, Tie};
 use ivy_workers::{Pulses, Seat, Traffic};
 use std::alloc::Allocator;
 use std::marker::{Model, PhantomData};
@@ -247,7 +247,7 @@ struct AnsweredInRow;
 
 impl<'a> Tells<Answer, InRow<'a>> for AnsweredInRow {
     ghost use Rattle.ivy_model.specs.Rows.{numbers_in};
-    ghost use Rattle.ivy_calls.specs.Rows.{in_row};
+    ghost use Rattle.ivy_calls.specs.BlockAnswers.{in_row};
 
     ghost items = { λ r. in_row r.kind r.addr (numbers_in r.words r.bytes.now) };
 }
@@ -445,9 +445,9 @@ pub(crate) struct Owned<'e, S: Setup, H: Home, J: Naming, A: Allocator> {
 
 impl<'e, S: Setup, H: Home, J: Naming, A: Allocator> Model for Owned<'e, S, H, J, A> {
     ghost use Rattle.std.specs.Prelude.{◌≡◌};
-    ghost use Rattle.ivy_twin.specs.Known.{Listed};
+    ghost use Rattle.ivy_own.specs.Known.{Listed};
     ghost use Rattle.ivy_calls.specs.declared.answer.Answer.{Answer};
-    ghost use Rattle.ivy_own.specs.Owned.{IsOwned};
+    ghost use Rattle.ivy_own.specs.OwnSeats.{IsOwned};
 
     ghost Value = { Listed Answer };
 

@@ -1,27 +1,27 @@
 //! How the nodes of a session of own code are seated, and how their sites are taken at its end.
 ghost use Rattle.std.specs.Prelude.{◌≡◌, ◌<◌, ◌≤◌, ◌+◌, ℕ, [], true, Some, All, IfErr, IfOk, IfSome, length, map, slice_get, vec_len};
-ghost use Rattle.ivy_model.specs.Config.{IsConfig};
+ghost use Rattle.ivy_model.specs.stated.Config.{IsConfig};
 ghost use Rattle.ivy_calls.specs.Answers.{answers};
-ghost use Rattle.ivy_twin.specs.Known.{listed};
+ghost use Rattle.ivy_own.specs.Known.{listed};
 ghost use Rattle.ivy_model.specs.declared.Config.{Config};
-ghost use Rattle.ivy_program.specs.Programs.{Called};
-ghost use Rattle.ivy_seating.specs.ivy_site.Sites.{first_keeping};
-ghost use Rattle.ivy_seating.specs.ivy_ether.Rule.{times};
-ghost use Rattle.ivy_seating.specs.ivy_ether.Views.{beginner, with_issued};
-ghost use Rattle.ivy_seating.specs.ivy_ether.Words.{IsNewcomer};
+ghost use Rattle.ivy_program.specs.stated.Programs.{Called};
+ghost use Rattle.ivy_site.specs.Sites.{first_keeping};
+ghost use Rattle.ivy_ether.specs.Rule.{times};
+ghost use Rattle.ivy_ether.specs.Views.{beginner, with_issued};
+ghost use Rattle.ivy_ether.specs.EtherViews.{IsNewcomer};
 ghost use Rattle.ivy_workers.specs.Stops.{IsStop};
 ghost use Rattle.ivy_seating.specs.Reports.{report_of, AllKeep};
-ghost use Rattle.ivy_seating.specs.Told.{TellsOf, AreTold};
+ghost use Rattle.ivy_seating.specs.Collected.{TellsOf, AreTold};
 ghost use Rattle.ivy_own.specs.Ended.{AreFresh, AreClosed, HasEnded};
 ghost use Rattle.ivy_own.specs.Reports.{all_open};
 
 use crate::joined::Ended;
 use crate::owned::Owned;
+use crate::{Half, Naming, Starter, Tie};
 use ivy_calls::{Answer, Work};
+use ivy_ether::{Ether, Pass, Setup, Wired};
 use ivy_model::{Config, Fault};
-use ivy_seating::ivy_ether::{Ether, Pass, Setup, Wired};
 use ivy_seating::{Home, Keep, Seated, Site, close_seat};
-use ivy_twin::{Half, Naming, Starter, Tie};
 use std::alloc::Allocator;
 use std::sync::{Mutex, Wait};
 

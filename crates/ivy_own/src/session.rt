@@ -1,9 +1,9 @@
 //! Sessions of own code.
 ghost use Rattle.std.specs.Prelude.{◌≡◌, ◌↔◌, ◌<◌, ℕ, true, Some, All, IsErrOf, IfOk, IfErr, slice_get, vec_len};
-ghost use Rattle.ivy_model.specs.Config.{IsConfig};
-ghost use Rattle.ivy_seating.specs.ivy_ether.Views.{beginner};
-ghost use Rattle.ivy_seating.specs.ivy_ether.Words.{IsNewcomer};
-ghost use Rattle.ivy_workers.specs.Limits.{AreLimits};
+ghost use Rattle.ivy_model.specs.stated.Config.{IsConfig};
+ghost use Rattle.ivy_ether.specs.Views.{beginner};
+ghost use Rattle.ivy_ether.specs.EtherViews.{IsNewcomer};
+ghost use Rattle.ivy_workers.specs.SessionLimits.{AreLimits};
 ghost use Rattle.ivy_workers.specs.Stops.{IsStop};
 ghost use Rattle.ivy_seating.specs.Reports.{AllKeep};
 ghost use Rattle.ivy_own.specs.Ended.{AreFresh, HasEnded};
@@ -16,11 +16,11 @@ use crate::owned::{OwnSeat, Owned};
 use crate::places::{Places, close_all, seat_all};
 use crate::report::OwnReport;
 use crate::workers::run_crew;
+use crate::{Half, Naming, Opened, Tie};
 use ivy_calls::{Answer, Work};
+use ivy_ether::{Ether, Pass, Setup, Wired};
 use ivy_model::{Config, Fault};
-use ivy_seating::ivy_ether::{Ether, Pass, Setup, Wired};
 use ivy_seating::{Home, Keep, Report};
-use ivy_twin::{Half, Naming, Opened, Tie};
 use ivy_workers::{Crew, Gate, Limits, Shared};
 use std::alloc::Allocator;
 use std::marker::Brand;

@@ -1,15 +1,15 @@
 //! The workers of a session of own code, two for each node.
 ghost use Rattle.std.specs.Prelude.{◌≡◌, ◌<◌, ℕ, [], Some, IfErr, IfOk, slice_get, vec_len};
-ghost use Rattle.ivy_twin.specs.Known.{listed};
+ghost use Rattle.ivy_own.specs.Known.{listed};
 ghost use Rattle.ivy_workers.specs.Stops.{IsStop};
 ghost use Rattle.ivy_own.specs.Ended.{AreFresh, HasEnded};
 
 use crate::joined::{Ended, GivenUp, Works, join_all};
 use crate::memory::OwnMemory;
 use crate::owned::OwnSeat;
+use crate::{Half, Naming, Tie};
 use ivy_calls::{Answer, Work};
 use ivy_model::Fault;
-use ivy_twin::{Half, Naming, Tie};
 use ivy_workers::{Crew, Gate, Turnstile};
 use std::alloc::Allocator;
 use std::sync::{Mutex, Wait};

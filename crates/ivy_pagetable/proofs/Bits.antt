@@ -18,8 +18,8 @@ use Rattle.std.proofs.lemmas.Nat.{pow_pos}
 use Rattle.std.proofs.lemmas.Nat.Bits.{bit_at-zero, bit_at-lt, bit_at_lowest, bit_at-suc}
 use Rattle.std.proofs.lemmas.Nat.Bits.{bit_at_above, bit_at_and, bit_at_set_same, bit_at_set_other}
 use Rattle.std.proofs.lemmas.Nat.Bits.{bit_at_clear_same, bit_at_clear_other, same_from_bits_below}
-use Rattle.ivy_model.specs.Limits.{most_nodes}
-use Rattle.ivy_pagetable.specs.NodeSets.{Nodes, nodes_of, IsBelow, bits_of, nodes_with}
+use Rattle.ivy_model.specs.stated.Limits.{most_nodes}
+use Rattle.ivy_pagetable.specs.stated.NodeSets.{Nodes, nodes_of, IsBelow, bits_of, nodes_with}
 use Rattle.ivy_pagetable.specs.Bits.{lists, has, in_range, lists_with, no_bit, contains_with}
 use Rattle.ivy_pagetable.proofs.NodeSets.{tied, untied, sets_equal}
 

@@ -5,7 +5,7 @@ use Rattle.std.specs.Cmp.{nat_cmp_total, unsigned_tied}
 use Rattle.std.specs.FinSet as set
 use Rattle.std.specs.FinSet.{contains-insert, contains-remove, same_set, nat_cmp-IsAntisymmetric}
 use Rattle.std.proofs.lemmas.Bool.{cases_eq, eq-eqb, ne_eqb}
-use Rattle.ivy_pagetable.specs.NodeSets.{Nodes}
+use Rattle.ivy_pagetable.specs.stated.NodeSets.{Nodes}
 
 swapped : (a b : ℕ) → eqb a b ≡ eqb b a
 swapped a b =

@@ -8,8 +8,8 @@ use Rattle.std.proofs.Math.Nat.{suc-mul}
 use Rattle.std.proofs.lemmas.List.{length-replicate, places, same_lists, take-replicate, drop-replicate, take-append-drop, nil_from_length}
 use Rattle.std.proofs.lemmas.Bool.{cases_Bool, eq-eqb}
 use Rattle.ivy_pagetable.specs.declared.entry.Entry.{Entry}
-use Rattle.ivy_pagetable.specs.TableState.{Table, pages_in}
-use Rattle.ivy_pagetable.specs.Tables.{with_page}
+use Rattle.ivy_pagetable.specs.stated.TableState.{Table, pages_in}
+use Rattle.ivy_pagetable.specs.stated.Tables.{with_page}
 use Rattle.ivy_pagetable.specs.Lending.{poured, spilled, page_given_back}
 
 pub length-pages_in : (size n : ℕ) (bytes : List ℕ) → length (pages_in size n bytes) ≡ n

@@ -7,15 +7,15 @@ use Rattle.std.proofs.lemmas.List.{drop-drop, places, same_lists, set-get_or}
 use Rattle.std.proofs.lemmas.List.Elements.{All-drop}
 use Rattle.byteorder.specs.Endian.{big_number, big_bytes}
 use Rattle.ivy_model.specs.declared.Row.TheVariants.{Loads, Stores}
-use Rattle.ivy_model.specs.Legal.{IsWidth}
+use Rattle.ivy_model.specs.stated.Legal.{IsWidth}
 use Rattle.ivy_model.specs.Rows.{numbers_in}
-use Rattle.ivy_model.specs.Serves.{overwrite}
+use Rattle.ivy_model.specs.stated.Serves.{overwrite}
 use Rattle.ivy_model.proofs.Rows.{same_numbers}
 use Rattle.ivy_pagetable.specs.declared.word.Word.TheVariants.{Load, Store}
-use Rattle.ivy_pagetable.specs.TableState.{Table}
-use Rattle.ivy_pagetable.specs.Tables.{page_at, with_page}
-use Rattle.ivy_pagetable.specs.Words.{IsWord}
-use Rattle.ivy_pagetable.specs.Rows.{AreCarried, with_row}
+use Rattle.ivy_pagetable.specs.stated.TableState.{Table}
+use Rattle.ivy_pagetable.specs.stated.Tables.{page_at, with_page}
+use Rattle.ivy_pagetable.specs.stated.Words.{IsWord}
+use Rattle.ivy_pagetable.specs.WordRows.{AreCarried, with_row}
 use Rattle.ivy_pagetable.proofs.Words.{bytes_of_number, length-overwrite}
 
 eight : IsWidth 8

@@ -9,11 +9,11 @@ use Rattle.ivy_pagetable.specs.declared.entry.Entry.{Entry}
 use Rattle.ivy_pagetable.specs.declared.entry.Entry.TheVariants as entry
 use Rattle.ivy_pagetable.specs.declared.put_off.PutOff.{PutOff}
 use Rattle.ivy_pagetable.specs.declared.wide_table.Locked.{Locked}
-use Rattle.ivy_pagetable.specs.Entries.{nothing, without, is_locked, can_put_off, with_put_off}
+use Rattle.ivy_pagetable.specs.stated.Entries.{nothing, without, is_locked, can_put_off, with_put_off}
 use Rattle.ivy_pagetable.specs.Pages.{shown_page, HasAllOrNone}
-use Rattle.ivy_pagetable.specs.States.{IdleState}
-use Rattle.ivy_pagetable.specs.TableState.{Table}
-use Rattle.ivy_pagetable.specs.Tables.{first_entry, first_table, entry_at, page_at, with_entry, with_page}
+use Rattle.ivy_pagetable.specs.stated.States.{IdleState}
+use Rattle.ivy_pagetable.specs.stated.TableState.{Table}
+use Rattle.ivy_pagetable.specs.stated.Tables.{first_entry, first_table, entry_at, page_at, with_entry, with_page}
 use Rattle.ivy_pagetable.specs.WideTables.{entries_in, WaitsAt, can_put_off_at, put_off_at, IsWideTable}
 
 each_of : {X Y : Type 0} (f : X → Y) (x : X) (n : ℕ) → map f (replicate n x) ≡ replicate n (f x)

@@ -14,12 +14,12 @@ use Rattle.byteorder.specs.Endian.{big_number, big_bytes}
 use Rattle.byteorder.specs.Numbers.{big_from-cons, big_from-lt, length-bytes_high_first}
 use Rattle.ivy_model.specs.declared.Act.{Act}
 use Rattle.ivy_model.specs.declared.Act.TheVariants as act
-use Rattle.ivy_model.specs.Serves.{overwrite}
+use Rattle.ivy_model.specs.stated.Serves.{overwrite}
 use Rattle.ivy_pagetable.specs.declared.word.Word.{Word}
 use Rattle.ivy_pagetable.specs.declared.word.Word.TheVariants.{Load, Store, Count, Advance, Await}
 use Rattle.ivy_pagetable.specs.declared.word.Outcome.{Outcome}
 use Rattle.ivy_pagetable.specs.declared.word.Out.TheVariants.{Value, Full, Done, NotYet}
-use Rattle.ivy_pagetable.specs.Words.{IsWord, access_outcome, carried, carried_out, needs_write, number_at, outcome_of, width_of, offset_of, with_number, word_with}
+use Rattle.ivy_pagetable.specs.stated.Words.{IsWord, access_outcome, carried, carried_out, needs_write, number_at, outcome_of, width_of, offset_of, with_number, word_with}
 
 pub length-overwrite : (bytes new : List ℕ) (at : ℕ) → at + length new ≤ length bytes
     → length (overwrite bytes at new) ≡ length bytes

@@ -11,8 +11,8 @@ use Rattle.std.proofs.Math.Nat.{pow-succ'}
 use Rattle.std.proofs.lemmas.Bool.{cases_Bool, cases_lt, eqb-false}
 use Rattle.std.proofs.lemmas.Map.Views.{any-filter_same}
 use Rattle.std.proofs.lemmas.Nat.Bits.{bit_at_lowest, bit_at-suc, bit_at_above}
-use Rattle.ivy_model.specs.Limits.{most_nodes}
-use Rattle.ivy_pagetable.specs.NodeSets.{Nodes, nodes_with}
+use Rattle.ivy_model.specs.stated.Limits.{most_nodes}
+use Rattle.ivy_pagetable.specs.stated.NodeSets.{Nodes, nodes_with}
 
 -- whether a node stands in a list, and whether a number has its bit
 abbrev pub lists : List ℕ → ℕ → Bool

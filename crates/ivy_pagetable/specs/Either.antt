@@ -1,10 +1,10 @@
 -- The page table of a node of any configuration, as the definitions see it.
 use Rattle.std.specs.Prelude.{ℕ, ◌<◌, length}
-use Rattle.ivy_model.specs.Limits.{most_pages}
+use Rattle.ivy_model.specs.stated.Limits.{most_pages}
 use Rattle.ivy_pagetable.specs.declared.node_table.Either.{Either}
 use Rattle.ivy_pagetable.specs.declared.node_table.Either.TheVariants as either
-use Rattle.ivy_pagetable.specs.TableState.{Table}
-use Rattle.ivy_pagetable.specs.Tables.{IsBlank}
+use Rattle.ivy_pagetable.specs.stated.TableState.{Table}
+use Rattle.ivy_pagetable.specs.stated.Tables.{IsBlank}
 
 abbrev pub either_table : {A : Type 0} → Either A → Table
 either_table (either.Narrow t) = t

@@ -7,8 +7,8 @@ use Rattle.std.specs.List.{concat, refill}
 use Rattle.std.specs.Borrow.{Lends, Fml, RattleType, MutBor, Array, u8}
 use Rattle.ivy_pagetable.specs.contracts.table.PageTable as table
 use Rattle.std.specs.declared.alloc.Allocator.{Ghosts}
-use Rattle.ivy_pagetable.specs.TableState.{Table, pages_in}
-use Rattle.ivy_pagetable.specs.Tables.{with_page}
+use Rattle.ivy_pagetable.specs.stated.TableState.{Table, pages_in}
+use Rattle.ivy_pagetable.specs.stated.Tables.{with_page}
 
 -- the region with these bytes written from a place on
 abbrev pub poured : List ℕ → ℕ → List ℕ → List ℕ

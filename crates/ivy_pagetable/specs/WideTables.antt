@@ -5,9 +5,9 @@ use Rattle.ivy_pagetable.specs.declared.entry.Entry.{Entry}
 use Rattle.ivy_pagetable.specs.declared.entry.Entry.TheVariants as entry
 use Rattle.ivy_pagetable.specs.declared.wide_table.Locked.{Locked}
 use Rattle.ivy_pagetable.specs.declared.put_off.PutOff.{PutOff}
-use Rattle.ivy_pagetable.specs.Entries.{is_locked, can_put_off, with_put_off}
+use Rattle.ivy_pagetable.specs.stated.Entries.{is_locked, can_put_off, with_put_off}
 use Rattle.ivy_pagetable.specs.Pages.{HasAllOrNone}
-use Rattle.ivy_pagetable.specs.States.{IdleState}
+use Rattle.ivy_pagetable.specs.stated.States.{IdleState}
 
 -- the entries: idle ones, but for the one at which a word waits
 abbrev pub entries_in : List IdleState → Option Locked → List Entry

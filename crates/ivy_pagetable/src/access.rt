@@ -1,5 +1,5 @@
 ghost use Rattle.std.specs.Prelude.{◌≡◌};
-ghost use Rattle.ivy_pagetable.specs.Accesses.{reads, writes, suffices};
+ghost use Rattle.ivy_pagetable.specs.stated.Accesses.{reads, writes, suffices};
 
 use crate::word::Word;
 

@@ -1,7 +1,7 @@
 ghost use Rattle.std.specs.Prelude.{◌≡◌, ◌≢◌, length, nat_lt, if◌then◌else◌};
 ghost use Rattle.std.specs.FinSet as set;
-ghost use Rattle.ivy_pagetable.specs.Entries.{with_one_put_off};
-ghost use Rattle.ivy_pagetable.specs.Limits.{most_put_off};
+ghost use Rattle.ivy_pagetable.specs.stated.Entries.{with_one_put_off};
+ghost use Rattle.ivy_pagetable.specs.stated.EntryLimits.{most_put_off};
 
 use crate::node_set::NodeSet;
 use crate::put_off::PutOff;
@@ -16,9 +16,10 @@ pub struct AwaitAcks {
 }
 
 impl Model for AwaitAcks {
-    ghost use Rattle.ivy_pagetable.specs.States.{AwaitAcksState, IsAwaitAcks};
+    ghost use Rattle.ivy_pagetable.specs.stated.States.{AwaitAcksState};
+    ghost use Rattle.ivy_pagetable.specs.States.{IsAwaitAcks};
     ghost use Rattle.std.specs.Coded.{codes};
-    ghost use Rattle.ivy_pagetable.specs.NodeSets.{nodes_code};
+    ghost use Rattle.ivy_pagetable.specs.stated.NodeSets.{nodes_code};
 
     ghost Value = { AwaitAcksState };
 

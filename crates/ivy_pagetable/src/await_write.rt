@@ -1,6 +1,6 @@
 ghost use Rattle.std.specs.Prelude.{◌≡◌, length, nat_lt, if◌then◌else◌};
-ghost use Rattle.ivy_pagetable.specs.Entries.{with_one_put_off};
-ghost use Rattle.ivy_pagetable.specs.Limits.{most_put_off};
+ghost use Rattle.ivy_pagetable.specs.stated.Entries.{with_one_put_off};
+ghost use Rattle.ivy_pagetable.specs.stated.EntryLimits.{most_put_off};
 
 use crate::put_off::PutOff;
 use crate::waiting::Waiting;
@@ -14,7 +14,7 @@ pub struct AwaitWrite {
 }
 
 impl Model for AwaitWrite {
-    ghost use Rattle.ivy_pagetable.specs.States.{AwaitWriteState};
+    ghost use Rattle.ivy_pagetable.specs.stated.States.{AwaitWriteState};
 
     ghost Value = { AwaitWriteState };
 

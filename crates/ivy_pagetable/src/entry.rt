@@ -1,5 +1,6 @@
 ghost use Rattle.std.specs.Prelude.{◌≡◌, if◌then◌else◌};
-ghost use Rattle.ivy_pagetable.specs.Entries.{is_locked, is_owner, readable, writable, suffices_at, can_put_off, with_put_off};
+ghost use Rattle.ivy_pagetable.specs.stated.Entries.{is_locked, is_owner, readable, writable, can_put_off, with_put_off};
+ghost use Rattle.ivy_pagetable.specs.Entries.{suffices_at};
 
 use crate::await_acks::AwaitAcks;
 use crate::await_write::AwaitWrite;

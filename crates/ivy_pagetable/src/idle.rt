@@ -1,7 +1,7 @@
 ghost use Rattle.std.specs.Prelude.{◌≡◌, ◌≢◌, ◌<◌, true, false};
 ghost use Rattle.std.specs.FinSet as set;
 ghost use Rattle.ivy_pagetable.specs.declared.access.Access.TheVariants.{Read, Write};
-ghost use Rattle.ivy_model.specs.Limits.{most_nodes};
+ghost use Rattle.ivy_model.specs.stated.Limits.{most_nodes};
 ghost use Rattle.ivy_pagetable.specs.States.{IsIdle};
 
 use crate::access::Access;
@@ -18,9 +18,10 @@ pub struct Idle {
 }
 
 impl Model for Idle {
-    ghost use Rattle.ivy_pagetable.specs.States.{IdleState, IsIdle};
+    ghost use Rattle.ivy_pagetable.specs.stated.States.{IdleState};
+    ghost use Rattle.ivy_pagetable.specs.States.{IsIdle};
     ghost use Rattle.std.specs.Coded.{codes};
-    ghost use Rattle.ivy_pagetable.specs.NodeSets.{nodes_code};
+    ghost use Rattle.ivy_pagetable.specs.stated.NodeSets.{nodes_code};
 
     ghost Value = { IdleState };
 

@@ -1,7 +1,7 @@
-//! The pages of a node: the state of each one's entry, its bytes, and who is asked for it.
+//! The pages of one node: their bytes, the states of an entry, and the laws of page managers.
 //!
-//! Numbers in brackets, as [1], at the end of what a call does are those of the faults that the
-//! call may answer (`ivy_model`'s `Fault`). A call without brackets answers none.
+//! Numbers in brackets, as [1], at the end of what a call does are those of the faults that the call may answer
+//! (`ivy_model`'s `Fault`). A call without brackets answers none.
 #![tactic(auto)]
 
 mod access;

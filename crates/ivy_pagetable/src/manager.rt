@@ -1,5 +1,6 @@
 ghost use Rattle.std.specs.Prelude.{◌≡◌};
-ghost use Rattle.ivy_pagetable.specs.Manager.{Ops, Laws};
+ghost use Rattle.ivy_pagetable.specs.stated.Manager.{Ops};
+ghost use Rattle.ivy_pagetable.specs.Manager.{Laws};
 
 /// How a node finds the owner of a page: it asks the next hop, which is the owner or forwards the
 /// request. Two ways of Li and Hudak (1989) are in the crates `ivy_fixed` and `ivy_dynamic`. A page

@@ -1,7 +1,7 @@
 ghost use Rattle.std.specs.Prelude.{◌≡◌, ◌<◌, ◌↔◌, IsTrue};
 ghost use Rattle.std.specs.FinSet as set;
-ghost use Rattle.ivy_model.specs.Limits.{most_nodes};
-ghost use Rattle.ivy_pagetable.specs.NodeSets.{nodes_of, bits_of, nodes_with};
+ghost use Rattle.ivy_model.specs.stated.Limits.{most_nodes};
+ghost use Rattle.ivy_pagetable.specs.stated.NodeSets.{nodes_of, bits_of, nodes_with};
 
 use arrayvec::ArrayVec;
 use ivy_model::MOST_NODES;
@@ -21,8 +21,8 @@ impl Model for NodeSet {
     ghost use Rattle.std.specs.FinSet as set;
     ghost use Rattle.std.specs.Coded.{coded_ℕ};
     ghost use Rattle.std.specs.Prelude.{◌<◌, ◌^◌};
-    ghost use Rattle.ivy_model.specs.Limits.{most_nodes};
-    ghost use Rattle.ivy_pagetable.specs.NodeSets.{nodes_with};
+    ghost use Rattle.ivy_model.specs.stated.Limits.{most_nodes};
+    ghost use Rattle.ivy_pagetable.specs.stated.NodeSets.{nodes_with};
     ghost use Rattle.ivy_pagetable.specs.Bits.{number_of_set, number_of_set_with};
 
     ghost Value = { set.FinSet nat_cmp };

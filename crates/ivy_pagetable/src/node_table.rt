@@ -2,15 +2,16 @@
 ghost use Rattle.std.specs.Prelude.{◌≡◌, ◌+◌, ◌*◌, ◌%◌, ℕ, ◌<◌, ◌≤◌, ◌⊎◌, true, false, All, length, drop, if◌then◌else◌, IsTrue, IsFalse, IsSome, IfSome, IfNone, IfOk, OnOk, OnErr, IsOkUnless};
 ghost use Rattle.ivy_model.specs.declared.Row.TheVariants.{Loads, Stores};
 ghost use Rattle.ivy_model.specs.Rows.{numbers_in};
-ghost use Rattle.ivy_model.specs.Config.{IsConfig};
-ghost use Rattle.ivy_model.specs.Serves.{overwrite};
-ghost use Rattle.ivy_model.specs.Limits.{most_pages};
-ghost use Rattle.ivy_pagetable.specs.Entries.{can_put_off, with_put_off, is_locked, suffices_at};
+ghost use Rattle.ivy_model.specs.stated.Config.{IsConfig};
+ghost use Rattle.ivy_model.specs.stated.Serves.{overwrite};
+ghost use Rattle.ivy_model.specs.stated.Limits.{most_pages};
+ghost use Rattle.ivy_pagetable.specs.stated.Entries.{can_put_off, with_put_off, is_locked};
+ghost use Rattle.ivy_pagetable.specs.Entries.{suffices_at};
 ghost use Rattle.ivy_pagetable.specs.Either.{MayBeUnmade};
 ghost use Rattle.ivy_pagetable.specs.Lent.{lent_entry};
-ghost use Rattle.ivy_pagetable.specs.Tables.{entry_at, page_at, with_entry, with_page, first_table};
-ghost use Rattle.ivy_pagetable.specs.Rows.{row_len, AreCarried, with_row};
-ghost use Rattle.ivy_pagetable.specs.Words.{IsWord, carried_out, needs_write, width_of, offset_of, number_at};
+ghost use Rattle.ivy_pagetable.specs.stated.Tables.{entry_at, page_at, with_entry, with_page, first_table};
+ghost use Rattle.ivy_pagetable.specs.WordRows.{row_len, AreCarried, with_row};
+ghost use Rattle.ivy_pagetable.specs.stated.Words.{IsWord, carried_out, needs_write, width_of, offset_of, number_at};
 
 use crate::entry::Entry;
 use crate::lent::LentEntry;
@@ -39,10 +40,10 @@ pub struct NodeTable<A: Allocator> {
 }
 
 impl<A: Allocator> Model for NodeTable<A> {
-    ghost use Rattle.ivy_pagetable.specs.TableState.{Table};
+    ghost use Rattle.ivy_pagetable.specs.stated.TableState.{Table};
     ghost use Rattle.ivy_pagetable.specs.Either.{either_table, IsEither};
     ghost use Rattle.std.specs.Coded.{codes};
-    ghost use Rattle.ivy_pagetable.specs.NodeSets.{nodes_code};
+    ghost use Rattle.ivy_pagetable.specs.stated.NodeSets.{nodes_code};
 
     ghost Value = { Table };
 

@@ -1,7 +1,7 @@
 ghost use Rattle.std.specs.Prelude.{◌≡◌, ◌≢◌, ◌==◌, ◌+◌, ◌≤◌, ℕ, List, [], length, replicate, IfOk, OnOk, OnErr};
-ghost use Rattle.ivy_model.specs.Serves.{overwrite};
+ghost use Rattle.ivy_model.specs.stated.Serves.{overwrite};
 ghost use Rattle.ivy_pagetable.specs.Pages.{shown_page};
-ghost use Rattle.ivy_pagetable.specs.Words.{IsWord, carried_out};
+ghost use Rattle.ivy_pagetable.specs.stated.Words.{IsWord, carried_out};
 
 use crate::row::put;
 use crate::word::{Out, Word};

@@ -1,7 +1,7 @@
 //! The bytes of words that lie in a row.
 ghost use Rattle.std.specs.Prelude.{◌≡◌, ◌+◌, ◌*◌, ◌≤◌, length};
-ghost use Rattle.ivy_model.specs.Serves.{overwrite};
-ghost use Rattle.ivy_pagetable.specs.Rows.{row_len};
+ghost use Rattle.ivy_model.specs.stated.Serves.{overwrite};
+ghost use Rattle.ivy_pagetable.specs.WordRows.{row_len};
 
 /// How many words of 8 bytes lie in a page of this size from a place on, and in `len` bytes.
 #[inline(always)]

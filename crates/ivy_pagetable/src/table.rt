@@ -1,10 +1,10 @@
 ghost use Rattle.std.specs.Prelude.{◌≡◌, ◌+◌, ◌*◌, ◌<◌, ◌≤◌, All, length, replicate, if◌then◌else◌, IfOk, IsOkUnless};
 ghost use Rattle.std.specs.List.{concat};
-ghost use Rattle.ivy_model.specs.Config.{IsConfig};
-ghost use Rattle.ivy_model.specs.Serves.{overwrite};
-ghost use Rattle.ivy_pagetable.specs.Entries.{can_put_off, with_put_off};
-ghost use Rattle.ivy_pagetable.specs.Tables.{first_entry, entry_at, page_at, with_entry, with_page, first_table};
-ghost use Rattle.ivy_pagetable.specs.Words.{IsWord, carried_out, width_of, offset_of, number_at};
+ghost use Rattle.ivy_model.specs.stated.Config.{IsConfig};
+ghost use Rattle.ivy_model.specs.stated.Serves.{overwrite};
+ghost use Rattle.ivy_pagetable.specs.stated.Entries.{can_put_off, with_put_off};
+ghost use Rattle.ivy_pagetable.specs.stated.Tables.{first_entry, entry_at, page_at, with_entry, with_page, first_table};
+ghost use Rattle.ivy_pagetable.specs.stated.Words.{IsWord, carried_out, width_of, offset_of, number_at};
 
 use crate::access::Access;
 use crate::entry::Entry;
@@ -29,9 +29,9 @@ pub struct PageTable<A: Allocator> {
 
 impl<A: Allocator> Model for PageTable<A> {
     ghost use Rattle.std.specs.Prelude.{◌≡◌, ◌*◌, length};
-    ghost use Rattle.ivy_pagetable.specs.TableState.{Table, pages_in};
+    ghost use Rattle.ivy_pagetable.specs.stated.TableState.{Table, pages_in};
     ghost use Rattle.std.specs.Coded.{codes};
-    ghost use Rattle.ivy_pagetable.specs.NodeSets.{nodes_code};
+    ghost use Rattle.ivy_pagetable.specs.stated.NodeSets.{nodes_code};
 
     ghost Value = { Table };
 

@@ -1,6 +1,6 @@
 ghost use Rattle.std.specs.Prelude.{◌≡◌, ◌<◌, ◌≤◌, [], ◌∷◌, ◌++◌, length, nat_le, nat_lt, if◌then◌else◌};
-ghost use Rattle.ivy_pagetable.specs.Entries.{with_one_put_off};
-ghost use Rattle.ivy_pagetable.specs.Limits.{most_put_off};
+ghost use Rattle.ivy_pagetable.specs.stated.Entries.{with_one_put_off};
+ghost use Rattle.ivy_pagetable.specs.stated.EntryLimits.{most_put_off};
 
 use crate::put_off::PutOff;
 use crate::word::Word;
@@ -21,7 +21,8 @@ pub struct Waiting {
 }
 
 impl Model for Waiting {
-    ghost use Rattle.ivy_pagetable.specs.States.{WaitingState, FitsPutOff};
+    ghost use Rattle.ivy_pagetable.specs.stated.States.{WaitingState};
+    ghost use Rattle.ivy_pagetable.specs.States.{FitsPutOff};
 
     ghost Value = { WaitingState };
 

@@ -1,12 +1,12 @@
 //! The page table of a node that has many pages and uses few.
 ghost use Rattle.std.specs.Prelude.{◌≡◌, ◌+◌, ℕ, ◌<◌, ◌≤◌, true, [], All, length, map, replicate, if◌then◌else◌, ◌↔◌, IsTrue, IsFalse, IfOk, OnOk, OnErr, IsOkUnless};
-ghost use Rattle.ivy_model.specs.Config.{IsConfig};
-ghost use Rattle.ivy_model.specs.Serves.{overwrite};
-ghost use Rattle.ivy_pagetable.specs.Entries.{can_put_off, with_put_off, is_locked};
+ghost use Rattle.ivy_model.specs.stated.Config.{IsConfig};
+ghost use Rattle.ivy_model.specs.stated.Serves.{overwrite};
+ghost use Rattle.ivy_pagetable.specs.stated.Entries.{can_put_off, with_put_off, is_locked};
 ghost use Rattle.ivy_pagetable.specs.Lent.{lent_entry};
-ghost use Rattle.ivy_pagetable.specs.Tables.{first_entry, entry_at, page_at, IsBlank, with_entry, with_page, first_table};
+ghost use Rattle.ivy_pagetable.specs.stated.Tables.{first_entry, entry_at, page_at, IsBlank, with_entry, with_page, first_table};
 ghost use Rattle.ivy_pagetable.specs.WideTables.{WaitsAt, can_put_off_at, put_off_at};
-ghost use Rattle.ivy_pagetable.specs.Words.{IsWord, carried_out, needs_write, width_of, offset_of, number_at};
+ghost use Rattle.ivy_pagetable.specs.stated.Words.{IsWord, carried_out, needs_write, width_of, offset_of, number_at};
 
 use crate::entry::Entry;
 use crate::idle::Idle;
@@ -42,11 +42,11 @@ pub struct WideTable<A: Allocator> {
 
 impl<A: Allocator> Model for WideTable<A> {
     ghost use Rattle.std.specs.Prelude.{map};
-    ghost use Rattle.ivy_pagetable.specs.TableState.{Table};
+    ghost use Rattle.ivy_pagetable.specs.stated.TableState.{Table};
     ghost use Rattle.ivy_pagetable.specs.Pages.{shown_page};
     ghost use Rattle.ivy_pagetable.specs.WideTables.{entries_in, IsWideTable};
     ghost use Rattle.std.specs.Coded.{codes};
-    ghost use Rattle.ivy_pagetable.specs.NodeSets.{nodes_code};
+    ghost use Rattle.ivy_pagetable.specs.stated.NodeSets.{nodes_code};
 
     ghost Value = { Table };
 

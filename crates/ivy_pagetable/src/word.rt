@@ -1,8 +1,8 @@
 ghost use Rattle.std.specs.Prelude.{◌≡◌, ◌+◌, ◌^◌, ◌<◌, ◌≤◌, false, length, All, if◌then◌else◌, ◌==◌};
 ghost use Rattle.byteorder.specs.Endian.{big_bytes};
-ghost use Rattle.ivy_model.specs.Legal.{IsWidth};
-ghost use Rattle.ivy_model.specs.Serves.{overwrite};
-ghost use Rattle.ivy_pagetable.specs.Words.{IsWord, needs_write, width_of, offset_of, word_with, number_at, access_outcome, advanced, awaited, outcome_of, carried_out};
+ghost use Rattle.ivy_model.specs.stated.Legal.{IsWidth};
+ghost use Rattle.ivy_model.specs.stated.Serves.{overwrite};
+ghost use Rattle.ivy_pagetable.specs.stated.Words.{IsWord, needs_write, width_of, offset_of, word_with, number_at, access_outcome, advanced, awaited, outcome_of, carried_out};
 
 use byteorder::{BigEndian, ByteOrder};
 use ivy_model::{Act, Reply};

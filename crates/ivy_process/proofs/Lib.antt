@@ -1,2 +1,2 @@
 pub mod Logged
-pub mod Owned
+pub mod OwnNodes

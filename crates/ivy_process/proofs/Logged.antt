@@ -5,13 +5,13 @@ use Rattle.std.proofs.KnownBytes.{Appends-nil, Appends-trans}
 use Rattle.std.proofs.lemmas.List.Concat.{flat_map-append}
 use Rattle.ivy_moves.specs.Events.{Event}
 use Rattle.ivy_moves.specs.Marks.{Delivery, marks, marks_of}
-use Rattle.ivy_moves.specs.ivy_link.declared.Verdict.TheVariants as verdict
-use Rattle.ivy_join.specs.ivy_lines.Printed.{event_line}
-use Rattle.ivy_join.specs.ivy_site.SiteView.{SiteView}
-use Rattle.ivy_join.specs.ivy_site.Sites.{GoesOnOnce, without_ready}
-use Rattle.ivy_join.proofs.of_ivy_lines.Owned.{marks-append}
-use Rattle.ivy_join.proofs.Steps.{received-listed}
-use Rattle.ivy_process.specs.Logging.{Served, served, lines_of, AddsEvents, IsEmptied, IsLogged, Streams, StreamsWhole}
+use Rattle.ivy_link.specs.declared.Verdict.TheVariants as verdict
+use Rattle.ivy_logs.specs.Printed.{event_line}
+use Rattle.ivy_site.specs.SiteView.{SiteView}
+use Rattle.ivy_site.specs.Sites.{GoesOnOnce, without_ready}
+use Rattle.ivy_logs.proofs.Entries.{marks-append}
+use Rattle.ivy_join.proofs.EventSteps.{received-listed}
+use Rattle.ivy_process.specs.NodeLogs.{Served, served, lines_of, AddsEvents, IsEmptied, IsLogged, StreamsPart, StreamsWhole}
 
 -- no event
 pub stays : (s s' : Served) → s'.site.events ≡ s.site.events → s'.unlogged ≡ s.unlogged → AddsEvents s s'
@@ -47,7 +47,7 @@ pub emptied : (s s' : Served) → IsEmptied s s' → AddsEvents s s'
 emptied s s' e = stays s s' (ap (λ (x : SiteView). x.events) e.site) e.unlogged
 
 module _ (a b d : Served) (first second third : Option (List ℕ)) where
-  pub streams-on : Streams a b first second → AddsEvents b d → Streams a d first second
+  pub streams-on : StreamsPart a b first second → AddsEvents b d → StreamsPart a d first second
   streams-on x y = record {
     events = x.events ++ y.events;
     listed = y.listed ∙ ap (λ l. l ++ marks y.events) x.listed
@@ -62,7 +62,7 @@ module _ (a b d : Served) (first second third : Option (List ℕ)) where
         ∙ ap (λ l. a.unlogged ++ l) (sym (flat_map-append event_line x.events y.events));
   }
 
-  pub streams-logged : Streams a b first second → IsLogged b d second third → Streams a d first third
+  pub streams-logged : StreamsPart a b first second → IsLogged b d second third → StreamsPart a d first third
   streams-logged x y = record {
     events = x.events;
     listed = y.listed ∙ x.listed;
@@ -71,7 +71,7 @@ module _ (a b d : Served) (first second third : Option (List ℕ)) where
     all = ap (λ l. (x.part ++ b.unlogged) ++ l) y.whole ∙ append-nil (x.part ++ b.unlogged) ∙ x.all;
   }
 
-  pub streams-whole : Streams a b first second → IsLogged b d second third
+  pub streams-whole : StreamsPart a b first second → IsLogged b d second third
       → StreamsWhole a d first third
   streams-whole x y = record {
     events = x.events;
@@ -82,7 +82,7 @@ module _ (a b d : Served) (first second third : Option (List ℕ)) where
   }
 
   -- first this service, then that
-  pub streams-further : Streams a b first second → Streams b d second third → Streams a d first third
+  pub streams-further : StreamsPart a b first second → StreamsPart b d second third → StreamsPart a d first third
   streams-further x y = record {
     events = x.events ++ y.events;
     listed = y.listed ∙ ap (λ l. l ++ marks y.events) x.listed
@@ -98,7 +98,7 @@ module _ (a b d : Served) (first second third : Option (List ℕ)) where
   }
 
 -- nothing was written yet
-pub streams-begin : (a b : Served) (log : Option (List ℕ)) → AddsEvents a b → Streams a b log log
+pub streams-begin : (a b : Served) (log : Option (List ℕ)) → AddsEvents a b → StreamsPart a b log log
 streams-begin a b log x = record {
   events = x.events;
   listed = x.listed;
@@ -127,6 +127,6 @@ once-listed source bytes s s' once =
 
 -- so it is where node and log are called by another name
 pub streams-same : (a b b' : Served) (first second second' : Option (List ℕ)) → b' ≡ b
-    → second' ≡ second → Streams a b first second → Streams a b' first second'
+    → second' ≡ second → StreamsPart a b first second → StreamsPart a b' first second'
 streams-same a b b' first second second' node log x =
-    subst (λ l. Streams a b' first l) (sym log) (subst (λ n. Streams a n first second) (sym node) x)
+    subst (λ l. StreamsPart a b' first l) (sym log) (subst (λ n. StreamsPart a n first second) (sym node) x)

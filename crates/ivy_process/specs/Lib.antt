@@ -1,4 +1,3 @@
-pub mod Logging
-pub mod Owned
+pub mod NodeLogs
+pub mod OwnNodes
 pub mod Stories
-pub use Rattle.ivy_join.specs as ivy_join

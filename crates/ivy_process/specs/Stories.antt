@@ -1,6 +1,6 @@
 -- The answers of a list that exists in proofs alone.
 use Rattle.std.specs.Prelude.{List, [], ◌∷◌, ◌++◌}
-use Rattle.ivy_join.specs.ivy_lines.ivy_calls.declared.Answer.{Answer}
+use Rattle.ivy_calls.specs.declared.Answer.{Answer}
 use Rattle.ivy_process.specs.declared.story.Link.{Link}
 use Rattle.ivy_process.specs.declared.story.Link.TheVariants.{Start, More}
 

@@ -5,9 +5,12 @@ use ivy_model::Fault;
 use std::alloc::{AllocError, AllocFailed};
 use std::fmt;
 
+/// What a call gives a work whose node has failed. The failure itself is kept, and is what the service ends with.
+pub(crate) const NODE_FAILED: Fault = Fault::TurnLimit;
+
 /// Why a node stops before its input ends.
 #[derive(Clone, Copy, Debug, PartialEq, Eq)]
-pub enum Failure {
+pub enum NodeFailure {
     /// A call was refused: memory or message numbers ran out, or the allowed turns are used up [1, 17, 21].
     Refused(Fault),
     /// So many messages for this node are kept, since it acknowledged none of them.
@@ -26,39 +29,39 @@ pub enum Failure {
     Unwritten,
 }
 
-impl fmt::Display for Failure {
+impl fmt::Display for NodeFailure {
     fn fmt<W: fmt::Write>(&self, f: &mut fmt::Formatter<W>) -> fmt::Result {
         match self {
-            Failure::Refused(fault) => write!(f, "{fault}"),
-            Failure::Kept(node) => write!(f, "kept messages to node {node}"),
-            Failure::NotItsLog(line) => write!(f, "line {line} of the log: no such event"),
-            Failure::Differs(line) => write!(
+            NodeFailure::Refused(fault) => write!(f, "{fault}"),
+            NodeFailure::Kept(node) => write!(f, "kept messages to node {node}"),
+            NodeFailure::NotItsLog(line) => write!(f, "line {line} of the log: no such event"),
+            NodeFailure::Differs(line) => write!(
                 f,
                 "line {line} of the log: the work makes another call"
             ),
-            Failure::Unanswered => f.write_str("a call has no reply, and the input has ended"),
-            Failure::GaveUp(fault) => write!(f, "the work gave up: {fault}"),
-            Failure::Unlogged => f.write_str("the log takes no more"),
-            Failure::Unwritten => f.write_str("standard output takes no more"),
+            NodeFailure::Unanswered => f.write_str("a call has no reply, and the input has ended"),
+            NodeFailure::GaveUp(fault) => write!(f, "the work gave up: {fault}"),
+            NodeFailure::Unlogged => f.write_str("the log takes no more"),
+            NodeFailure::Unwritten => f.write_str("standard output takes no more"),
         }
     }
 }
 
-impl From<Fault> for Failure {
-    fn from(fault: Fault) -> Failure {
-        Failure::Refused(fault)
+impl From<Fault> for NodeFailure {
+    fn from(fault: Fault) -> NodeFailure {
+        NodeFailure::Refused(fault)
     }
 }
 
-impl From<AllocError> for Failure {
-    fn from(_error: AllocError) -> Failure {
-        Failure::Refused(Fault::Memory)
+impl From<AllocError> for NodeFailure {
+    fn from(_error: AllocError) -> NodeFailure {
+        NodeFailure::Refused(Fault::Memory)
     }
 }
 
-impl<T: Drop> From<AllocFailed<T>> for Failure {
-    fn from(_error: AllocFailed<T>) -> Failure {
-        Failure::Refused(Fault::Memory)
+impl<T: Drop> From<AllocFailed<T>> for NodeFailure {
+    fn from(_error: AllocFailed<T>) -> NodeFailure {
+        NodeFailure::Refused(Fault::Memory)
     }
 }
 
@@ -67,12 +70,12 @@ pub(crate) fn line_of(lines: &[u64], place: usize) -> u64 {
     lines.get(place).copied().unwrap_or(0)
 }
 
-impl Failure {
+impl NodeFailure {
     /// Why a log, whose entries stand in these lines, cannot be made again.
-    pub(crate) fn of_replay(why: NotPlayed, lines: &[u64]) -> Failure {
+    pub(crate) fn of_replay(why: NotPlayed, lines: &[u64]) -> NodeFailure {
         match why {
-            NotPlayed::Refused(fault) => Failure::Refused(fault),
-            NotPlayed::NoSuchEvent(place) => Failure::NotItsLog(line_of(lines, place)),
+            NotPlayed::Refused(fault) => NodeFailure::Refused(fault),
+            NotPlayed::NoSuchEvent(place) => NodeFailure::NotItsLog(line_of(lines, place)),
         }
     }
 }

@@ -2,7 +2,7 @@
 
 /// What a node in a process may use.
 #[derive(Clone, Copy, Debug)]
-pub struct Limits {
+pub struct NodeLimits {
     /// So many milliseconds pass between pulses, at least.
     pub pulse_millis: u64,
     /// How many turns its program makes at most.
@@ -13,7 +13,7 @@ pub struct Limits {
 
 /// What a node did not take.
 #[derive(Clone, Copy, Debug)]
-pub struct Told {
+pub struct Untaken {
     /// Lines that have no frame.
     pub bad_lines: u64,
     /// Strings that spell no frame of this configuration.

@@ -16,7 +16,7 @@ const MOST_LOOKS: u64 = 16_384;
 
 /// What was found.
 #[derive(Drop)]
-pub enum Taken {
+pub enum Mailed {
     /// A line, without its LF.
     Line(Vec<u8>),
     /// No line waits.
@@ -28,7 +28,7 @@ pub enum Taken {
 /// Where lines come from, as who serves sees it.
 pub trait Inbox {
     /// The first line that waits.
-    fn take<R: Wait>(&self, rt: &R) -> Taken;
+    fn take<R: Wait>(&self, rt: &R) -> Mailed;
 
     /// Waits until something comes, so many milliseconds at most. It may return before.
     fn wait<R: Wait>(&self, rt: &R, millis: u64);
@@ -45,11 +45,11 @@ impl Inside {
         self.lines.len() < MOST_LINES && self.lines.push_back(line).is_ok()
     }
 
-    fn take(&mut self) -> Taken {
+    fn take(&mut self) -> Mailed {
         match self.lines.pop_front() {
-            Some(line) => Taken::Line(line),
-            None if self.has_ended => Taken::Ended,
-            None => Taken::Nothing,
+            Some(line) => Mailed::Line(line),
+            None if self.has_ended => Mailed::Ended,
+            None => Mailed::Nothing,
         }
     }
 }
@@ -136,7 +136,7 @@ impl Mail {
 }
 
 impl Inbox for Mail {
-    fn take<R: Wait>(&self, rt: &R) -> Taken {
+    fn take<R: Wait>(&self, rt: &R) -> Mailed {
         self.has_come.store(false, Ordering::SeqCst);
         self.inside.lock(rt).take()
     }

@@ -1,33 +1,30 @@
 //! A node that notes each event that it makes in lines for its log.
 ghost use Rattle.std.specs.Prelude.{◌≡◌, ◌↔◌, ◌++◌, ◌<◌, [], IfOk, IsTrue, OnOk};
 ghost use Rattle.std.specs.Io.KnownBytes.{Appends};
-ghost use Rattle.ivy_model.specs.Config.{IsConfig};
-ghost use Rattle.ivy_model.specs.Legal.{HasWidth};
-ghost use Rattle.ivy_program.specs.Owned.{IsFree};
+ghost use Rattle.ivy_model.specs.stated.Config.{IsConfig};
+ghost use Rattle.ivy_model.specs.stated.Legal.{HasWidth};
+ghost use Rattle.ivy_program.specs.OwnCode.{IsFree};
 ghost use Rattle.ivy_moves.specs.declared.keep.Keep.TheVariants.{Nothing};
-ghost use Rattle.ivy_join.specs.ivy_lines.Printed.{event_line, head_line};
-ghost use Rattle.ivy_join.specs.ivy_lines.declared.own.Entry.TheVariants.{Asked, Answered};
-ghost use Rattle.ivy_join.specs.ivy_lines.Own.{own_head_line};
-ghost use Rattle.ivy_join.specs.ivy_site.Sites.{first_keeping};
-ghost use Rattle.ivy_process.specs.Logging.{AddsEvents, IsEmptied, IsLogged, IsRestarted, served};
-ghost use Rattle.ivy_process.specs.Owned.{IsOpened, Notes};
+ghost use Rattle.ivy_logs.specs.Printed.{head_line};
+ghost use Rattle.ivy_logs.specs.declared.entry.LogEntry.TheVariants.{Asked, Answered};
+ghost use Rattle.ivy_logs.specs.Entries.{entry_line};
+ghost use Rattle.ivy_site.specs.Sites.{first_keeping};
+ghost use Rattle.ivy_process.specs.NodeLogs.{AddsEvents, IsEmptied, IsLogged, IsMadeAgain, IsRestarted, served};
+ghost use Rattle.ivy_process.specs.OwnNodes.{IsOpened, Notes};
 
-use crate::failure::Failure;
-use crate::limits::{Limits, Told};
+use crate::failure::NodeFailure;
+use crate::limits::{NodeLimits, Untaken};
 use crate::sites::{make_turns, print_values, push_frames};
-use crate::writing::write_through;
-use ivy_join::ivy_lines::ivy_calls::Answer;
-use ivy_join::ivy_lines::{
-    Entry, Head, Log, OwnLog, parse_frame, push_answered, push_asked, push_event, push_head,
-    push_own_head,
-};
-use ivy_join::ivy_site::{Site, Verdict};
-use ivy_join::{replay, replay_own};
+use crate::streams::write_through;
+use ivy_calls::Answer;
+use ivy_join::replay;
+use ivy_link::MOST_AHEAD;
+use ivy_logs::{Log, LogEntry, LogHead, LogKind, parse_frame, push_entry, push_head};
 use ivy_model::{Call, Config, Fault, Reply};
-use ivy_moves::ivy_link::MOST_AHEAD;
 use ivy_moves::{Event, Keep};
 use ivy_program::Program;
-use ivy_wire::{Bytes, read};
+use ivy_site::{Site, Verdict};
+use ivy_wire::{Bytes, read_frame};
 use std::alloc::Global;
 use std::io::Write;
 use std::marker::Model;
@@ -38,12 +35,12 @@ use std::marker::Model;
 pub struct Node {
     alloc: Global,
     site: Site<Global>,
-    limits: Limits,
+    limits: NodeLimits,
     /// So many turns its program made.
     turns: u64,
     /// Of each node the greatest number that it acknowledged.
     acknowledged: Vec<u64>,
-    told: Told,
+    told: Untaken,
     /// The lines of the events that the log lacks.
     lines: String,
     /// The lines of frames that go out once the log has these.
@@ -70,10 +67,10 @@ impl Drop for Node {
 
 impl Model for Node {
     ghost use Rattle.std.specs.Prelude.{string_bytes};
-    ghost use Rattle.ivy_process.specs.Logging.{Served, served};
+    ghost use Rattle.ivy_process.specs.NodeLogs.{Served, served};
     ghost use Rattle.std.specs.Coded.{codes};
-    ghost use Rattle.ivy_join.specs.ivy_pagetable.NodeSets.{nodes_code};
-    ghost use Rattle.ivy_join.specs.ivy_site.ivy_alloc.Heap.{heap_state_code};
+    ghost use Rattle.ivy_pagetable.specs.stated.NodeSets.{nodes_code};
+    ghost use Rattle.ivy_alloc.specs.Heap.{heap_state_code};
 
     ghost Value = { Served };
 
@@ -89,8 +86,8 @@ impl Node {
         config: &Config,
         me: u8,
         program: Program<Global>,
-        limits: Limits,
-    ) -> Result<Node, Failure>
+        limits: NodeLimits,
+    ) -> Result<Node, NodeFailure>
         requires limits { IsConfig config.now }
         requires here { me < config.now.nodes }
         ensures { IfOk result (λ node. node ≡ served (first_keeping Nothing config.now me program) []) }
@@ -102,23 +99,22 @@ impl Node {
     /// The node with own code of this log, as it was when its log ended; where that has no entry, it has made no call yet.
     /// It is what the events of the log make of it, and its code has made the calls of the log. Nothing that the events sent
     /// is sent again, but for what pulses bring.
-    pub fn open(alloc: Global, log: &OwnLog<Global>, limits: Limits) -> Result<Node, Failure>
+    pub fn open(alloc: Global, log: &Log<Global>, limits: NodeLimits) -> Result<Node, NodeFailure>
         requires limits { IsConfig log.now.head.config }
         requires here { log.now.head.me < log.now.head.config.nodes }
         ensures { IfOk result (λ node. IsOpened log.now.head log.now.entries.items node) }
     {
-        let Head { me, config } = log.head;
+        let LogHead { me, config } = log.head;
         let site = Site::open_keeping(alloc, &config, me, Keep::Nothing)?;
-        let mut node = Node::at_beginning(alloc, site, limits)?;
-        if let Err(why) = replay_own(&mut node.site, &log.entries) {
-            return Err(Failure::of_replay(why, &log.lines));
-        }
-        node.learn_told(log);
-        Ok(node)
+        Node::at_end(alloc, site, limits, log)
     }
 
     /// The node of a site whose program is at its beginning.
-    fn at_beginning(alloc: Global, site: Site<Global>, limits: Limits) -> Result<Node, Failure>
+    fn at_beginning(
+        alloc: Global,
+        site: Site<Global>,
+        limits: NodeLimits,
+    ) -> Result<Node, NodeFailure>
         ensures { IfOk result (λ node. node ≡ served site []) }
     {
         let acknowledged = vec![in alloc; 0u64; usize::from(site.config().nodes)]?;
@@ -128,7 +124,7 @@ impl Node {
             limits,
             turns: 0,
             acknowledged,
-            told: Told {
+            told: Untaken {
                 bad_lines: 0,
                 no_frames: 0,
             },
@@ -145,46 +141,44 @@ impl Node {
         config: &Config,
         me: u8,
         program: Program<Global>,
-        limits: Limits,
+        limits: NodeLimits,
         log: &Log<Global>,
-    ) -> Result<Node, Failure>
+    ) -> Result<Node, NodeFailure>
         requires limits { IsConfig config.now }
         requires here { me < config.now.nodes }
-        ensures { IfOk result (λ node. IsRestarted config.now me program log.now.events.items node) }
+        ensures { IfOk result (λ node. IsRestarted config.now me program log.now.entries.items node) }
     {
-        let mut node = Node::start(alloc, config, me, program, limits)?;
-        if let Err(why) = replay(&mut node.site, &log.events) {
-            return Err(Failure::of_replay(why, &log.lines));
+        // for the proof: the program is written down, so that a log adds no call to it.
+        let _ = program.instructions();
+        let site = Site::keeping(alloc, config, me, program, Keep::Nothing)?;
+        Node::at_end(alloc, site, limits, log)
+    }
+
+    /// The node of a site whose program is at its beginning, as it was when its log ended.
+    fn at_end(
+        alloc: Global,
+        site: Site<Global>,
+        limits: NodeLimits,
+        log: &Log<Global>,
+    ) -> Result<Node, NodeFailure>
+        requires { site.events ≡ [] }
+        ensures { IfOk result (λ node. IsMadeAgain log.now.entries.items site node) }
+    {
+        let mut node = Node::at_beginning(alloc, site, limits)?;
+        if let Err(why) = replay(&mut node.site, &log.entries) {
+            return Err(NodeFailure::of_replay(why, &log.lines));
         }
         node.learn_acknowledged(log);
         Ok(node)
-    }
-
-    /// What a string that an event delivers acknowledges.
-    fn learn(&mut self, event: &Event<Bytes<Global>>)
-        ensures { self.new ≡ self.old }
-    {
-        if let Event::Delivered(string) = event {
-            self.heed(string.bytes());
-        }
     }
 
     /// What the strings that a log delivers acknowledge.
     fn learn_acknowledged(&mut self, log: &Log<Global>)
         ensures { self.new ≡ self.old }
     {
-        for event in &log.events {
-            self.learn(event);
-        }
-    }
-
-    /// What the strings that a log of own code delivers acknowledge.
-    fn learn_told(&mut self, log: &OwnLog<Global>)
-        ensures { self.new ≡ self.old }
-    {
         for entry in &log.entries {
-            if let Entry::Did(event) = entry {
-                self.learn(event);
+            if let LogEntry::Did(Event::Delivered(string)) = entry {
+                self.heed(string.bytes());
             }
         }
     }
@@ -202,12 +196,12 @@ impl Node {
     }
 
     /// What it may use.
-    pub fn limits(&self) -> Limits {
+    pub fn limits(&self) -> NodeLimits {
         self.limits
     }
 
     /// What it did not take.
-    pub fn told(&self) -> Told {
+    pub fn told(&self) -> Untaken {
         self.told
     }
 
@@ -225,7 +219,7 @@ impl Node {
         ensures { self.new ≡ self.old }
     {
         let config = self.site.config();
-        let Ok(frame) = read(&config, string) else {
+        let Ok(frame) = read_frame(&config, string) else {
             return false;
         };
         if frame.dest == self.site.me() {
@@ -234,16 +228,16 @@ impl Node {
         true
     }
 
-    /// Notes an event that the site made.
-    fn note(&mut self, event: Event<Bytes<Global>>) -> Result<(), Failure>
-        ensures { OnOk result (self.new ≡ served self.old.site (self.old.unlogged ++ event_line event)) }
+    /// Notes what the node did, called or was answered.
+    fn note(&mut self, entry: LogEntry<Bytes<Global>>) -> Result<(), NodeFailure>
+        ensures { OnOk result (self.new ≡ served self.old.site (self.old.unlogged ++ entry_line entry)) }
     {
-        push_event(self.alloc, &mut self.lines, &event)?;
+        push_entry(self.alloc, &mut self.lines, &entry)?;
         Ok(())
     }
 
     /// Goes on with the strings of a node that it holds, one after another, until none of them is the next one.
-    fn go_on(&mut self, from: u8) -> Result<(), Failure>
+    fn go_on(&mut self, from: u8) -> Result<(), NodeFailure>
         requires { from < self.old.site.config.nodes }
         ensures { OnOk result (AddsEvents self.old self.new) }
     {
@@ -251,20 +245,20 @@ impl Node {
             let Some(string) = self.site.go_on_with(from)? else {
                 break;
             };
-            self.note(Event::Delivered(string))?;
+            self.note(LogEntry::Did(Event::Delivered(string)))?;
         }
         Ok(())
     }
 
     /// A string comes. It tells of one that spells no frame.
-    fn deliver(&mut self, string: Bytes<Global>) -> Result<(), Failure>
+    fn deliver(&mut self, string: Bytes<Global>) -> Result<(), NodeFailure>
         ensures { OnOk result (AddsEvents self.old self.new) }
     {
         let (verdict, from) = self.site.deliver_alone(&string)?;
         if verdict == Verdict::NotMine {
             return Ok(());
         }
-        self.note(Event::Delivered(string))?;
+        self.note(LogEntry::Did(Event::Delivered(string)))?;
         if verdict == Verdict::Next {
             self.go_on(from)?;
         }
@@ -272,7 +266,7 @@ impl Node {
     }
 
     /// The string of a line comes. One that spells no frame of this configuration is counted.
-    fn take(&mut self, bytes: Vec<u8>) -> Result<(), Failure>
+    fn take(&mut self, bytes: Vec<u8>) -> Result<(), NodeFailure>
         ensures { OnOk result (AddsEvents self.old self.new) }
     {
         let string = Bytes::from_vec(self.alloc, bytes)?;
@@ -284,7 +278,7 @@ impl Node {
     }
 
     /// A line comes. A frame for another node is left alone, and a line without a frame is counted.
-    pub fn hear(&mut self, line: &[u8]) -> Result<(), Failure>
+    pub fn hear(&mut self, line: &[u8]) -> Result<(), NodeFailure>
         ensures { OnOk result (AddsEvents self.old self.new) }
     {
         match parse_frame(self.alloc, line)? {
@@ -298,30 +292,30 @@ impl Node {
     }
 
     /// Makes so many turns at most, until one does nothing. It says how many did something.
-    pub fn make_turns(&mut self, most: u64) -> Result<u64, Failure>
+    pub fn make_turns(&mut self, most: u64) -> Result<u64, NodeFailure>
         ensures { OnOk result (AddsEvents self.old self.new) }
     {
         let left = self.limits.turns.saturating_sub(self.turns);
         if left == 0 && !self.site.ended() {
-            return Err(Failure::Refused(Fault::TurnLimit));
+            return Err(NodeFailure::Refused(Fault::TurnLimit));
         }
         let made = make_turns(&mut self.site, most.min(left))?;
         self.turns = self.turns.saturating_add(made);
         if made > 0 {
-            self.note(Event::Turns(made))?;
+            self.note(LogEntry::Did(Event::Turns(made)))?;
         }
         Ok(made)
     }
 
     /// Writes the lines of the frames that wait.
-    fn take_frames(&mut self) -> Result<(), Failure>
+    fn take_frames(&mut self) -> Result<(), NodeFailure>
         ensures { OnOk result (IsEmptied self.old self.new) }
     {
         push_frames(self.alloc, &mut self.site, &mut self.frames)
     }
 
     /// A pulse to a node, where it is another one.
-    fn pulse_to(&mut self, to: u8) -> Result<(), Failure>
+    fn pulse_to(&mut self, to: u8) -> Result<(), NodeFailure>
         ensures { OnOk result (AddsEvents self.old self.new) }
     {
         if to >= self.site.config().nodes || to == self.site.me() {
@@ -330,13 +324,13 @@ impl Node {
         self.take_frames()?;
         self.site.pulse(to)?;
         if self.site.has_frame() {
-            self.note(Event::Pulsed(to))?;
+            self.note(LogEntry::Did(Event::Pulsed(to)))?;
         }
         Ok(())
     }
 
     /// Pulses to each other node.
-    pub fn pulse(&mut self) -> Result<(), Failure>
+    pub fn pulse(&mut self) -> Result<(), NodeFailure>
         ensures { OnOk result (AddsEvents self.old self.new) }
     {
         for to in 0..self.site.config().nodes {
@@ -346,10 +340,11 @@ impl Node {
     }
 
     /// Goes on with each string that it holds and that is the next one now. A node that was killed may have such strings.
-    pub fn go_on_all(&mut self) -> Result<(), Failure>
+    pub fn go_on_all(&mut self) -> Result<(), NodeFailure>
         ensures { OnOk result (AddsEvents self.old self.new) }
     {
         for from in 0..self.site.config().nodes {
+            // for the proof: there are as many nodes as before.
             if from < self.site.config().nodes {
                 self.go_on(from)?;
             }
@@ -358,7 +353,7 @@ impl Node {
     }
 
     /// Whether no more messages for one node are kept than may be.
-    pub fn check_kept(&self) -> Result<(), Failure> {
+    pub fn check_kept(&self) -> Result<(), NodeFailure> {
         for to in 0..self.site.config().nodes {
             let acknowledged = self.acknowledged.get(usize::from(to)).copied();
             let kept = self
@@ -366,36 +361,23 @@ impl Node {
                 .sent_to(to)
                 .saturating_sub(acknowledged.unwrap_or(0));
             if kept > self.limits.kept {
-                return Err(Failure::Kept(to));
+                return Err(NodeFailure::Kept(to));
             }
         }
         Ok(())
     }
 
-    /// Writes the first line of its log.
-    pub fn begin_log<L: Write>(&self, log: &mut L) -> Result<(), Failure>
-        ensures { OnOk result (Appends (L.contents log.old) (L.contents log.new) (head_line (record { me = self.now.site.me; config = self.now.site.config }))) }
+    /// Writes the first line of its log, which is of this kind.
+    pub fn begin_log<L: Write>(&self, kind: LogKind, log: &mut L) -> Result<(), NodeFailure>
+        ensures { OnOk result (Appends (L.contents log.old) (L.contents log.new) (head_line kind (record { me = self.now.site.me; config = self.now.site.config }))) }
     {
         let mut text = String::new(self.alloc);
-        let head = Head {
+        let head = LogHead {
             me: self.site.me(),
             config: self.site.config(),
         };
-        push_head(&mut text, &head)?;
-        write_through(log, text.as_str(), Failure::Unlogged)
-    }
-
-    /// Writes the first line of the log of own code.
-    pub fn begin_own_log<L: Write>(&self, log: &mut L) -> Result<(), Failure>
-        ensures { OnOk result (Appends (L.contents log.old) (L.contents log.new) (own_head_line (record { me = self.now.site.me; config = self.now.site.config }))) }
-    {
-        let mut text = String::new(self.alloc);
-        let head = Head {
-            me: self.site.me(),
-            config: self.site.config(),
-        };
-        push_own_head(&mut text, &head)?;
-        write_through(log, text.as_str(), Failure::Unlogged)
+        push_head(&mut text, kind, &head)?;
+        write_through(log, text.as_str(), NodeFailure::Unlogged)
     }
 
     /// Whether each call of its code has its reply, so that it may make one.
@@ -406,51 +388,50 @@ impl Node {
     }
 
     /// Its code makes a call, which is noted, where the call before has its reply.
-    pub(crate) fn ask(&mut self, call: Call) -> Result<(), Failure>
+    pub(crate) fn ask(&mut self, call: Call) -> Result<(), NodeFailure>
         requires { HasWidth call }
         ensures { OnOk result (Notes (Asked call) self.old self.new) }
     {
         if !self.is_free() {
-            return Err(Failure::Unanswered);
+            return Err(NodeFailure::Unanswered);
         }
         self.site.hand(call)?;
-        push_asked(&mut self.lines, call)?;
-        Ok(())
+        self.note(LogEntry::Asked(call))
     }
 
     /// The reply to this call of its code, which is noted.
-    pub(crate) fn answer(&mut self, call: Call) -> Result<Reply, Failure>
+    pub(crate) fn answer(&mut self, call: Call) -> Result<Reply, NodeFailure>
         ensures { IfOk result (λ reply. Notes (Answered (record { call = call; reply = reply })) self.old self.new) }
     {
         let Some(record) = self.site.last_record() else {
-            return Err(Failure::Unanswered);
+            return Err(NodeFailure::Unanswered);
         };
         let reply = record.reply;
-        push_answered(&mut self.lines, Answer { call, reply })?;
+        self.note(LogEntry::Answered(Answer { call, reply }))?;
         Ok(reply)
     }
 
     /// Writes what the log lacks.
-    fn write_log<L: Write>(&mut self, log: &mut L) -> Result<(), Failure>
+    fn write_log<L: Write>(&mut self, log: &mut L) -> Result<(), NodeFailure>
         ensures { OnOk result (IsLogged self.old self.new (L.contents log.old) (L.contents log.new)) }
     {
         if self.lines.is_empty() {
             return Ok(());
         }
-        write_through(log, self.lines.as_str(), Failure::Unlogged)?;
+        write_through(log, self.lines.as_str(), NodeFailure::Unlogged)?;
         self.lines.clear();
         Ok(())
     }
 
     /// Writes the frames that wait.
-    fn send<O: Write>(&mut self, out: &mut O) -> Result<(), Failure>
+    fn send<O: Write>(&mut self, out: &mut O) -> Result<(), NodeFailure>
         ensures { OnOk result (IsEmptied self.old self.new) }
     {
         self.take_frames()?;
         if self.frames.is_empty() {
             return Ok(());
         }
-        write_through(out, self.frames.as_str(), Failure::Unwritten)?;
+        write_through(out, self.frames.as_str(), NodeFailure::Unwritten)?;
         self.frames.clear();
         Ok(())
     }
@@ -472,7 +453,7 @@ impl Node {
         log: &mut L,
         out: &mut O,
         err: &mut E,
-    ) -> Result<(), Failure>
+    ) -> Result<(), NodeFailure>
         ensures { OnOk result (IsLogged self.old self.new (L.contents log.old) (L.contents log.new)) }
     {
         self.write_log(log)?;

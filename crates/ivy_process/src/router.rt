@@ -1,7 +1,7 @@
 //! A medium that mistreats frames: it loses, repeats and reorders lines.
 
-use crate::mail::{Inbox, Taken};
-use ivy_join::ivy_lines::ivy_texts::generator_of;
+use crate::mail::{Inbox, Mailed};
+use ivy_texts::generator_of;
 use rand_core::utils::NextWord;
 use rand_pcg::Lcg64Xsh32;
 use std::alloc::Global;
@@ -105,16 +105,16 @@ pub fn route<R: Wait, I: Inbox, W: Write>(
     let mut is_quiet = false;
     for _ in rt.forever() {
         match inbox.take(rt) {
-            Taken::Line(line) => {
+            Mailed::Line(line) => {
                 is_quiet = false;
                 router.hear(line, out)?;
             }
-            Taken::Ended => break,
-            Taken::Nothing if is_quiet => {
+            Mailed::Ended => break,
+            Mailed::Nothing if is_quiet => {
                 router.let_all_go(out)?;
                 inbox.wait(rt, LONG_MILLIS);
             }
-            Taken::Nothing => {
+            Mailed::Nothing => {
                 is_quiet = true;
                 out.flush()?;
                 inbox.wait(rt, QUIET_MILLIS);

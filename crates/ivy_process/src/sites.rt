@@ -2,10 +2,10 @@
 ghost use Rattle.std.specs.Prelude.{◌≡◌, ◌++◌, [], IfOk, OnOk};
 ghost use Rattle.ivy_moves.specs.Marks.{turns};
 
-use crate::failure::Failure;
-use ivy_join::ivy_lines::push_frame;
-use ivy_join::ivy_site::{Site, Turn};
+use crate::failure::NodeFailure;
+use ivy_logs::push_frame;
 use ivy_model::Fault;
+use ivy_site::{Site, Turn};
 use ivy_wire::destination;
 use std::alloc::Global;
 use std::io::Write;
@@ -37,7 +37,7 @@ pub(crate) fn push_frames(
     alloc: Global,
     site: &mut Site<Global>,
     text: &mut String,
-) -> Result<(), Failure>
+) -> Result<(), NodeFailure>
     ensures same { record site.new { waiting = [] } ≡ record site.old { waiting = [] } }
     ensures none { OnOk result (site.new.waiting ≡ []) }
 {

@@ -1,7 +1,7 @@
 //! Lists of answers that exist in proofs alone.
 ghost use Rattle.std.specs.Prelude.{◌≡◌, [], ◌∷◌, ◌++◌};
 
-use ivy_join::ivy_lines::ivy_calls::Answer;
+use ivy_calls::Answer;
 use std::marker::Model;
 use std::snapshot::Snapshot;
 
@@ -22,7 +22,7 @@ enum Link {
 
 impl Model for Story {
     ghost use Rattle.std.specs.Prelude.{List, length};
-    ghost use Rattle.ivy_join.specs.ivy_lines.ivy_calls.declared.Answer.{Answer};
+    ghost use Rattle.ivy_calls.specs.declared.Answer.{Answer};
 
     ghost Value = { List Answer };
 

@@ -1,7 +1,7 @@
 //! The thread that reads standard input.
 
+use crate::lines::read_all;
 use crate::mail::Mail;
-use crate::reading::read_all;
 use std::alloc::Global;
 use std::io::{self, BufReader};
 use std::rt::Stdin;

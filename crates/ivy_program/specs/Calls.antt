@@ -1,5 +1,5 @@
 -- What the step of a program names.
-use Rattle.ivy_model.specs.Legal.{HasWidth}
+use Rattle.ivy_model.specs.stated.Legal.{HasWidth}
 use Rattle.ivy_program.specs.declared.machine.Next.{Next}
 use Rattle.ivy_program.specs.declared.machine.Next.TheVariants as next
 

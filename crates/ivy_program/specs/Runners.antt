@@ -2,7 +2,7 @@
 use Rattle.ivy_program.specs.declared.machine.Runner.{Runner}
 use Rattle.ivy_program.specs.declared.machine.Runner.TheVariants as runner
 use Rattle.ivy_program.specs.Programs.{IsCalled, IsWritten}
-use Rattle.ivy_program.specs.Steps.{Process}
+use Rattle.ivy_program.specs.stated.InstructionSteps.{Process}
 
 abbrev pub process_of : {A : Type 0} → Runner A → Process
 process_of (runner.Interpreter p) = p

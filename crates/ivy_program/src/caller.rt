@@ -18,8 +18,8 @@ pub(crate) struct Caller {
 }
 
 impl Model for Caller {
-    ghost use Rattle.ivy_program.specs.Owned.{IsLastOf, awaiting};
-    ghost use Rattle.ivy_program.specs.Steps.{Process};
+    ghost use Rattle.ivy_program.specs.OwnCode.{IsLastOf, awaiting};
+    ghost use Rattle.ivy_program.specs.stated.InstructionSteps.{Process};
 
     ghost Value = { Process };
 
@@ -42,13 +42,15 @@ fn last_call(kind: Row, addr: u64, words: usize, bytes: &[u8]) -> Option<Call>
 
 impl Caller {
     ghost use Rattle.ivy_program.specs.Calls.{NamesWidth};
-    ghost use Rattle.ivy_program.specs.Owned.{AsksNext, Rests, asking, process_handed};
+    ghost use Rattle.ivy_program.specs.OwnCode.{AsksNext, Rests, asking, process_handed};
     ghost use Rattle.std.specs.Prelude.{List, None, ◌++◌};
     ghost use Rattle.ivy_model.specs.declared.Call.{Call};
-    ghost use Rattle.ivy_program.specs.Programs.{Called, IsCalled, one_by_one};
-    ghost use Rattle.ivy_program.specs.States.{first_state};
-    ghost use Rattle.ivy_program.specs.Steps.{AsksMany, IsAsking, HasEnded, TellsStep, along_of, answered_all, answered_with};
-    ghost use Rattle.ivy_model.specs.Legal.{HasWidth};
+    ghost use Rattle.ivy_program.specs.stated.Programs.{Called};
+    ghost use Rattle.ivy_program.specs.Programs.{IsCalled, one_by_one};
+    ghost use Rattle.ivy_program.specs.stated.States.{first_state};
+    ghost use Rattle.ivy_program.specs.InstructionSteps.{AsksMany, IsAsking, HasEnded, TellsStep, answered_all};
+    ghost use Rattle.ivy_program.specs.stated.InstructionSteps.{along_of, answered_with};
+    ghost use Rattle.ivy_model.specs.stated.Legal.{HasWidth};
     ghost use Rattle.ivy_model.specs.declared.Reply.{Reply};
 
     /// No call was made.
@@ -62,7 +64,7 @@ impl Caller {
         }
     }
 
-    #[tactic(auto, using(crate::proofs::Awaited::ended_none, crate::proofs::Awaited::is_there, crate::proofs::Awaited::asks_last, crate::proofs::Awaited::last_wide))]
+    #[tactic(auto, using(crate::proofs::running::Awaited::ended_none, crate::proofs::running::Awaited::is_there, crate::proofs::running::Awaited::asks_last, crate::proofs::running::Awaited::last_wide))]
     /// The call that has no reply yet, if there is one: the last of those that were made together.
     pub(crate) fn next(&self) -> Next
         requires alone { along_of self.now ≡ [] }
@@ -78,7 +80,7 @@ impl Caller {
         }
     }
 
-    #[tactic(auto, using(crate::proofs::Awaited::some_left, crate::proofs::Awaited::inside, crate::proofs::Awaited::along_fewer, crate::proofs::Awaited::answered_one, crate::proofs::Awaited::fewer_left))]
+    #[tactic(auto, using(crate::proofs::running::Awaited::some_left, crate::proofs::running::Awaited::inside, crate::proofs::running::Awaited::along_fewer, crate::proofs::running::Awaited::answered_one, crate::proofs::running::Awaited::fewer_left))]
     /// The first call without a reply has one.
     pub(crate) fn answer(&mut self)
         requires { IsAsking self.old }
@@ -88,7 +90,7 @@ impl Caller {
         self.left -= 1;
     }
 
-    #[tactic(auto, using(crate::proofs::Awaited::asked_left, crate::proofs::Awaited::answered_row, crate::proofs::Awaited::fewer_left))]
+    #[tactic(auto, using(crate::proofs::running::Awaited::asked_left, crate::proofs::running::Awaited::answered_row, crate::proofs::running::Awaited::fewer_left))]
     /// The first so many calls without a reply have one.
     pub(crate) fn answer_row(&mut self, words: usize)
         requires { AsksMany self.old words }
@@ -99,7 +101,7 @@ impl Caller {
         self.left -= words;
     }
 
-    #[tactic(auto, using(crate::proofs::Awaited::ended_none, crate::proofs::Awaited::none_left))]
+    #[tactic(auto, using(crate::proofs::running::Awaited::ended_none, crate::proofs::running::Awaited::none_left))]
     /// Whether each call has its reply.
     pub(crate) fn ended(&self) -> bool
         ensures { IsTrue result ↔ HasEnded self.now }
@@ -107,7 +109,7 @@ impl Caller {
         self.left == 0
     }
 
-    #[tactic(auto, using(crate::proofs::Awaited::ended_none, crate::proofs::Awaited::none_left, crate::proofs::Awaited::rests_none))]
+    #[tactic(auto, using(crate::proofs::running::Awaited::ended_none, crate::proofs::running::Awaited::none_left, crate::proofs::running::Awaited::rests_none))]
     /// Whether each call has its reply, so that the owner may make one.
     pub(crate) fn is_free(&self) -> bool
         ensures ended { IsTrue result ↔ HasEnded self.now }
@@ -117,7 +119,7 @@ impl Caller {
         self.left == 0
     }
 
-    #[tactic(auto, using(crate::proofs::Awaited::alone_left, crate::proofs::Awaited::left_alone))]
+    #[tactic(auto, using(crate::proofs::running::Awaited::alone_left, crate::proofs::running::Awaited::left_alone))]
     /// Whether no other call without a reply was made along with the next one.
     pub(crate) fn is_alone(&self) -> bool
         ensures { IsTrue result ↔ (along_of self.now ≡ []) }
@@ -133,7 +135,7 @@ impl Caller {
         &[]
     }
 
-    #[tactic(auto, using(crate::proofs::Awaited::none_left, crate::proofs::Awaited::handed_together, crate::proofs::Awaited::ends_together))]
+    #[tactic(auto, using(crate::proofs::running::Awaited::none_left, crate::proofs::running::Awaited::handed_together, crate::proofs::running::Awaited::ends_together))]
     /// One more call is made.
     pub(crate) fn hand(&mut self, call: Call)
         requires free { HasEnded self.old }
@@ -145,7 +147,7 @@ impl Caller {
         self.left = 1;
     }
 
-    #[tactic(auto, using(crate::proofs::Awaited::none_left, crate::proofs::Awaited::none_last))]
+    #[tactic(auto, using(crate::proofs::running::Awaited::none_left, crate::proofs::running::Awaited::none_last))]
     /// One more call is made, and has its reply at once.
     pub(crate) fn hand_answered(&mut self, call: Call)
         requires free { HasEnded self.old }
@@ -155,7 +157,7 @@ impl Caller {
         self.told.push(&call);
     }
 
-    #[tactic(auto, using(crate::proofs::Awaited::none_left, crate::proofs::Awaited::none_last, crate::proofs::Awaited::handed_rows))]
+    #[tactic(auto, using(crate::proofs::running::Awaited::none_left, crate::proofs::running::Awaited::none_last, crate::proofs::running::Awaited::handed_rows))]
     /// One more call is made for each of so many words in a row from `addr` on, whose bytes these are, and has its reply at
     /// once.
     pub(crate) fn hand_row(&mut self, kind: Row, addr: u64, words: usize, bytes: &[u8])
@@ -166,7 +168,7 @@ impl Caller {
         self.told.push_row(kind, addr, words, bytes);
     }
 
-    #[tactic(auto, using(crate::proofs::Awaited::none_left, crate::proofs::Awaited::handed_together, crate::proofs::Awaited::ends_together, crate::proofs::Awaited::row_long, crate::proofs::Awaited::row_wide))]
+    #[tactic(auto, using(crate::proofs::running::Awaited::none_left, crate::proofs::running::Awaited::handed_together, crate::proofs::running::Awaited::ends_together, crate::proofs::running::Awaited::row_long, crate::proofs::running::Awaited::row_wide))]
     /// A call is made for each of so many words in a row from `addr` on, whose bytes these are, all of them together.
     pub(crate) fn hand_together(&mut self, kind: Row, addr: u64, words: usize, bytes: &[u8])
         requires free { HasEnded self.old }

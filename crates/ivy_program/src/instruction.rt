@@ -1,5 +1,5 @@
 ghost use Rattle.std.specs.Prelude.{◌≡◌, ◌<◌, ◌↔◌, ℕ, IsSome, IfSome};
-ghost use Rattle.ivy_program.specs.Limits.{register_count};
+ghost use Rattle.ivy_program.specs.stated.ProgramLimits.{register_count};
 
 use std::marker::Model;
 
@@ -54,7 +54,7 @@ pub enum Width {
 }
 
 impl Width {
-    ghost use Rattle.ivy_program.specs.Instructions.{bytes_in};
+    ghost use Rattle.ivy_program.specs.stated.Instructions.{bytes_in};
 
     /// The width in bytes.
     pub fn bytes(self) -> u8
@@ -78,7 +78,7 @@ pub enum Operation {
 }
 
 impl Operation {
-    ghost use Rattle.ivy_program.specs.Instructions.{result_of};
+    ghost use Rattle.ivy_program.specs.stated.Instructions.{result_of};
 
     /// The result of the operation on these numbers.
     pub fn apply(self, left: u64, right: u64) -> u64
@@ -197,7 +197,7 @@ pub enum Instruction {
 }
 
 impl Instruction {
-    ghost use Rattle.ivy_program.specs.Instructions.{receiver_of};
+    ghost use Rattle.ivy_program.specs.stated.Instructions.{receiver_of};
 
     /// The register that takes the value of the reply, if the instruction names one for it.
     pub(crate) fn receiver(self) -> Option<Register>

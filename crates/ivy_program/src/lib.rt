@@ -1,4 +1,4 @@
-//! The programs of the nodes: their text, their instructions, and a machine that carries them out one at a time.
+//! What a node runs: program texts, their parser and machine, or own code as a list of calls.
 //!
 //! Numbers in brackets, as `[1, 20]`, are those of the faults that a call may answer.
 #![tactic(auto)]

@@ -1,9 +1,9 @@
 //! What one line of a text of programs says.
 ghost use Rattle.std.specs.Prelude.{◌≡◌, ◌≢◌, ◌<◌, ℕ, [], ◌∷◌, map, IfSome, IfNone, false};
-ghost use Rattle.ivy_program.specs.Limits.{register_count};
-ghost use Rattle.ivy_program.specs.Drafts.{has_place, knows_place};
-ghost use Rattle.ivy_program.specs.Lines.{SpellsLine, SpellsAction};
-ghost use Rattle.ivy_program.specs.Operands.{register_word, operation_word, IsWidthWord, IsName};
+ghost use Rattle.ivy_program.specs.stated.ProgramLimits.{register_count};
+ghost use Rattle.ivy_program.specs.texts.Drafts.{has_place, knows_place};
+ghost use Rattle.ivy_program.specs.texts.Lines.{SpellsLine, SpellsAction};
+ghost use Rattle.ivy_program.specs.texts.Operands.{register_word, operation_word, IsWidthWord, IsName};
 ghost use Rattle.ivy_program.specs.declared.instruction.Operation.{Operation};
 ghost use Rattle.ivy_program.specs.declared.instruction.Width.{Width};
 ghost use Rattle.ivy_program.specs.declared.line.Action.{Action};
@@ -28,7 +28,7 @@ pub(crate) struct Name {
 impl Model for Name {
     ghost use Rattle.std.specs.Prelude.{◌≡◌, ℕ, List};
     ghost use Rattle.std.proofs.Common.{ap, sym};
-    ghost use Rattle.ivy_program.specs.Operands.{IsName, letters_of, padded};
+    ghost use Rattle.ivy_program.specs.texts.Operands.{IsName, letters_of, padded};
 
     ghost Value = { List ℕ };
 
@@ -66,7 +66,7 @@ impl Name {
 impl PartialEq for Name {
     ghost use Rattle.std.specs.Cmp.{nat_eq_equiv, partial_equiv_from_equiv};
     ghost use Rattle.std.specs.Cmp.Lexicographic.{lists_equiv};
-    ghost use Rattle.ivy_program.specs.Names.{same_name};
+    ghost use Rattle.ivy_program.specs.texts.Names.{same_name};
 
     ghost eq = { same_name };
 
@@ -88,7 +88,7 @@ impl Hash for Name {
     ghost use Rattle.std.specs.Hash as fed;
     ghost use Rattle.std.proofs.Common.{ap, sym};
     ghost use Rattle.std.specs.Cmp.Lexicographic.{same_text};
-    ghost use Rattle.ivy_program.specs.Operands.{padded};
+    ghost use Rattle.ivy_program.specs.texts.Operands.{padded};
 
     ghost hash_input = { λ name. fed.slice fed.u8 (padded name) };
 

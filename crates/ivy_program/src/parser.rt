@@ -2,12 +2,12 @@ ghost use Rattle.std.specs.Prelude.{◌≡◌, ◌≤◌, ◌<◌, ◌+◌, ◌^
 ghost use Rattle.std.specs.List.{list_all};
 ghost use Rattle.ivy_program.specs.declared.line.Line.{Line};
 ghost use Rattle.ivy_model.specs.declared.Fault.TheVariants.{Memory};
-ghost use Rattle.ivy_program.specs.Drafts.{has_place, knows_place};
+ghost use Rattle.ivy_program.specs.texts.Drafts.{has_place, knows_place};
 ghost use Rattle.ivy_program.specs.Instructions.{NamesRegisters, JumpsWithin};
 ghost use Rattle.ivy_program.specs.Programs.{IsWritten};
-ghost use Rattle.ivy_program.specs.Parts.{joined, labelled, lengthened, label_place};
-ghost use Rattle.ivy_program.specs.Readings.{Changes, finds_all, HasLost, IsLeastOrNone, IsReadAs, TakesIn, lesser, program_of, resolved};
-ghost use Rattle.ivy_program.specs.Texts.{ArePrograms, IsFaultOf, IsFaultOfText, IsRefusal, IsTextReadAs, SpellsPrograms, SpellsText};
+ghost use Rattle.ivy_program.specs.texts.ProgramParts.{joined, labelled, lengthened, label_place};
+ghost use Rattle.ivy_program.specs.texts.Readings.{Changes, finds_all, HasLost, IsLeastOrNone, IsReadAs, TakesIn, lesser, program_of, resolved};
+ghost use Rattle.ivy_program.specs.texts.Texts.{ArePrograms, IsFaultOf, IsFaultOfText, IsRefusal, IsTextReadAs, SpellsPrograms, SpellsText};
 
 use crate::instruction::Instruction;
 use crate::line::{Action, Line, Name};
@@ -88,8 +88,8 @@ struct Draft<A: Allocator> {
 }
 
 impl<A: Allocator> Model for Draft<A> {
-    ghost use Rattle.ivy_program.specs.Drafts.{IsSoundDraft};
-    ghost use Rattle.ivy_program.specs.Parts.{Part};
+    ghost use Rattle.ivy_program.specs.texts.Drafts.{IsSoundDraft};
+    ghost use Rattle.ivy_program.specs.texts.ProgramParts.{Part};
 
     ghost Value = { Part };
 
@@ -143,7 +143,7 @@ impl<A: Allocator + Copy> Draft<A> {
     }
 
     /// The instruction of an action, where its label is known.
-    #[tactic(auto, using(crate::proofs::Drafts::nowhere))]
+    #[tactic(auto, using(crate::proofs::reading::Drafts::nowhere))]
     fn resolve(&self, action: Action) -> Option<Instruction>
         requires { has_place action ≡ false }
         ensures found { result ≡ resolved self.now.labels action }
@@ -203,8 +203,8 @@ struct Parser<A: Allocator> {
 
 impl<A: Allocator> Model for Parser<A> {
     ghost use Rattle.std.specs.Prelude.{◌≤◌, List, length};
-    ghost use Rattle.ivy_program.specs.Limits.{most_programs};
-    ghost use Rattle.ivy_program.specs.Parts.{Part};
+    ghost use Rattle.ivy_program.specs.stated.ProgramLimits.{most_programs};
+    ghost use Rattle.ivy_program.specs.texts.ProgramParts.{Part};
 
     ghost Value = { List Part };
 

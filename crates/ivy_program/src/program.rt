@@ -17,7 +17,7 @@ pub struct Program<A: Allocator> {
 }
 
 impl<A: Allocator> Model for Program<A> {
-    ghost use Rattle.ivy_program.specs.Programs as programs;
+    ghost use Rattle.ivy_program.specs.stated.Programs as programs;
     ghost use Rattle.ivy_program.specs.Instructions.{IsProgram};
 
     ghost Value = { programs.Program };
@@ -29,7 +29,8 @@ impl<A: Allocator> Model for Program<A> {
 
 impl<A: Allocator + Copy> Program<A> {
     ghost use Rattle.ivy_program.specs.Instructions.{IsProgram};
-    ghost use Rattle.ivy_program.specs.Programs.{Written, IsWritten, instructions_of};
+    ghost use Rattle.ivy_program.specs.stated.Programs.{Written};
+    ghost use Rattle.ivy_program.specs.Programs.{IsWritten, instructions_of};
 
     /// The program of these instructions, which are within the limits of one.
     pub fn new(alloc: A, instructions: Vec<Instruction, A>) -> Program<A>

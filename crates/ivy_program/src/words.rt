@@ -1,8 +1,8 @@
 //! The words of a line of text, and the numbers among them.
 ghost use Rattle.std.specs.Prelude.{◌≡◌, ◌+◌, ◌<◌, ◌≤◌, ◌∷◌, ◌++◌, [], length, take, IfOk, IfSome, IfNone, MatchBool, MatchOption, map};
 ghost use Rattle.std.specs.Str.Parse.{digits_value};
-ghost use Rattle.ivy_program.specs.Numbers.{IsNumber};
-ghost use Rattle.ivy_program.specs.Words.{is_blank, parted_words, words_of, without_comment, without_end};
+ghost use Rattle.ivy_program.specs.texts.Numbers.{IsNumber};
+ghost use Rattle.ivy_program.specs.texts.TextWords.{is_blank, parted_words, words_of, without_comment, without_end};
 
 use std::alloc::{AllocError, Allocator};
 

@@ -1,2 +1,1 @@
 pub mod Orders
-pub use Rattle.ivy_world.specs as ivy_world

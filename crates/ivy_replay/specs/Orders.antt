@@ -3,18 +3,18 @@ use Rattle.std.specs.Prelude.{◌≡◌, ℕ, ◌<◌, List, [], ◌∷◌, ◌+
 use Rattle.ivy_model.specs.declared.Call.{Call}
 use Rattle.ivy_model.specs.declared.Config.{Config}
 use Rattle.ivy_model.specs.declared.Record.{Record}
-use Rattle.ivy_model.specs.Explains.{part, Answered, IsOwed, IsExplained}
-use Rattle.ivy_program.specs.Programs.{Program}
-use Rattle.ivy_program.specs.Texts.{SpellsText}
+use Rattle.ivy_model.specs.stated.Explains.{part, Answered, IsOwed, IsExplained}
+use Rattle.ivy_program.specs.stated.Programs.{Program}
+use Rattle.ivy_program.specs.texts.Texts.{SpellsText}
 use Rattle.ivy_moves.specs.declared.Move.{Move}
-use Rattle.ivy_moves.specs.Nodes.{Node}
-use Rattle.ivy_moves.specs.Worlds.{World}
-use Rattle.ivy_world.specs.ivy_host.Hosts.{Host, answered_by}
-use Rattle.ivy_world.specs.ivy_host.Managers.{Managed, managed_ops}
-use Rattle.ivy_world.specs.ivy_host.ivy_memory.Memories.{in_progress}
-use Rattle.ivy_world.specs.ivy_host.Openings.{opening}
-use Rattle.ivy_world.specs.proof_headline.RunState.{Run}
-use Rattle.ivy_world.specs.proof_headline.Reached.{IsLedTo}
+use Rattle.ivy_moves.specs.stated.Nodes.{Node}
+use Rattle.ivy_moves.specs.stated.Worlds.{World}
+use Rattle.ivy_host.specs.stated.Hosts.{Host, answered_by}
+use Rattle.ivy_host.specs.stated.Managers.{Managed, managed_ops}
+use Rattle.ivy_memory.specs.stated.Memories.{in_progress}
+use Rattle.ivy_host.specs.stated.Openings.{opening}
+use Rattle.proof_worlds.specs.stated.RunState.{Run}
+use Rattle.proof_worlds.specs.stated.Reached.{IsLedTo}
 
 -- a node's part of an order: its history, and then perhaps the records of the calls in progress
 abbrev pub IsPart : List Record → Answered → Type 0

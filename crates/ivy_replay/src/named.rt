@@ -1,6 +1,6 @@
 //! Moves that name their strings by source, destination and number, which stay when other moves are dropped.
 
-use ivy_log::{Head, Log};
+use ivy_charts::{RunHead, RunLog};
 use ivy_moves::Move;
 use std::alloc::{AllocError, Global};
 
@@ -19,7 +19,7 @@ pub enum Named {
 }
 
 /// The last string of this source, destination and number.
-fn place_of(strings: &[Head], source: u8, dest: u8, number: u64) -> Option<usize> {
+fn place_of(strings: &[RunHead], source: u8, dest: u8, number: u64) -> Option<usize> {
     for place in (0..strings.len()).rev() {
         let head = &strings[place];
         if head.source == source && head.dest == dest && head.number == number {
@@ -31,7 +31,7 @@ fn place_of(strings: &[Head], source: u8, dest: u8, number: u64) -> Option<usize
 
 impl Named {
     /// The name of a move of a run.
-    fn of(step: Move, log: &Log) -> Named {
+    fn of(step: Move, log: &RunLog) -> Named {
         let Move::Deliver { index, to } = step else {
             return Named::Plain(step);
         };
@@ -47,7 +47,7 @@ impl Named {
     }
 
     /// The names of the moves of a run.
-    pub fn all_of(alloc: Global, log: &Log) -> Result<Vec<Named>, AllocError> {
+    pub fn all_of(alloc: Global, log: &RunLog) -> Result<Vec<Named>, AllocError> {
         let mut named = Vec::new(alloc);
         for happening in log.happenings.iter() {
             named.push(Named::of(happening.step, log))?;
@@ -56,7 +56,7 @@ impl Named {
     }
 
     /// The move that is meant where these strings were sent, if there is one.
-    pub fn step(self, strings: &[Head]) -> Option<Move> {
+    pub fn step(self, strings: &[RunHead]) -> Option<Move> {
         match self {
             Named::Plain(step) => Some(step),
             Named::Deliver {

@@ -2,12 +2,12 @@
 ghost use Rattle.std.specs.Prelude.{◌≡◌, IfOk, IfSome};
 ghost use Rattle.ivy_replay.specs.Orders.{IsPlayed, IsOrderOf};
 
-use crate::explaining::explains;
+use crate::explanation::explains;
 use crate::play::seen;
 use crate::progress::Progress;
 use crate::text::Text;
 use crate::world::history_of;
-use ivy_log::{Moment, moments_of};
+use ivy_charts::{Moment, moments_of};
 use ivy_model::{Fault, Record};
 use ivy_moves::Move;
 use ivy_world::World;

@@ -2,8 +2,8 @@
 
 use crate::progress::Progress;
 use crate::text::Text;
-use crate::world::{asked_of, history_of, node_of};
-use ivy_log::{Happening, Head, Log, Receivers, Verdict};
+use crate::world::{call_in_progress, history_of, node_of};
+use ivy_charts::{Happening, Receivers, RunHead, RunLog, Verdict};
 use ivy_model::{Call, Config, Fault};
 use ivy_moves::Move;
 use ivy_world::World;
@@ -16,7 +16,7 @@ pub struct Play {
     config: Config,
     world: World<Global>,
     receivers: Receivers,
-    log: Log,
+    log: RunLog,
 }
 
 /// What is to be noted of a move before it is made.
@@ -39,7 +39,7 @@ impl Play {
             config: text.config,
             world: text.world()?,
             receivers: Receivers::new(text.alloc),
-            log: Log::new(text.alloc),
+            log: RunLog::new(text.alloc),
         })
     }
 
@@ -49,12 +49,12 @@ impl Play {
     }
 
     /// What was seen of it.
-    pub fn log(&self) -> &Log {
+    pub fn log(&self) -> &RunLog {
         &self.log
     }
 
     /// What was seen of it.
-    pub fn into_log(self) -> Log {
+    pub fn into_log(self) -> RunLog {
         self.log
     }
 
@@ -67,7 +67,7 @@ impl Play {
     fn read_strings(&mut self) -> Result<(), Fault> {
         let sent = self.world.sent();
         for index in self.log.strings.len()..sent.len() {
-            let head = Head::read(&self.config, sent[index].bytes())?;
+            let head = RunHead::read(&self.config, sent[index].bytes())?;
             self.log.strings.push(head)?;
         }
         Ok(())
@@ -93,7 +93,7 @@ impl Play {
             node,
             sent: self.world.sent().len(),
             records: history_of(&self.world, node).len(),
-            asked: asked_of(&self.world, node),
+            asked: call_in_progress(&self.world, node),
         }
     }
 
@@ -113,7 +113,7 @@ impl Play {
             heard,
             served,
             before: before.asked,
-            after: asked_of(&self.world, node),
+            after: call_in_progress(&self.world, node),
             record: history_of(&self.world, node).get(before.records).copied(),
         })?;
         Ok(())

@@ -5,7 +5,7 @@ use crate::play::{Play, seen};
 use crate::progress::Progress;
 use crate::text::Text;
 use crate::world::output_of;
-use ivy_log::Log;
+use ivy_charts::RunLog;
 use ivy_model::Fault;
 use ivy_moves::Move;
 use std::alloc::Global;
@@ -66,7 +66,7 @@ fn without(alloc: Global, named: &[Named], from: usize, count: usize) -> Result<
 }
 
 /// The moves of a run.
-fn steps_of(alloc: Global, log: &Log) -> Result<Vec<Move>, Fault> {
+fn steps_of(alloc: Global, log: &RunLog) -> Result<Vec<Move>, Fault> {
     let mut steps = Vec::new(alloc);
     for happening in log.happenings.iter() {
         steps.push(happening.step)?;

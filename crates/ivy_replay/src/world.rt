@@ -33,7 +33,7 @@ pub fn output_of(world: &World<Global>, node: u64) -> &[u64] {
 }
 
 /// The call that a node has in progress.
-pub fn asked_of(world: &World<Global>, node: u64) -> Option<Call> {
+pub fn call_in_progress(world: &World<Global>, node: u64) -> Option<Call> {
     if node < world.nodes() {
         world.asked(node)
     } else {

@@ -6,34 +6,35 @@ use Rattle.std.specs.Prelude.{Result, Ok, Err, IfOk, All}
 use Rattle.ivy_model.specs.declared.Call.{Call}
 use Rattle.ivy_model.specs.declared.Config.{Config}
 use Rattle.ivy_model.specs.declared.Fault.{Fault}
-use Rattle.ivy_model.specs.Config.{IsConfig}
-use Rattle.ivy_program.specs.Programs.{Program, IsWritten}
+use Rattle.ivy_model.specs.stated.Config.{IsConfig}
+use Rattle.ivy_program.specs.stated.Programs.{Program}
+use Rattle.ivy_program.specs.Programs.{IsWritten}
 use Rattle.ivy_moves.specs.declared.keep.Keep.{Keep}
 use Rattle.ivy_moves.specs.Marks.{Mark}
-use Rattle.ivy_moves.specs.Nodes.{Node, Effect}
+use Rattle.ivy_moves.specs.stated.Nodes.{Node, Effect}
 use Rattle.ivy_moves.specs.Parts.{AllHappen, AreParts}
-use Rattle.ivy_moves.specs.Worlds.{World}
+use Rattle.ivy_moves.specs.stated.Worlds.{World}
 use Rattle.ivy_moves.proofs.Parts.{runs_are_their_parts}
 use Rattle.ivy_moves.proofs.Splitting.{same-effect}
-use Rattle.ivy_session.specs.ivy_seating.ivy_ether.ivy_host.Handing.{handing}
-use Rattle.ivy_session.specs.ivy_seating.ivy_ether.ivy_host.Hosts.{Host, host_rules}
-use Rattle.ivy_session.specs.ivy_seating.ivy_ether.ivy_host.Managers.{Managed, managed_ops}
-use Rattle.ivy_session.specs.ivy_seating.ivy_ether.Programs.{beginning, all_handed, Told}
-use Rattle.ivy_session.specs.ivy_seating.ivy_ether.Rule.{IsNode}
-use Rattle.ivy_session.specs.ivy_seating.ivy_ether.Views.{View}
-use Rattle.ivy_session.proofs.of_ivy_seating.of_ivy_ether.Advancing.{same_start, list_over}
-use Rattle.ivy_session.proofs.of_ivy_seating.of_ivy_ether.Hosts.{length-all_handed, opened, from_start}
-use Rattle.ivy_session.proofs.of_proof_headline.Headline.{keeps-reached, explained-along}
-use Rattle.ivy_session.proofs.of_proof_headline.of_proof_transitions.Places.{get_map}
-use Rattle.ivy_session.specs.proof_headline.proof_progress.Still.{HasNothingUnderWay}
+use Rattle.ivy_host.specs.Handing.{handing}
+use Rattle.ivy_host.specs.stated.Hosts.{Host, host_rules}
+use Rattle.ivy_host.specs.stated.Managers.{Managed, managed_ops}
+use Rattle.ivy_ether.specs.Programs.{beginning, all_handed, Told}
+use Rattle.ivy_ether.specs.Rule.{IsNode}
+use Rattle.ivy_ether.specs.Views.{View}
+use Rattle.ivy_ether.proofs.Advancing.{same_start, list_over}
+use Rattle.ivy_ether.proofs.Hosts.{length-all_handed, opened, from_start}
+use Rattle.proof_worlds.proofs.headline.Headline.{keeps-reached, explained-along}
+use Rattle.proof_table.proofs.transitions.Places.{get_map}
+use Rattle.proof_worlds.specs.stated.Still.{HasNothingUnderWay}
 use Rattle.ivy_session.proofs.Reported.{explained_end, map_get, written_from}
-use Rattle.ivy_session.specs.ivy_seating.ivy_site.SiteView.{SiteView}
+use Rattle.ivy_site.specs.SiteView.{SiteView}
 use Rattle.ivy_scope.specs.declared.watched.watch.End.{End}
 use Rattle.ivy_scope.specs.declared.watched.watch.End.TheVariants.{Standstill}
 use Rattle.ivy_scope.specs.Delivered.{AreSitesDelivered}
 use Rattle.ivy_scope.specs.Played.{IsPlayed}
 use Rattle.ivy_scope.specs.SoFar.{NodeSoFar, so_far_of, AllKeepSoFar, IsNodeSoFar, IsReportSoFar, IsHandedSoFar, at_world, AreDelivered, AreUnblockedSoFar}
-use Rattle.ivy_scope.specs.Told.{AreToldSoFar}
+use Rattle.ivy_scope.specs.CollectedSoFar.{AreToldSoFar}
 
 module _ (c : Config) (programs : List Program) (limits : IsConfig c)
     (each : length programs ≡ c.nodes) where

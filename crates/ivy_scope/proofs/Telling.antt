@@ -5,22 +5,22 @@ use Rattle.std.specs.Prelude.{unwrap_or}
 use Rattle.std.proofs.lemmas.Option.{none-some}
 use Rattle.std.proofs.lemmas.List.Elements.{Contains-push, Contains-append_left}
 use Rattle.ivy_model.specs.declared.Config.{Config}
-use Rattle.ivy_program.specs.Programs.{Program}
+use Rattle.ivy_program.specs.stated.Programs.{Program}
 use Rattle.ivy_moves.specs.Marks.{Mark}
-use Rattle.ivy_session.specs.ivy_seating.ivy_ether.ivy_host.Hosts.{host_rules}
-use Rattle.ivy_session.specs.ivy_seating.ivy_ether.ivy_host.Managers.{managed_ops}
-use Rattle.ivy_session.specs.ivy_seating.ivy_ether.Going.{IsListOf}
+use Rattle.ivy_host.specs.stated.Hosts.{host_rules}
+use Rattle.ivy_host.specs.stated.Managers.{managed_ops}
+use Rattle.ivy_ether.specs.Going.{IsListOf}
 use Rattle.atomic_table.specs.Seated.{TableId}
-use Rattle.ivy_session.specs.ivy_seating.ivy_ether.Held.{Held}
-use Rattle.ivy_session.specs.ivy_seating.ivy_ether.Programs.{beginning, all_handed}
-use Rattle.ivy_session.specs.ivy_seating.ivy_ether.Views.{Closing, View, with_given, with_closed, closing_of}
-use Rattle.ivy_session.specs.ivy_seating.ivy_site.SiteView.{SiteView}
-use Rattle.ivy_session.specs.ivy_seating.ivy_site.Sites.{IsMadeByEvents}
-use Rattle.ivy_session.specs.ivy_seating.Places.{IsSeated}
-use Rattle.ivy_session.proofs.of_ivy_seating.Seats.{its_list, runs_there}
-use Rattle.ivy_session.proofs.of_ivy_seating.Told.{get_push}
+use Rattle.ivy_ether.specs.Held.{Held}
+use Rattle.ivy_ether.specs.Programs.{beginning, all_handed}
+use Rattle.ivy_ether.specs.Views.{Closing, View, with_given, with_closed, closing_of}
+use Rattle.ivy_site.specs.SiteView.{SiteView}
+use Rattle.ivy_site.specs.Sites.{IsMadeByEvents}
+use Rattle.ivy_seating.specs.Places.{IsSeated}
+use Rattle.ivy_seating.proofs.Seats.{its_list, runs_there}
+use Rattle.ivy_seating.proofs.Collected.{get_push}
 use Rattle.ivy_scope.specs.SoFar.{NodeSoFar, so_far_of, IsNodeSoFar}
-use Rattle.ivy_scope.specs.Told.{IsToldSoFar, TellsSoFar, AreToldSoFar}
+use Rattle.ivy_scope.specs.CollectedSoFar.{IsToldSoFar, TellsSoFar, AreToldSoFar}
 
 module _ (c : Config) (programs : List Program) where
   pub told_more : (v v' : View) (nodes nodes' : List NodeSoFar) (n : NodeSoFar) (i : ℕ)

@@ -1,7 +1,7 @@
 -- That all that was sent was delivered.
 use Rattle.std.specs.Prelude.{◌≡◌, ◌≢◌, ℕ, List, slice_get, Some}
-use Rattle.ivy_moves.specs.ivy_link.Linked.{peer_at}
-use Rattle.ivy_session.specs.ivy_seating.ivy_site.SiteView.{SiteView}
+use Rattle.ivy_link.specs.stated.Linked.{peer_at}
+use Rattle.ivy_site.specs.SiteView.{SiteView}
 
 -- all that node i sent to the others was delivered there
 abbrev pub IsSiteDelivered : List SiteView → ℕ → Type 0

@@ -2,4 +2,4 @@ pub mod Delivered
 pub mod Played
 pub mod SoFar
 pub mod Statuses
-pub mod Told
+pub mod CollectedSoFar

@@ -2,7 +2,7 @@
 use Rattle.std.specs.Prelude.{◌≡◌, List}
 use Rattle.ivy_model.specs.declared.Config.{Config}
 use Rattle.ivy_moves.specs.declared.keep.Keep.{Keep}
-use Rattle.ivy_program.specs.Programs.{Program}
+use Rattle.ivy_program.specs.stated.Programs.{Program}
 use Rattle.ivy_scope.specs.declared.watched.watch.End.{End}
 use Rattle.ivy_scope.specs.declared.watched.watch.End.TheVariants.{Standstill}
 use Rattle.ivy_scope.specs.SoFar.{NodeSoFar, AllKeepSoFar, AreDelivered, IsHandedSoFar}

@@ -3,22 +3,22 @@ use Rattle.std.specs.Prelude.{◌≡◌, ◌≢◌, ℕ, List, length, map, slic
 use Rattle.ivy_model.specs.declared.Call.{Call}
 use Rattle.ivy_model.specs.declared.Config.{Config}
 use Rattle.ivy_model.specs.declared.Record.{Record}
-use Rattle.ivy_program.specs.Programs.{Program}
+use Rattle.ivy_program.specs.stated.Programs.{Program}
 use Rattle.ivy_moves.specs.declared.keep.Keep.{Keep}
-use Rattle.ivy_moves.specs.Explained.{IsExplainedBy}
-use Rattle.ivy_moves.specs.ivy_link.Linked.{peer_at}
+use Rattle.ivy_moves.specs.stated.Explained.{IsExplainedBy}
+use Rattle.ivy_link.specs.stated.Linked.{peer_at}
 use Rattle.ivy_moves.specs.Marks.{Mark}
-use Rattle.ivy_moves.specs.Nodes.{Node, Effect}
+use Rattle.ivy_moves.specs.stated.Nodes.{Node, Effect}
 use Rattle.ivy_moves.specs.Parts.{AreParts}
-use Rattle.ivy_moves.specs.Worlds.{World}
-use Rattle.ivy_session.specs.ivy_seating.ivy_ether.ivy_host.Hosts.{Host, host_rules, answered_by}
-use Rattle.ivy_session.specs.ivy_seating.ivy_ether.ivy_host.Managers.{Managed, managed_ops}
-use Rattle.ivy_session.specs.ivy_seating.ivy_ether.Going.{IsListOf}
-use Rattle.ivy_session.specs.ivy_seating.ivy_ether.Programs.{beginning, all_handed}
-use Rattle.ivy_session.specs.ivy_seating.ivy_site.SiteView.{SiteView}
-use Rattle.ivy_session.specs.proof_headline.RunState.{Run}
-use Rattle.ivy_session.specs.proof_headline.Keeping.{Keeps}
-use Rattle.ivy_session.specs.proof_headline.proof_progress.Unblocked.{AreUnblocked}
+use Rattle.ivy_moves.specs.stated.Worlds.{World}
+use Rattle.ivy_host.specs.stated.Hosts.{Host, host_rules, answered_by}
+use Rattle.ivy_host.specs.stated.Managers.{Managed, managed_ops}
+use Rattle.ivy_ether.specs.Going.{IsListOf}
+use Rattle.ivy_ether.specs.Programs.{beginning, all_handed}
+use Rattle.ivy_site.specs.SiteView.{SiteView}
+use Rattle.proof_worlds.specs.stated.RunState.{Run}
+use Rattle.proof_worlds.specs.stated.Keeping.{Keeps}
+use Rattle.proof_worlds.specs.stated.Unblocked.{AreUnblocked}
 
 -- of a node: what its events made of it, these events, and which lists of its past can be read
 pub record NodeSoFar : Type 0 where

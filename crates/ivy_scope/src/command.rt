@@ -3,14 +3,14 @@ ghost use Rattle.std.specs.Prelude.{IfOk};
 ghost use Rattle.ivy_scope.specs.Statuses.{IsStatus};
 
 use crate::logs::Logs;
-use crate::looking::look;
 use crate::played::{Run, order, schedule, shortest};
+use crate::searches::look;
 use crate::sessions::run;
 use crate::settled::settle;
 use crate::views::{both, chart, counts};
+use ivy_explain::{Answered, MISUSED, ScopeFailure, ScopeRequest, Showing, Task, answer};
 use ivy_replay::Progress;
-use ivy_request::ivy_files::Texts;
-use ivy_request::{Answered, Failure, MISUSED, Request, Task, View, answer};
+use ivy_texts::Texts;
 use std::alloc::Global;
 use std::io::Write;
 use std::sync::Wait;
@@ -19,35 +19,42 @@ use std::thread::Threads;
 /// Prints what is to be seen of a run.
 fn show<W: Write, E: Write, P: Progress>(
     alloc: Global,
-    request: &Request<'_>,
-    view: View,
+    request: &ScopeRequest<'_>,
+    view: Showing,
     out: &mut W,
     err: &mut E,
     progress: &mut P,
-) -> Result<(), Failure<'static>> {
+) -> Result<(), ScopeFailure<'static>> {
     let run = Run::of(alloc, request)?;
     match view {
-        View::Schedule => schedule(&run, out, progress),
-        View::Shortest => shortest(&run, out, err, progress),
-        View::Order => order(&run, out, progress),
-        View::Chart => chart(&run, request.page(), out, progress),
-        View::Counts => counts(&run, out, progress),
-        View::Both => both(&run, out, progress),
+        Showing::Schedule => schedule(&run, out, progress),
+        Showing::Shortest => shortest(&run, out, err, progress),
+        Showing::Order => order(&run, out, progress),
+        Showing::Chart => chart(&run, request.page(), out, progress),
+        Showing::Counts => counts(&run, out, progress),
+        Showing::Both => both(&run, out, progress),
     }
 }
 
 /// Carries out what is asked of programs, and gives the exit status.
-fn carry_out<'a, R: Threads + Wait + Sync, L: Logs, W: Write, E: Write + Send, P: Progress>(
+fn carry_out<
+    'a,
+    R: Threads + Wait + AllocGlobal + Sync,
+    L: Logs,
+    W: Write,
+    E: Write + Send,
+    P: Progress,
+>(
     rt: &R,
-    alloc: Global,
-    request: &Request<'a>,
+    request: &ScopeRequest<'a>,
     files: &L,
     out: &mut W,
     err: &mut E,
     progress: &mut P,
-) -> Result<u8, Failure<'a>>
+) -> Result<u8, ScopeFailure<'a>>
     ensures { IfOk result IsStatus }
 {
+    let alloc = rt.alloc();
     match request.task() {
         Task::Run => run(rt, alloc, request, files, out, err),
         Task::Search => look(alloc, request, out, progress),
@@ -65,27 +72,25 @@ fn carry_out<'a, R: Threads + Wait + Sync, L: Logs, W: Write, E: Write + Send, P
 ///
 /// The first word is the program's name. What is at fault is printed on standard error. What may take long tells how far
 /// it is.
-pub fn perform<R: Threads + Wait + Sync, T: Texts + Logs, O: Write, E: Write + Send, P: Progress>(
-    rt: &R,
-    alloc: Global,
-    words: &[String],
-    files: &T,
-    out: &mut O,
-    err: &mut E,
-    progress: &mut P,
-) -> u8
+pub fn run_command<
+    R: Threads + Wait + AllocGlobal + Sync,
+    T: Texts + Logs,
+    O: Write,
+    E: Write + Send,
+    P: Progress,
+>(rt: &R, words: &[String], files: &T, out: &mut O, err: &mut E, progress: &mut P) -> u8
     ensures { IsStatus result }
 {
-    let done = match answer(alloc, words, files, out, err) {
+    let done = match answer(rt.alloc(), words, files, out, err) {
         Ok(Answered::Done(status)) => Ok(status),
-        Ok(Answered::Asks(request)) => carry_out(rt, alloc, &request, files, out, err, progress),
+        Ok(Answered::Asks(request)) => carry_out(rt, &request, files, out, err, progress),
         Err(failure) => Err(failure),
     };
     let failure = match (done, out.flush()) {
         (Ok(status), Ok(())) => return status,
         (Err(failure), Ok(())) => failure,
         (Err(failure), Err(_)) if failure.status() == MISUSED => failure,
-        (_, Err(_)) => Failure::Unwritten,
+        (_, Err(_)) => ScopeFailure::Unwritten,
     };
     failure.report(err)
 }

@@ -1,8 +1,8 @@
 //! What a search looks for, as words.
 
+use ivy_explain::ScopeFailure;
 use ivy_program::{parse_number, words_of};
 use ivy_replay::Goal;
-use ivy_request::{Failure, Misuse};
 use std::alloc::Global;
 
 /// What four words ask for.
@@ -17,24 +17,32 @@ fn goal_of(words: &[&str]) -> Option<Goal> {
 }
 
 /// Adds what words ask for that `and` joins.
-fn add_goals<'a>(goals: &mut Vec<Goal>, words: &[&str], text: &'a str) -> Result<(), Failure<'a>> {
+fn add_goals<'a>(
+    goals: &mut Vec<Goal>,
+    words: &[&str],
+    text: &'a str,
+) -> Result<(), ScopeFailure<'a>> {
     for part in words.split(|word| *word == "and") {
         match goal_of(part) {
             Some(goal) => goals.push(goal)?,
-            None => return Err(Failure::Misused(Misuse::no_goal(text))),
+            None => return Err(ScopeFailure::NoGoal(text)),
         }
     }
     Ok(())
 }
 
 /// Adds what a text asks for.
-fn read_goals<'a>(alloc: Global, goals: &mut Vec<Goal>, text: &'a str) -> Result<(), Failure<'a>> {
+fn read_goals<'a>(
+    alloc: Global,
+    goals: &mut Vec<Goal>,
+    text: &'a str,
+) -> Result<(), ScopeFailure<'a>> {
     let words = words_of(alloc, text)?;
     add_goals(goals, &words, text)
 }
 
 /// What is asked for: `node I prints X`, more of them joined by `and`; nothing where there is no text.
-pub(crate) fn goals_of(alloc: Global, text: Option<&str>) -> Result<Vec<Goal>, Failure<'_>> {
+pub(crate) fn goals_of(alloc: Global, text: Option<&str>) -> Result<Vec<Goal>, ScopeFailure<'_>> {
     let mut goals = Vec::new(alloc);
     let Some(text) = text else {
         return Ok(goals);

@@ -1,4 +1,4 @@
-//! The commands of the program `ivyscope`, which shows what happened in runs of programs over one shared memory.
+//! The commands of `ivyscope` that need a run, and sessions watched until they stand still.
 //!
 //! In a comment, numbers in brackets as [1, 17] are the fault numbers that a call may answer.
 #![tactic(auto)]
@@ -6,17 +6,15 @@
 mod command;
 mod goals;
 mod logs;
-mod looking;
 mod played;
 mod refused;
+mod searches;
 mod sessions;
 mod settled;
 mod views;
 mod watched;
 
-pub use command::perform;
-pub use ivy_replay;
-pub use ivy_request::{Failure, Misuse, ivy_files};
-pub use ivy_session;
+pub use command::run_command;
+pub use ivy_explain::ScopeFailure;
 pub use logs::Logs;
 pub use watched::{End, ReportSoFar, Watch, run_watched};

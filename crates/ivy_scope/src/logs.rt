@@ -1,10 +1,10 @@
 //! The logs of a session's nodes, as nodes in processes of their own write them.
 
 use crate::watched::ReportSoFar;
-use ivy_lines::{Head, push_log};
+use ivy_explain::ScopeFailure;
+use ivy_logs::{LogHead, push_log};
 use ivy_model::{Config, Fault};
-use ivy_request::ivy_files::FilesOf;
-use ivy_request::{Failure, Misuse};
+use ivy_texts::FilesOf;
 use std::alloc::Global;
 use std::fs;
 use std::io::ErrorKind;
@@ -36,16 +36,16 @@ pub(crate) fn write_logs<'a, L: Logs>(
     report: &ReportSoFar<Global>,
     logs: &L,
     folder: &'a str,
-) -> Result<(), Failure<'a>> {
+) -> Result<(), ScopeFailure<'a>> {
     for node in 0..report.nodes() {
-        let head = Head {
+        let head = LogHead {
             me: node.min(255) as u8,
             config,
         };
         let mut text = String::new(alloc);
         push_log(alloc, &mut text, &head, report.events(node))?;
         if !logs.write_log(folder, node, text.as_str())? {
-            return Err(Misuse::of_file("cannot write into ", folder).into());
+            return Err(ScopeFailure::NoFolder(folder));
         }
     }
     Ok(())

@@ -1,11 +1,11 @@
 //! The moves of a run, and what is printed of a schedule and an order.
 
+use ivy_explain::{ScopeFailure, ScopeRequest};
 use ivy_model::{Config, Fault, Kind, Record};
 use ivy_moves::Move;
 use ivy_program::parse;
 use ivy_replay::{Progress, Shorter, Text, drawn_moves, order_of, shortened};
-use ivy_request::ivy_explain::ivy_texts::{MoveText, RecordText, parse_schedule};
-use ivy_request::{Failure, Request};
+use ivy_texts::{MoveText, RecordText, parse_schedule};
 use std::alloc::Global;
 use std::io::{self, Write};
 
@@ -20,7 +20,7 @@ pub(crate) struct Run<'a> {
 }
 
 /// The programs of a request, and the configuration that it asks for.
-pub(crate) fn text_of<'a>(alloc: Global, request: &'a Request<'_>) -> Result<Text<'a>, Fault> {
+pub(crate) fn text_of<'a>(alloc: Global, request: &'a ScopeRequest<'_>) -> Result<Text<'a>, Fault> {
     let programs = request.programs();
     let nodes = parse(alloc, programs)?.len();
     Ok(Text {
@@ -32,7 +32,7 @@ pub(crate) fn text_of<'a>(alloc: Global, request: &'a Request<'_>) -> Result<Tex
 
 impl<'a> Run<'a> {
     /// The run that a request asks for.
-    pub(crate) fn of(alloc: Global, request: &'a Request<'_>) -> Result<Run<'a>, Fault> {
+    pub(crate) fn of(alloc: Global, request: &'a ScopeRequest<'_>) -> Result<Run<'a>, Fault> {
         Ok(Run {
             text: text_of(alloc, request)?,
             schedule: request.schedule(),
@@ -77,7 +77,7 @@ pub(crate) fn schedule<W: Write, P: Progress>(
     run: &Run<'_>,
     out: &mut W,
     progress: &mut P,
-) -> Result<(), Failure<'static>> {
+) -> Result<(), ScopeFailure<'static>> {
     let moves = run.moves(progress)?;
     print_moves(&moves, out)?;
     Ok(())
@@ -116,7 +116,7 @@ pub(crate) fn shortest<W: Write, E: Write, P: Progress>(
     out: &mut W,
     err: &mut E,
     progress: &mut P,
-) -> Result<(), Failure<'static>> {
+) -> Result<(), ScopeFailure<'static>> {
     let shorter = needed(run, err, progress)?;
     print_moves(&shorter.moves, out)?;
     Ok(())
@@ -148,9 +148,9 @@ pub(crate) fn order<W: Write, P: Progress>(
     run: &Run<'_>,
     out: &mut W,
     progress: &mut P,
-) -> Result<(), Failure<'static>> {
+) -> Result<(), ScopeFailure<'static>> {
     let Some(records) = records_of(run, progress)? else {
-        return Err(Failure::NoOrder);
+        return Err(ScopeFailure::NoOrder);
     };
     print_order(&run.text.config, &records, out)?;
     Ok(())

@@ -1,9 +1,8 @@
 //! Calls of a session that are refused, told as they are found.
 
 use crate::watched::Watch;
+use ivy_explain::{Lines, Listing, Place, Printed, Refusal, Walk};
 use ivy_model::{Record, Reply};
-use ivy_request::ivy_explain::{Lines, Place, Walk};
-use ivy_request::{Listing, Refusal, Told};
 use ivy_session::{Gate, Role};
 use std::alloc::{AllocError, Global};
 use std::io::Write;
@@ -17,7 +16,7 @@ pub(crate) struct Refusals<'a, R, E> {
     is_strict: bool,
     /// Where the program of each node is.
     walks: Vec<Mutex<Walk<'a>>>,
-    told: Mutex<Told<'a, E>>,
+    told: Mutex<Printed<'a, E>>,
 }
 
 impl<'a, R: Wait, E: Write> Refusals<'a, R, E> {
@@ -38,7 +37,7 @@ impl<'a, R: Wait, E: Write> Refusals<'a, R, E> {
             lines: &listing.lines,
             is_strict,
             walks,
-            told: Mutex::new(Told::new(alloc, err)),
+            told: Mutex::new(Printed::new(alloc, err)),
         })
     }
 

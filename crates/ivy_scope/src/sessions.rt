@@ -6,13 +6,14 @@ use crate::logs::{Logs, write_logs};
 use crate::played::print_records;
 use crate::refused::Refusals;
 use crate::watched::{End, ReportSoFar, run_watched};
+use ivy_explain::{
+    FAILED, Listing, NodeState, STANDSTILL, ScopeFailure, ScopeRequest, Wishes, print_calls,
+    print_standing,
+};
 use ivy_model::{Config, Fault, Record};
 use ivy_program::parse;
-use ivy_request::ivy_explain::ivy_texts::print_output;
-use ivy_request::{
-    FAILED, Failure, Listing, Request, STANDSTILL, Standing, Wishes, print_calls, print_standing,
-};
 use ivy_session::Keep;
+use ivy_texts::print_output;
 use std::alloc::{AllocError, Global};
 use std::io::{self, Write};
 use std::sync::Wait;
@@ -59,10 +60,10 @@ fn print_report<W: Write>(
 fn standings_of(
     alloc: Global,
     report: &ReportSoFar<Global>,
-) -> Result<Vec<Standing<'_>>, AllocError> {
+) -> Result<Vec<NodeState<'_>>, AllocError> {
     let mut nodes = Vec::new(alloc);
     for node in 0..report.nodes() {
-        nodes.push(Standing {
+        nodes.push(NodeState {
             history: report.history(node),
             asked: report.asked(node),
             has_ended: report.has_ended(node),
@@ -94,19 +95,26 @@ struct Ended {
     refused: u64,
 }
 
+/// What is to be run, and what is printed of it.
+#[derive(Drop)]
+struct Plan<'a> {
+    config: Config,
+    listing: Listing,
+    wishes: Wishes<'a>,
+}
+
 /// Runs programs in a session, and tells of each call that is refused, as it is found.
 fn run_session<R: Threads + Wait + Sync, E: Write + Send>(
     rt: &R,
     alloc: Global,
-    request: &Request<'_>,
-    config: Config,
-    listing: &Listing,
+    request: &ScopeRequest<'_>,
+    plan: &Plan<'_>,
     err: &mut E,
 ) -> Result<Ended, Fault> {
-    let wishes = request.wishes();
+    let (config, wishes) = (plan.config, &plan.wishes);
     let parsed = parse(alloc, request.programs())?;
-    let refusals = Refusals::new(rt, alloc, listing, wishes.strict, err)?;
-    let (limits, keep) = (request.limits(), keep_of(&wishes));
+    let refusals = Refusals::new(rt, alloc, &plan.listing, wishes.strict, err)?;
+    let (limits, keep) = (request.limits(), keep_of(wishes));
     match run_watched(rt, alloc, config, parsed, limits, &refusals, keep) {
         Ok((report, end)) => Ok(Ended {
             report,
@@ -120,25 +128,24 @@ fn run_session<R: Threads + Wait + Sync, E: Write + Send>(
 /// Prints what a session came to, and where it ended before its programs, tells what each node came to.
 fn tell<'a, L: Logs, W: Write, E: Write>(
     alloc: Global,
-    config: Config,
-    wishes: &Wishes<'a>,
-    listing: &Listing,
+    plan: &Plan<'a>,
     ended: &Ended,
     files: &L,
     out: &mut W,
     err: &mut E,
-) -> Result<u8, Failure<'a>>
+) -> Result<u8, ScopeFailure<'a>>
     ensures { IfOk result IsStatus }
 {
+    let wishes = &plan.wishes;
     if let Some(folder) = wishes.logs {
-        write_logs(alloc, config, &ended.report, files, folder)?;
+        write_logs(alloc, plan.config, &ended.report, files, folder)?;
     }
     print_report(&ended.report, wishes, out)?;
     if matches!(ended.end, End::Standstill | End::Turns) {
-        tell_standings(alloc, listing, &ended.report, err)?;
+        tell_standings(alloc, &plan.listing, &ended.report, err)?;
     }
     match ended.end {
-        End::Turns => Err(Failure::Refused(Fault::TurnLimit)),
+        End::Turns => Err(ScopeFailure::Refused(Fault::TurnLimit)),
         End::Standstill => Ok(STANDSTILL),
         _ if wishes.strict && ended.refused > 0 => Ok(FAILED),
         _ => Ok(0),
@@ -150,24 +157,20 @@ fn tell<'a, L: Logs, W: Write, E: Write>(
 pub(crate) fn run<'a, R: Threads + Wait + Sync, L: Logs, W: Write, E: Write + Send>(
     rt: &R,
     alloc: Global,
-    request: &Request<'a>,
+    request: &ScopeRequest<'a>,
     files: &L,
     out: &mut W,
     err: &mut E,
-) -> Result<u8, Failure<'a>>
+) -> Result<u8, ScopeFailure<'a>>
     ensures { IfOk result IsStatus }
 {
     let listing = Listing::of(alloc, request.programs())?;
     let config = request.settings().config(listing.programs.len())?;
-    let ended = run_session(rt, alloc, request, config, &listing, err)?;
-    tell(
-        alloc,
+    let plan = Plan {
         config,
-        &request.wishes(),
-        &listing,
-        &ended,
-        files,
-        out,
-        err,
-    )
+        listing,
+        wishes: request.wishes(),
+    };
+    let ended = run_session(rt, alloc, request, &plan, err)?;
+    tell(alloc, &plan, &ended, files, out, err)
 }

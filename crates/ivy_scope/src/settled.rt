@@ -3,12 +3,12 @@ ghost use Rattle.std.specs.Prelude.{IfOk};
 ghost use Rattle.ivy_scope.specs.Statuses.{IsStatus};
 
 use crate::played::text_of;
+use ivy_explain::{Listing, NodeState, STANDSTILL, ScopeFailure, ScopeRequest, print_standing};
 use ivy_model::Fault;
 use ivy_program::parse;
-use ivy_replay::ivy_world::{Rest, World};
-use ivy_replay::{Progress, asked_of, drawn_moves, ended_in, history_of, output_of};
-use ivy_request::ivy_explain::ivy_texts::print_output;
-use ivy_request::{Failure, Listing, Request, STANDSTILL, Standing, print_standing};
+use ivy_replay::{Progress, call_in_progress, drawn_moves, ended_in, history_of, output_of};
+use ivy_texts::print_output;
+use ivy_world::{Rest, World};
 use std::alloc::{AllocError, Global};
 use std::io::{self, Write};
 
@@ -18,7 +18,7 @@ const MOST_MOVES: u64 = 1_000_000;
 /// The world after drawn moves, played on to a standstill.
 fn played_on<P: Progress>(
     alloc: Global,
-    request: &Request<'_>,
+    request: &ScopeRequest<'_>,
     progress: &mut P,
 ) -> Result<(World<Global>, Rest), Fault> {
     let text = text_of(alloc, request)?;
@@ -35,12 +35,12 @@ fn played_on<P: Progress>(
 }
 
 /// What each node of a world came to.
-fn standings_of(alloc: Global, world: &World<Global>) -> Result<Vec<Standing<'_>>, AllocError> {
+fn standings_of(alloc: Global, world: &World<Global>) -> Result<Vec<NodeState<'_>>, AllocError> {
     let mut nodes = Vec::new(alloc);
     for node in 0..world.nodes() {
-        nodes.push(Standing {
+        nodes.push(NodeState {
             history: history_of(world, node),
-            asked: asked_of(world, node),
+            asked: call_in_progress(world, node),
             has_ended: ended_in(world, node),
         })?;
     }
@@ -50,7 +50,7 @@ fn standings_of(alloc: Global, world: &World<Global>) -> Result<Vec<Standing<'_>
 /// Prints what each node printed and what it came to.
 fn print_nodes<W: Write>(
     listing: &Listing,
-    nodes: &[Standing<'_>],
+    nodes: &[NodeState<'_>],
     world: &World<Global>,
     out: &mut W,
 ) -> io::Result<()> {
@@ -64,10 +64,10 @@ fn print_nodes<W: Write>(
 /// Prints what each node of the programs of a request printed and what it came to.
 fn print_standings<W: Write>(
     alloc: Global,
-    request: &Request<'_>,
+    request: &ScopeRequest<'_>,
     world: &World<Global>,
     out: &mut W,
-) -> Result<(), Failure<'static>> {
+) -> Result<(), ScopeFailure<'static>> {
     let listing = Listing::of(alloc, request.programs())?;
     let nodes = standings_of(alloc, world)?;
     Ok(print_nodes(&listing, &nodes, world, out)?)
@@ -86,11 +86,11 @@ fn have_ended(world: &World<Global>) -> bool {
 /// Prints what a world came to. It gives the exit status: whether it stands still while a program has not ended.
 fn print_world<W: Write>(
     alloc: Global,
-    request: &Request<'_>,
+    request: &ScopeRequest<'_>,
     world: &World<Global>,
     rest: Rest,
     out: &mut W,
-) -> Result<u8, Failure<'static>>
+) -> Result<u8, ScopeFailure<'static>>
     ensures { IfOk result IsStatus }
 {
     print_standings(alloc, request, world, out)?;
@@ -105,10 +105,10 @@ fn print_world<W: Write>(
 /// the world stands still while a program has not ended.
 pub(crate) fn settle<W: Write, P: Progress>(
     alloc: Global,
-    request: &Request<'_>,
+    request: &ScopeRequest<'_>,
     out: &mut W,
     progress: &mut P,
-) -> Result<u8, Failure<'static>>
+) -> Result<u8, ScopeFailure<'static>>
     ensures { IfOk result IsStatus }
 {
     let (world, rest) = played_on(alloc, request, progress)?;

@@ -1,22 +1,22 @@
 //! Pictures and numbers of a run.
 
 use crate::played::Run;
-use ivy_model::{Fault, Kind};
-use ivy_replay::ivy_log::{
-    Chart, Counts, Log, Picture, Writes, count, print_both, print_counts, print_sharing,
+use ivy_charts::{
+    Chart, Picture, RunCounts, RunLog, Writes, count_run, print_both, print_counts, print_sharing,
 };
+use ivy_explain::ScopeFailure;
+use ivy_model::{Fault, Kind};
 use ivy_replay::{Progress, seen};
-use ivy_request::Failure;
 use std::io::Write;
 
 /// What is seen of a run.
-fn log_of<P: Progress>(run: &Run<'_>, progress: &mut P) -> Result<Log, Fault> {
+fn log_of<P: Progress>(run: &Run<'_>, progress: &mut P) -> Result<RunLog, Fault> {
     let moves = run.moves(progress)?;
     Ok(seen(&run.text, &moves, progress)?.into_log())
 }
 
 /// The first page that a message is about, or 1.
-fn first_page(log: &Log) -> u32 {
+fn first_page(log: &RunLog) -> u32 {
     let mut least = None;
     for head in log.strings.iter() {
         if let Some(page) = head.page() {
@@ -35,7 +35,7 @@ pub(crate) fn chart<W: Write, P: Progress>(
     page: Option<u64>,
     out: &mut W,
     progress: &mut P,
-) -> Result<(), Failure<'static>> {
+) -> Result<(), ScopeFailure<'static>> {
     let log = log_of(run, progress)?;
     let page = match page {
         Some(page) => u32::try_from(page).unwrap_or(u32::MAX),
@@ -50,17 +50,17 @@ pub(crate) fn chart<W: Write, P: Progress>(
     Ok(())
 }
 
-fn counts_of<P: Progress>(run: &Run<'_>, progress: &mut P) -> Result<Counts, Fault> {
+fn counts_of<P: Progress>(run: &Run<'_>, progress: &mut P) -> Result<RunCounts, Fault> {
     let log = log_of(run, progress)?;
-    Ok(count(run.text.alloc, &run.text.config, &log)?)
+    Ok(count_run(run.text.alloc, &run.text.config, &log)?)
 }
 
 /// What is counted and what was written of a run.
-fn measures_of<P: Progress>(run: &Run<'_>, progress: &mut P) -> Result<(Counts, Writes), Fault> {
+fn measures_of<P: Progress>(run: &Run<'_>, progress: &mut P) -> Result<(RunCounts, Writes), Fault> {
     let (alloc, config) = (run.text.alloc, &run.text.config);
     let log = log_of(run, progress)?;
     let writes = Writes::of(alloc, config, &log)?;
-    Ok((count(alloc, config, &log)?, writes))
+    Ok((count_run(alloc, config, &log)?, writes))
 }
 
 /// Prints what is counted of a run, by node and by page.
@@ -68,7 +68,7 @@ pub(crate) fn counts<W: Write, P: Progress>(
     run: &Run<'_>,
     out: &mut W,
     progress: &mut P,
-) -> Result<(), Failure<'static>> {
+) -> Result<(), ScopeFailure<'static>> {
     let (counts, writes) = measures_of(run, progress)?;
     print_counts(&counts, out)?;
     print_sharing(&writes, out)?;
@@ -80,7 +80,7 @@ pub(crate) fn both<W: Write, P: Progress>(
     run: &Run<'_>,
     out: &mut W,
     progress: &mut P,
-) -> Result<(), Failure<'static>> {
+) -> Result<(), ScopeFailure<'static>> {
     let fixed = counts_of(&run.under(Kind::Fixed), progress)?;
     let dynamic = counts_of(&run.under(Kind::Dynamic), progress)?;
     print_both(&fixed, &dynamic, out)?;

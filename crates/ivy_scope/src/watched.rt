@@ -3,7 +3,7 @@
 //! A watched session need not come to the end of its programs. Its report says what the nodes came to; their event lists
 //! are the parts of one run all the same.
 
-mod closing;
+mod close;
 mod delivered;
 mod notes;
 mod seat;

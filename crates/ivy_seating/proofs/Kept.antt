@@ -4,14 +4,14 @@ use Rattle.std.specs.Prelude.{MatchResult}
 use Rattle.std.proofs.lemmas.Option.{same_Some, none-some}
 use Rattle.ivy_model.specs.declared.Config.{Config}
 use Rattle.ivy_model.specs.declared.Fault.{Fault}
-use Rattle.ivy_seating.specs.ivy_ether.ivy_host.Hosts.{Host, host_rules, serving}
-use Rattle.ivy_seating.specs.ivy_ether.ivy_host.Managers.{Managed, managed_ops}
-use Rattle.ivy_seating.specs.ivy_moves.ivy_link.declared.Verdict.{Verdict}
-use Rattle.ivy_seating.specs.ivy_moves.ivy_link.declared.Verdict.TheVariants as verdict
-use Rattle.ivy_seating.specs.ivy_moves.ivy_link.Accepted.{offered}
-use Rattle.ivy_seating.specs.ivy_moves.Nodes.{Node, Effect, stays, accepting, served_next, received_as, received, delivered_as, delivered, pulsing}
-use Rattle.ivy_seating.specs.ivy_site.SiteView.{SiteView, after_pulse_to}
-use Rattle.ivy_seating.specs.ivy_site.Sites.{SiteDelivers, GoesOnOnce, SiteGoesOn, FollowsDelivery, AfterDelivery}
+use Rattle.ivy_host.specs.stated.Hosts.{Host, host_rules, serving}
+use Rattle.ivy_host.specs.stated.Managers.{Managed, managed_ops}
+use Rattle.ivy_link.specs.declared.Verdict.{Verdict}
+use Rattle.ivy_link.specs.declared.Verdict.TheVariants as verdict
+use Rattle.ivy_link.specs.stated.Accepted.{offered}
+use Rattle.ivy_moves.specs.stated.Nodes.{Node, Effect, stays, accepting, served_next, received_as, received, delivered_as, delivered, pulsing}
+use Rattle.ivy_site.specs.SiteView.{SiteView, after_pulse_to}
+use Rattle.ivy_site.specs.Sites.{SiteDelivers, GoesOnOnce, SiteGoesOn, FollowsDelivery, AfterDelivery}
 use Rattle.ivy_seating.specs.Places.{SeatedState}
 use Rattle.ivy_seating.specs.Wire.{AfterWire, RefusesString}
 use Rattle.ivy_seating.specs.declared.wire_turn.WireTurn.{WireTurn}

@@ -5,16 +5,17 @@ use Rattle.std.proofs.lemmas.Bool.{cases_eq}
 use Rattle.std.proofs.lemmas.List.Elements.{Contains-append_right}
 use Rattle.atomic_table.specs.Seated.{TableId}
 use Rattle.ivy_model.specs.declared.Config.{Config}
-use Rattle.ivy_program.specs.Programs.{Program, handed}
+use Rattle.ivy_program.specs.stated.Programs.{Program}
+use Rattle.ivy_program.specs.Programs.{handed}
 use Rattle.ivy_moves.specs.Marks.{Mark}
-use Rattle.ivy_moves.specs.Nodes.{Effect}
+use Rattle.ivy_moves.specs.stated.Nodes.{Effect}
 use Rattle.ivy_moves.specs.Parts.{AllHappen, AllCanBeMade, AreParts}
-use Rattle.ivy_moves.specs.Worlds.{World}
+use Rattle.ivy_moves.specs.stated.Worlds.{World}
 use Rattle.ivy_moves.proofs.Parts.{runs_are_their_parts}
 use Rattle.ivy_moves.proofs.Splitting.{same-effect, can-more}
-use Rattle.ivy_ether.specs.ivy_host.Hosts.{Host, host_rules}
-use Rattle.ivy_ether.specs.ivy_host.Managers.{Managed, managed_ops}
-use Rattle.ivy_ether.specs.ivy_host.Handing.{handing}
+use Rattle.ivy_host.specs.stated.Hosts.{Host, host_rules}
+use Rattle.ivy_host.specs.stated.Managers.{Managed, managed_ops}
+use Rattle.ivy_host.specs.Handing.{handing}
 use Rattle.ivy_ether.specs.Rule.{IsNode}
 use Rattle.ivy_ether.specs.Going.{IsListOf, ListGoesOn, AreFurther}
 use Rattle.ivy_ether.specs.Held.{Held}

@@ -6,35 +6,37 @@ use Rattle.std.specs.Prelude.{MatchResult, MatchOption, Result, Ok, Err}
 use Rattle.ivy_model.specs.declared.Fault.{Fault}
 use Rattle.ivy_ether.specs.Data.{Put, Item}
 use Rattle.ivy_ether.specs.Items.{strings_in}
-use Rattle.ivy_ether.specs.Words.{MatchPut}
+use Rattle.ivy_ether.specs.EtherViews.{MatchPut}
 use Rattle.ivy_ether.specs.declared.ether.Put.TheVariants.{Sent, Lost}
 use Rattle.std.proofs.lemmas.List.Elements.{Contains-append_left}
 use Rattle.std.proofs.lemmas.Option.{none-some, same_Some}
 use Rattle.atomic_table.specs.Seated.{TableId}
 use Rattle.ivy_model.specs.declared.Config.{Config}
-use Rattle.ivy_model.specs.Config.{IsConfig}
-use Rattle.ivy_program.specs.Programs.{Program, handed, one_by_one}
+use Rattle.ivy_model.specs.stated.Config.{IsConfig}
+use Rattle.ivy_program.specs.stated.Programs.{Program}
+use Rattle.ivy_program.specs.Programs.{handed, one_by_one}
 use Rattle.ivy_model.specs.declared.Call.{Call}
 use Rattle.ivy_model.specs.declared.Record.{Record}
+use Rattle.ivy_model.specs.declared.Reply.{Reply}
 use Rattle.ivy_model.specs.declared.Row.{Row}
 use Rattle.ivy_model.specs.Rows.{calls_of, numbers_in, row}
 use Rattle.ivy_model.proofs.Rows.{calls-of-row}
-use Rattle.ivy_moves.specs.ivy_link.declared.Verdict.{Verdict}
-use Rattle.ivy_moves.specs.ivy_link.declared.Verdict.TheVariants as verdict
+use Rattle.ivy_link.specs.declared.Verdict.{Verdict}
+use Rattle.ivy_link.specs.declared.Verdict.TheVariants as verdict
 use Rattle.ivy_moves.specs.Marks.{Mark, Turn, Delivery}
-use Rattle.ivy_moves.specs.Nodes.{Node, pulsing}
+use Rattle.ivy_moves.specs.stated.Nodes.{Node, pulsing}
 use Rattle.ivy_moves.specs.Parts.{AllHappen, AllCanBeMade, pulse_marks}
-use Rattle.ivy_wire.specs.Data.{Frame}
+use Rattle.ivy_wire.specs.stated.Data.{Frame}
 use Rattle.ivy_moves.proofs.Early.{early-can}
 use Rattle.ivy_moves.proofs.Splitting.{can-append, can-more}
-use Rattle.ivy_ether.specs.ivy_host.Hosts.{Host, host_rules}
-use Rattle.ivy_ether.specs.ivy_host.Managers.{Managed, managed_ops}
-use Rattle.ivy_ether.specs.ivy_host.Openings.{first_node, first_nodes}
+use Rattle.ivy_host.specs.stated.Hosts.{Host, host_rules}
+use Rattle.ivy_host.specs.stated.Managers.{Managed, managed_ops}
+use Rattle.ivy_host.specs.stated.Openings.{first_node, first_nodes}
 use Rattle.ivy_ether.specs.Going.{IsListOf}
 use Rattle.ivy_ether.specs.Held.{Held, held}
 use Rattle.ivy_ether.specs.Programs.{beginning, all_handed, MayGive, SendsFrom}
 use Rattle.ivy_ether.proofs.Hosts.{handed-at, handed_count, handed_more, starts_with}
-use Rattle.ivy_ether.proofs.of_ivy_host.Handed.{handed_none}
+use Rattle.ivy_host.proofs.HandedHosts.{handed_none}
 use Rattle.ivy_ether.specs.Views.{View, with_put, with_refused, with_taken, with_empty, with_handed, with_all_handed}
 use Rattle.ivy_site.specs.declared.turn.Turn as turn
 use Rattle.ivy_site.specs.declared.turn.Turn.TheVariants.{Idle, Moved, Ended}
@@ -43,8 +45,8 @@ use Rattle.ivy_site.specs.Sites.{IsMadeByEvents, IsSentBy, AfterTurn, AfterDeliv
 use Rattle.ivy_site.specs.Sites as sites
 use Rattle.ivy_site.specs.Calls.{AreAnswered, AreTaken, BeginsRow}
 use Rattle.ivy_site.specs.Handed.{site_handed}
-use Rattle.ivy_ether.proofs.of_ivy_host.Programs.{turned-program, posting-core, delivered-program}
-use Rattle.ivy_program.specs.Steps.{HasEnded}
+use Rattle.ivy_host.proofs.Programs.{turned-program, posting-core, delivered-program}
+use Rattle.ivy_program.specs.InstructionSteps.{HasEnded}
 use Rattle.ivy_seating.specs.Places.{RunsProgram, IsSeated, IsFreshSeat}
 use Rattle.ivy_seating.specs.Reports.{report_of, IsDone}
 
@@ -442,6 +444,13 @@ module _ (c : Config) (programs : List Program) where
       → IsSeated wire c programs s' p
   turned wire (Ok t) s s' p after h = turn_seated wire t s s' p h after
   turned wire (Err fault) s s' p same h =
+      stays_seated wire s s' p h (stays_same s s' p.known.took same)
+
+  pub polled : (wire : TableId) (r : Result (turn.Turn × Option Reply) Fault) (s s' : SiteView)
+      (p : Held) → MatchResult r (λ t. AfterTurn t.0 s s') (λ _. s' ≡ s)
+      → IsSeated wire c programs s p → IsSeated wire c programs s' p
+  polled wire (Ok t) s s' p after h = turn_seated wire t.0 s s' p h after
+  polled wire (Err fault) s s' p same h =
       stays_seated wire s s' p h (stays_same s s' p.known.took same)
 
   pub delivered : (wire : TableId) (r : Result Verdict Fault) (bytes : List ℕ) (s s' : SiteView)

@@ -6,19 +6,19 @@ use Rattle.std.specs.Prelude.{IfOk, IfErr, MatchOption, MatchResult, Result, Ok,
 use Rattle.std.proofs.lemmas.List.Elements.{All-nil, All-cons, Contains-append_right, Contains-push}
 use Rattle.atomic_table.specs.Seated.{TableId}
 use Rattle.ivy_model.specs.declared.Config.{Config}
-use Rattle.ivy_model.specs.Config.{IsConfig}
+use Rattle.ivy_model.specs.stated.Config.{IsConfig}
 use Rattle.ivy_model.specs.declared.Fault.{Fault}
 use Rattle.ivy_model.specs.declared.Fault.TheVariants as fault
 use Rattle.ivy_model.specs.Wants.{RanOut}
-use Rattle.ivy_program.specs.Programs.{Program}
+use Rattle.ivy_program.specs.stated.Programs.{Program}
 use Rattle.ivy_wire.specs.declared.FrameKind.{FrameKind}
 use Rattle.ivy_wire.proofs.Frames.{spelled_once}
-use Rattle.ivy_moves.specs.ivy_link.declared.Verdict.{Verdict}
-use Rattle.ivy_moves.specs.ivy_link.declared.Verdict.TheVariants as verdict
-use Rattle.ivy_moves.specs.ivy_link.Accepted.{offered, verdict_on}
-use Rattle.ivy_moves.specs.ivy_link.Linked.{peer_at}
+use Rattle.ivy_link.specs.declared.Verdict.{Verdict}
+use Rattle.ivy_link.specs.declared.Verdict.TheVariants as verdict
+use Rattle.ivy_link.specs.stated.Accepted.{offered, verdict_on}
+use Rattle.ivy_link.specs.stated.Linked.{peer_at}
 use Rattle.ivy_moves.specs.Marks.{Mark}
-use Rattle.ivy_moves.specs.Nodes.{verdict_as, verdict_of}
+use Rattle.ivy_moves.specs.stated.Nodes.{verdict_as, verdict_of}
 use Rattle.ivy_site.specs.SiteView.{SiteView}
 use Rattle.ivy_site.specs.Sites.{SiteDelivers, AfterDelivery, IsMadeByEvents}
 use Rattle.ivy_ether.specs.Data.{Item}

@@ -2,14 +2,15 @@
 use Rattle.std.specs.Prelude.{◌≡◌, ℕ, false, List, [], ◌++◌, length, slice_get, Some, Contains}
 use Rattle.atomic_table.specs.Seated.{TableId}
 use Rattle.ivy_model.specs.declared.Config.{Config}
-use Rattle.ivy_model.specs.Config.{IsConfig}
-use Rattle.ivy_program.specs.Programs.{Program, handed}
+use Rattle.ivy_model.specs.stated.Config.{IsConfig}
+use Rattle.ivy_program.specs.stated.Programs.{Program}
+use Rattle.ivy_program.specs.Programs.{handed}
 use Rattle.ivy_model.specs.declared.Call.{Call}
 use Rattle.ivy_moves.specs.Marks.{Mark}
 use Rattle.ivy_moves.specs.Parts.{AllCanBeMade, AreParts}
-use Rattle.ivy_moves.specs.Worlds.{World}
-use Rattle.ivy_ether.specs.ivy_host.Hosts.{Host, host_rules}
-use Rattle.ivy_ether.specs.ivy_host.Managers.{Managed, managed_ops}
+use Rattle.ivy_moves.specs.stated.Worlds.{World}
+use Rattle.ivy_host.specs.stated.Hosts.{Host, host_rules}
+use Rattle.ivy_host.specs.stated.Managers.{Managed, managed_ops}
 use Rattle.ivy_ether.specs.Programs.{beginning, all_handed}
 use Rattle.ivy_site.specs.SiteView.{SiteView}
 use Rattle.ivy_site.specs.Sites.{first_keeping, IsMadeByEvents}

@@ -3,19 +3,19 @@ use Rattle.std.specs.Prelude.{◌≡◌, ℕ, List, length, slice_get, Some, All
 use Rattle.ivy_model.specs.declared.Call.{Call}
 use Rattle.ivy_model.specs.declared.Config.{Config}
 use Rattle.ivy_model.specs.declared.Record.{Record}
-use Rattle.ivy_model.specs.Explains.{part}
-use Rattle.ivy_model.specs.Legal.{Legal}
-use Rattle.ivy_program.specs.Programs.{Program}
-use Rattle.ivy_program.specs.Runs.{IsWholeRun}
-use Rattle.ivy_program.specs.Steps.{HasEnded}
+use Rattle.ivy_model.specs.stated.Explains.{part}
+use Rattle.ivy_model.specs.stated.Legal.{Legal}
+use Rattle.ivy_program.specs.stated.Programs.{Program}
+use Rattle.ivy_program.specs.stated.ProgramRuns.{IsWholeRun}
+use Rattle.ivy_program.specs.InstructionSteps.{HasEnded}
 use Rattle.ivy_moves.specs.declared.keep.Keep.{Keep}
 use Rattle.ivy_moves.specs.Marks.{Mark}
-use Rattle.ivy_moves.specs.Nodes.{Effect}
+use Rattle.ivy_moves.specs.stated.Nodes.{Effect}
 use Rattle.ivy_moves.specs.Parts.{AreParts}
-use Rattle.ivy_moves.specs.Worlds.{World}
-use Rattle.ivy_ether.specs.ivy_host.Holding.{IsExclusive, HasNoBreach}
-use Rattle.ivy_ether.specs.ivy_host.Hosts.{Host, host_rules}
-use Rattle.ivy_ether.specs.ivy_host.Managers.{Managed, managed_ops}
+use Rattle.ivy_moves.specs.stated.Worlds.{World}
+use Rattle.ivy_host.specs.stated.Holding.{IsExclusive, HasNoBreach}
+use Rattle.ivy_host.specs.stated.Hosts.{Host, host_rules}
+use Rattle.ivy_host.specs.stated.Managers.{Managed, managed_ops}
 use Rattle.ivy_site.specs.SiteView.{SiteView}
 use Rattle.ivy_ether.specs.Going.{IsListOf}
 use Rattle.ivy_ether.specs.Programs.{beginning, all_handed}

@@ -1,6 +1,6 @@
 -- What a turn on the wire leaves to the program.
 use Rattle.std.specs.Prelude.{◌≡◌}
-use Rattle.ivy_seating.specs.ivy_site.SiteView.{SiteView}
+use Rattle.ivy_site.specs.SiteView.{SiteView}
 
 -- it is the same node, which keeps the same lists of its past, and what its program was answered
 -- and where that stands are as before

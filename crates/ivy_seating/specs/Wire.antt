@@ -1,13 +1,13 @@
 -- What the turns of a seated site leave.
 use Rattle.std.specs.Prelude.{◌≡◌, ◌≢◌, ◌⊎◌, ◌+◌, ◌<◌, ◌≤◌, ℕ, List, Option, None, Err, [], ◌∷◌, ◌++◌, All, length}
 use Rattle.ivy_model.specs.declared.Fault.{Fault}
-use Rattle.ivy_moves.specs.ivy_link.declared.Verdict.{Verdict}
-use Rattle.ivy_moves.specs.ivy_link.declared.Verdict.TheVariants as verdict
-use Rattle.ivy_wire.specs.Data.{Frame}
+use Rattle.ivy_link.specs.declared.Verdict.{Verdict}
+use Rattle.ivy_link.specs.declared.Verdict.TheVariants as verdict
+use Rattle.ivy_wire.specs.stated.Data.{Frame}
 use Rattle.ivy_wire.specs.Destinations.{dest_of}
-use Rattle.ivy_wire.specs.DecodeErrors.{checked}
-use Rattle.ivy_wire.specs.Spelling.{Spells}
-use Rattle.ivy_site.specs.ivy_outbox.Outboxes.{next_dest}
+use Rattle.ivy_wire.specs.stated.DecodeErrors.{checked}
+use Rattle.ivy_wire.specs.stated.Spelling.{Spells}
+use Rattle.ivy_link.specs.Outboxes.{next_dest}
 use Rattle.ivy_site.specs.SiteView.{SiteView}
 use Rattle.ivy_site.specs.Sites.{AfterDelivery, IsSpentDelivery}
 use Rattle.ivy_ether.specs.Data.{Item}

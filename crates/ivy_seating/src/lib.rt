@@ -1,4 +1,4 @@
-//! The nodes of a session at its ether: how each is seated, the turns of a seated site, and the report of all.
+//! Nodes seated at the ether, their turns on the wire, and the report of all; no threads.
 //!
 //! A seated site is a site with its pass. At every moment its event list is one that the pass may give, so the event
 //! lists of all of them are the parts of one run of the world, whoever makes their turns. Nothing here starts a thread.
@@ -15,8 +15,6 @@ mod wire;
 mod wire_turn;
 
 pub use homed::{Home, Homed};
-pub use ivy_ether;
-pub use ivy_moves::ivy_link;
 pub use report::Report;
 pub use seat::ProgramSeat;
 pub use seated::Seated;

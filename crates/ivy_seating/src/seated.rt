@@ -2,17 +2,17 @@
 ghost use Rattle.std.specs.Prelude.{◌≡◌, ◌≢◌, ◌↔◌, ◌*◌, ◌<◌, ◌≤◌, [], ◌∷◌, ◌++◌, Ok, Err, None, Contains, IsTrue, MatchBool, MatchOption, MatchResult, IfOk, IfErr, IfSome, IsSome, IsOkUnless, OnOk, OnErr, length};
 ghost use Rattle.ivy_model.specs.Rows.{calls_of, numbers_in, row};
 ghost use Rattle.ivy_model.specs.Wants.{RanOut};
-ghost use Rattle.ivy_wire.specs.DecodeErrors.{checked};
-ghost use Rattle.ivy_moves.specs.Nodes.{pulsing, verdict_of};
-ghost use Rattle.ivy_model.specs.Legal.{HasWidth};
-ghost use Rattle.ivy_program.specs.Owned.{IsFree};
+ghost use Rattle.ivy_wire.specs.stated.DecodeErrors.{checked};
+ghost use Rattle.ivy_moves.specs.stated.Nodes.{pulsing, verdict_of};
+ghost use Rattle.ivy_model.specs.stated.Legal.{HasWidth};
+ghost use Rattle.ivy_program.specs.OwnCode.{IsFree};
 ghost use Rattle.ivy_program.specs.Programs.{one_by_one};
-ghost use Rattle.ivy_program.specs.Steps.{HasEnded};
-ghost use Rattle.ivy_site.specs.ivy_host.ivy_memory.AtOnce.{IsStored, row_at_hand};
-ghost use Rattle.ivy_site.specs.Calls.{AreAnswered, AreTaken, BeginsCall, BeginsRow, MayCallInRow, MayCallTogether, row_together};
+ghost use Rattle.ivy_program.specs.InstructionSteps.{HasEnded};
+ghost use Rattle.ivy_memory.specs.AtOnce.{IsStored, row_at_hand};
+ghost use Rattle.ivy_site.specs.Calls.{AreAnswered, AreTaken, BeginsCall, BeginsRow, MayCallInRow, MayCallTogether, RecordsReply, row_together};
 ghost use Rattle.ivy_site.specs.Handed.{site_handed};
 ghost use Rattle.ivy_ether.specs.Views.{with_all_handed, with_handed};
-ghost use Rattle.ivy_site.specs.ivy_outbox.Outboxes.{next_dest};
+ghost use Rattle.ivy_link.specs.Outboxes.{next_dest};
 ghost use Rattle.ivy_site.specs.SiteView.{after_pulse_to};
 ghost use Rattle.ivy_site.specs.Sites.{AfterTurn, AfterDelivery, IsSpentTurn, IsSpentDelivery};
 ghost use Rattle.ivy_seating.specs.Places.{place, IsSeated, IsFreshSeat, KeepsSeat, IsInRun};
@@ -20,8 +20,8 @@ ghost use Rattle.ivy_seating.specs.Wire.{AfterWire, Drains, RefusesString, IsPut
 
 use crate::wire_turn::WireTurn;
 use ivy_ether::{Ether, Item, Pass, Put, Setup, Wired};
+use ivy_link::Verdict;
 use ivy_model::{Call, Fault, Reply, Row};
-use ivy_moves::ivy_link::Verdict;
 use ivy_site::{Site, Turn};
 use ivy_wire::{Bytes, destination};
 use std::alloc::Allocator;
@@ -45,8 +45,8 @@ impl<'e, S: Setup, A: Allocator> Model for Seated<'e, S, A> {
     ghost Value = { SeatedState };
 
     ghost use Rattle.std.specs.Coded.{codes};
-    ghost use Rattle.ivy_pagetable.specs.NodeSets.{nodes_code};
-    ghost use Rattle.ivy_ether.specs.ivy_alloc.Heap.{heap_state_code};
+    ghost use Rattle.ivy_pagetable.specs.stated.NodeSets.{nodes_code};
+    ghost use Rattle.ivy_alloc.specs.Heap.{heap_state_code};
 
     ghost coded = { Prim.hlevel (codes, nodes_code, heap_state_code) };
 
@@ -271,7 +271,23 @@ impl<'e, S: Setup, A: Allocator + Copy> Seated<'e, S, A> {
         ensures spent { IfErr result (IsSpentTurn self.old.site) }
         ensures want { IfErr result RanOut }
     {
-        self.site.program_turn()
+        let (turn, _) = self.poll()?;
+        Ok(turn)
+    }
+
+    /// One turn of the site's program, as [`Seated::program_turn`] makes it, with the reply that was recorded in it [1, 17].
+    /// A refused turn changes nothing.
+    pub fn poll(&mut self) -> Result<(Turn, Option<Reply>), Fault>
+        ensures ether { self.new.ether ≡ self.old.ether }
+        ensures pass { self.new.pass ≡ self.old.pass }
+        ensures done { MatchResult result (λ p. AfterTurn p.0 self.old.site self.new.site) (λ _. self.new ≡ self.old) }
+        ensures recorded { IfOk result (λ p. RecordsReply p.1 self.old.site self.new.site) }
+        ensures ended { IfOk result (λ p. (p.0 ≡ Turn.Ended) ↔ HasEnded self.old.site.node.core.process) }
+        ensures waits { IfOk result (λ p. p.0 ≡ Turn.Idle → IsSome self.old.site.node.core.memory.asked) }
+        ensures spent { IfErr result (IsSpentTurn self.old.site) }
+        ensures want { IfErr result RanOut }
+    {
+        self.site.poll()
     }
 
     /// A pulse to another node [1]. A refused pulse changes nothing.

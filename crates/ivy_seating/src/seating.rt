@@ -1,13 +1,13 @@
 //! How the sites of a session are seated, and how their reports are taken.
 ghost use Rattle.std.specs.Prelude.{◌≡◌, ◌<◌, ◌≤◌, ◌+◌, true, Some, [], All, IfOk, IfErr, IsTrue, OnOk, length, vec_len, vec_capacity, slice_get};
-ghost use Rattle.ivy_model.specs.Config.{IsConfig};
+ghost use Rattle.ivy_model.specs.stated.Config.{IsConfig};
 ghost use Rattle.ivy_ether.specs.Rule.{times};
 ghost use Rattle.ivy_ether.specs.Views.{beginner, with_issued};
-ghost use Rattle.ivy_ether.specs.Words.{IsNewcomer};
+ghost use Rattle.ivy_ether.specs.EtherViews.{IsNewcomer};
 ghost use Rattle.ivy_workers.specs.Stops.{IsStop};
 ghost use Rattle.ivy_seating.specs.Places.{IsSeated};
 ghost use Rattle.ivy_seating.specs.Reports.{report_of, AllKeep};
-ghost use Rattle.ivy_seating.specs.Told.{TellsOf, AreTold};
+ghost use Rattle.ivy_seating.specs.Collected.{TellsOf, AreTold};
 
 use crate::homed::{Home, Homed};
 use crate::report::Report;

@@ -1,5 +1,5 @@
 //! What a turn on the wire came to.
-use ivy_moves::ivy_link::Verdict;
+use ivy_link::Verdict;
 
 /// What a turn of a node on the wire came to.
 #[derive(Clone, Copy, Debug, PartialEq, Eq)]

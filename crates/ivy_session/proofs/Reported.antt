@@ -8,31 +8,33 @@ use Rattle.ivy_model.specs.declared.Fault.{Fault}
 use Rattle.ivy_model.specs.declared.Call.{Call}
 use Rattle.ivy_model.specs.declared.Config.{Config}
 use Rattle.ivy_model.specs.declared.Record.{Record}
-use Rattle.ivy_model.specs.Config.{IsConfig}
-use Rattle.ivy_model.specs.Explains.{IsOwed, part}
-use Rattle.ivy_program.specs.Programs.{Program, Written, Called, IsWritten, handed}
-use Rattle.ivy_program.specs.Runs.{IsWholeRun}
-use Rattle.ivy_program.specs.Steps.{Asks, Ends, HasEnded, step_of}
-use Rattle.ivy_seating.specs.ivy_moves.declared.Move.{Move}
-use Rattle.ivy_seating.specs.ivy_moves.Explained.{IsExplainedBy, GoesOn}
-use Rattle.ivy_seating.specs.ivy_moves.Marks.{Mark}
-use Rattle.ivy_seating.specs.ivy_moves.Nodes.{Node, Effect}
-use Rattle.ivy_seating.specs.ivy_moves.Parts.{AllHappen, AreParts}
-use Rattle.ivy_seating.specs.ivy_moves.Worlds.{World, Leads}
-use Rattle.ivy_seating.proofs.of_ivy_moves.Parts.{runs_are_their_parts}
-use Rattle.ivy_seating.proofs.of_ivy_moves.Splitting.{same-effect}
-use Rattle.ivy_seating.specs.ivy_ether.ivy_host.Hosts.{Host, host_rules, answered_by}
-use Rattle.ivy_seating.specs.ivy_ether.ivy_host.Managers.{Managed, managed_ops}
-use Rattle.ivy_seating.specs.ivy_ether.ivy_host.Handing.{handing}
-use Rattle.ivy_seating.specs.ivy_ether.ivy_host.ivy_memory.Memories.{in_progress}
-use Rattle.ivy_seating.specs.ivy_ether.Programs.{beginning, all_handed_from, all_handed, Told}
-use Rattle.ivy_seating.specs.ivy_ether.Rule.{IsNode}
-use Rattle.ivy_seating.proofs.of_ivy_ether.Advancing.{same_start, list_over}
-use Rattle.ivy_seating.proofs.of_ivy_ether.Hosts.{length-all_handed, opened, from_start}
-use Rattle.ivy_seating.specs.ivy_ether.Views.{View}
+use Rattle.ivy_model.specs.stated.Config.{IsConfig}
+use Rattle.ivy_model.specs.stated.Explains.{IsOwed, part}
+use Rattle.ivy_program.specs.stated.Programs.{Program, Written, Called}
+use Rattle.ivy_program.specs.Programs.{IsWritten, handed}
+use Rattle.ivy_program.specs.stated.ProgramRuns.{IsWholeRun}
+use Rattle.ivy_program.specs.stated.InstructionSteps.{Asks, Ends, step_of}
+use Rattle.ivy_program.specs.InstructionSteps.{HasEnded}
+use Rattle.ivy_moves.specs.declared.Move.{Move}
+use Rattle.ivy_moves.specs.stated.Explained.{IsExplainedBy, GoesOn}
+use Rattle.ivy_moves.specs.Marks.{Mark}
+use Rattle.ivy_moves.specs.stated.Nodes.{Node, Effect}
+use Rattle.ivy_moves.specs.Parts.{AllHappen, AreParts}
+use Rattle.ivy_moves.specs.stated.Worlds.{World, Leads}
+use Rattle.ivy_moves.proofs.Parts.{runs_are_their_parts}
+use Rattle.ivy_moves.proofs.Splitting.{same-effect}
+use Rattle.ivy_host.specs.stated.Hosts.{Host, host_rules, answered_by}
+use Rattle.ivy_host.specs.stated.Managers.{Managed, managed_ops}
+use Rattle.ivy_host.specs.Handing.{handing}
+use Rattle.ivy_memory.specs.stated.Memories.{in_progress}
+use Rattle.ivy_ether.specs.Programs.{beginning, all_handed_from, all_handed, Told}
+use Rattle.ivy_ether.specs.Rule.{IsNode}
+use Rattle.ivy_ether.proofs.Advancing.{same_start, list_over}
+use Rattle.ivy_ether.proofs.Hosts.{length-all_handed, opened, from_start}
+use Rattle.ivy_ether.specs.Views.{View}
 use Rattle.ivy_seating.specs.Reports.{NodeReport, IsDone, IsReport, IsHandedReport}
-use Rattle.ivy_seating.specs.Told.{AreTold}
-use Rattle.proof_headline.proofs.Headline.{exclusive_along, no_breach-led, runs_led, explained-along, sound-led}
+use Rattle.ivy_seating.specs.Collected.{AreTold}
+use Rattle.proof_worlds.proofs.headline.Headline.{exclusive_along, no_breach-led, runs_led, explained-along, sound-led}
 
 -- the order at the end of a run
 pub explained_end : (c : Config) (w end : World (Host Managed)) (order : List Record)

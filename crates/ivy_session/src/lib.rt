@@ -1,4 +1,4 @@
-//! Sessions: the programs of all nodes run, two threads a node, over one shared memory.
+//! Sessions of program texts: two threads a node, from the first seat to the report.
 //!
 //! Each node's site stands behind its own lock, and nothing is shared between nodes but the ether. Whatever the threads
 //! do, the event lists of the sites are, at every moment, the parts of one run of the world.
@@ -11,9 +11,7 @@ mod report;
 mod session;
 mod workers;
 
-pub use ivy_seating;
-pub use ivy_seating::{Keep, Report, Seated, WireTurn, ivy_ether};
-pub use ivy_workers;
+pub use ivy_seating::{Keep, Report, Seated, WireTurn};
 pub use ivy_workers::{Gate, Limits, OpenGate, Role};
 pub use printing::Printing;
 pub use session::{Session, are_written, lay};

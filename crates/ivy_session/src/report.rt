@@ -1,10 +1,10 @@
 //! The report of a session, of what its sites told.
 ghost use Rattle.std.specs.Prelude.{◌≡◌, ◌≤◌, [], IfOk, IfErr, length, vec_len, vec_capacity};
-ghost use Rattle.ivy_model.specs.Config.{IsConfig};
+ghost use Rattle.ivy_model.specs.stated.Config.{IsConfig};
 ghost use Rattle.ivy_seating.specs.Reports.{IsHandedReport, AllKeep};
 
+use ivy_ether::{Ether, Pass, Setup, Wired};
 use ivy_model::Fault;
-use ivy_seating::ivy_ether::{Ether, Pass, Setup, Wired};
 use ivy_seating::{Home, Homed, Keep, Report, Site, close_seats};
 use std::alloc::Allocator;
 use std::sync::Mutex;

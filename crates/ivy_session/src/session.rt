@@ -1,20 +1,20 @@
 //! Sessions.
 ghost use Rattle.std.specs.Prelude.{◌≡◌, ◌↔◌, ◌<◌, ◌+◌, All, IsErrOf, IfOk, IfErr, length, vec_len};
-ghost use Rattle.ivy_model.specs.Config.{IsConfig, IsNarrow};
-ghost use Rattle.ivy_seating.specs.ivy_ether.Views.{beginner};
-ghost use Rattle.ivy_seating.specs.ivy_ether.Words.{AreFresh, room_of};
+ghost use Rattle.ivy_model.specs.stated.Config.{IsConfig, IsNarrow};
+ghost use Rattle.ivy_ether.specs.Views.{beginner};
+ghost use Rattle.ivy_ether.specs.EtherViews.{AreFresh, room_of};
 ghost use Rattle.ivy_workers.specs.Stops.{IsStop};
 ghost use Rattle.ivy_program.specs.Programs.{IsWritten};
-ghost use Rattle.ivy_seating.specs.ivy_ether.Words.{IsNewcomer};
+ghost use Rattle.ivy_ether.specs.EtherViews.{IsNewcomer};
 ghost use Rattle.ivy_seating.specs.Reports.{IsReport, IsHandedReport, AllKeep};
 ghost use Rattle.ivy_session.specs.Faults.{IsSessionFault};
-ghost use Rattle.ivy_workers.specs.Limits.{AreLimits};
+ghost use Rattle.ivy_workers.specs.SessionLimits.{AreLimits};
 
 use crate::report::collect;
 use crate::workers::run_workers;
+use ivy_ether::{Ether, Pass, Setup, Wired};
 use ivy_model::{Config, Fault};
 use ivy_program::Program;
-use ivy_seating::ivy_ether::{Ether, Pass, Setup, Wired};
 use ivy_seating::{Home, Keep, Report, seat_all};
 use ivy_workers::{Gate, Limits};
 use std::alloc::Allocator;

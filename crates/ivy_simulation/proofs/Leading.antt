@@ -4,14 +4,14 @@ use Rattle.std.proofs.lemmas.List.{take_more}
 use Rattle.std.specs.Io.KnownBytes.{Appends}
 use Rattle.ivy_texts.specs.declared.Settings.{Settings}
 use Rattle.ivy_model.specs.declared.Config.{Config}
-use Rattle.ivy_program.specs.Programs.{Program}
+use Rattle.ivy_program.specs.stated.Programs.{Program}
 use Rattle.ivy_moves.specs.declared.Move.{Move}
-use Rattle.ivy_moves.specs.Worlds.{World}
-use Rattle.ivy_world.specs.ivy_host.Hosts.{Host, host_rules}
-use Rattle.ivy_world.specs.ivy_host.Managers.{Managed, managed_ops}
-use Rattle.ivy_world.specs.ivy_host.Openings.{opening}
-use Rattle.ivy_world.specs.proof_headline.Reached.{IsLedTo}
-use Rattle.ivy_world.specs.proof_headline.RunState.{Run}
+use Rattle.ivy_moves.specs.stated.Worlds.{World}
+use Rattle.ivy_host.specs.stated.Hosts.{Host, host_rules}
+use Rattle.ivy_host.specs.stated.Managers.{Managed, managed_ops}
+use Rattle.ivy_host.specs.stated.Openings.{opening}
+use Rattle.proof_worlds.specs.stated.Reached.{IsLedTo}
+use Rattle.proof_worlds.specs.stated.RunState.{Run}
 use Rattle.ivy_moves.proofs.Leading.{leads_on}
 use Rattle.ivy_texts.specs.Drawn.{seeded}
 use Rattle.ivy_simulation.specs.Played.{Adds, PrintsDrawn, PrintsMoves, config_of, world_text}

@@ -5,7 +5,7 @@ use Rattle.std.proofs.Common.{ap, sym, subst, ◌∙◌, refl, arith, append-nil
 use Rattle.std.proofs.Common.{append_assoc}
 use Rattle.std.proofs.lemmas.List.{length-take-le}
 use Rattle.std.proofs.lemmas.Option.{slice_get_within, slice_get_cases}
-use Rattle.ivy_program.specs.Steps.{Step, Local, Asks, Ends}
+use Rattle.ivy_program.specs.stated.InstructionSteps.{Step, Local, Asks, Ends}
 use Rattle.std.specs.Io.KnownBytes.{Appends}
 use Rattle.ivy_texts.proofs.Printing.{appends-more, taken_more}
 use Rattle.ivy_simulation.specs.Played.{Adds, AddsLast}

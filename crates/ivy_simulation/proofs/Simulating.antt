@@ -3,10 +3,10 @@ use Rattle.std.proofs.Common.{◌≡◌, ℕ, suc, ◌+◌, [], ◌∷◌, subst
 use Rattle.rand_pcg.specs.Lcg.{Lcg}
 use Rattle.ivy_model.specs.declared.Config.{Config}
 use Rattle.ivy_moves.specs.declared.Move.{Move}
-use Rattle.ivy_moves.specs.Worlds.{World}
-use Rattle.ivy_world.specs.ivy_host.Hosts.{Host}
-use Rattle.ivy_world.specs.ivy_host.Managers.{Managed}
-use Rattle.ivy_world.specs.proof_headline.Reached.{IsLedTo}
+use Rattle.ivy_moves.specs.stated.Worlds.{World}
+use Rattle.ivy_host.specs.stated.Hosts.{Host}
+use Rattle.ivy_host.specs.stated.Managers.{Managed}
+use Rattle.proof_worlds.specs.stated.Reached.{IsLedTo}
 use Rattle.ivy_texts.specs.Drawn.{drawn}
 use Rattle.ivy_simulation.specs.Simulated.{DrawnTo}
 

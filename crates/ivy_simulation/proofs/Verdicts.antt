@@ -3,7 +3,7 @@ use Rattle.std.proofs.Common.{◌≡◌, ℕ, Bool, List, Option, Result, Ok, Er
 use Rattle.std.specs.Io.KnownBytes.{Appends}
 use Rattle.ivy_model.specs.declared.Config.{Config}
 use Rattle.ivy_model.specs.declared.Record.{Record}
-use Rattle.ivy_model.specs.Legal.{Legal}
+use Rattle.ivy_model.specs.stated.Legal.{Legal}
 use Rattle.ivy_texts.specs.Lines.{verdict_line}
 use Rattle.ivy_texts.specs.Spelled.{SpellsOrder}
 use Rattle.ivy_texts.specs.declared.order.Sizes.{Sizes}

@@ -1,8 +1,8 @@
 -- What is printed of all nodes: what their programs printed, and which of them have ended.
 use Rattle.std.specs.Prelude.{ℕ, ◌+◌, Bool, true, false, List, [], ◌∷◌, ◌++◌, flat_map, map}
-use Rattle.ivy_program.specs.Steps.{Process, Step, Local, Asks, Ends, step_of}
-use Rattle.ivy_moves.specs.Nodes.{Node}
-use Rattle.ivy_world.specs.ivy_host.Hosts.{Host}
+use Rattle.ivy_program.specs.stated.InstructionSteps.{Process, Step, Local, Asks, Ends, step_of}
+use Rattle.ivy_moves.specs.stated.Nodes.{Node}
+use Rattle.ivy_host.specs.stated.Hosts.{Host}
 use Rattle.ivy_texts.specs.Lines.{value_line, end_line}
 
 -- the text of each item, numbered from this number on, one after another

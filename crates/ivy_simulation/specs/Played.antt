@@ -2,16 +2,16 @@
 use Rattle.std.specs.Prelude.{ℕ, List, ◌++◌, Option}
 use Rattle.std.specs.Io.KnownBytes.{Appends}
 use Rattle.ivy_model.specs.declared.Config.{Config}
-use Rattle.ivy_program.specs.Programs.{Program}
+use Rattle.ivy_program.specs.stated.Programs.{Program}
 use Rattle.ivy_moves.specs.declared.Move.{Move}
-use Rattle.ivy_moves.specs.Worlds.{World}
+use Rattle.ivy_moves.specs.stated.Worlds.{World}
 use Rattle.ivy_texts.specs.declared.Settings.{Settings}
 use Rattle.ivy_texts.specs.Drawn.{seeded}
 use Rattle.ivy_texts.specs.Spelled.{SpellsSchedule}
-use Rattle.ivy_world.specs.ivy_host.Hosts.{Host}
-use Rattle.ivy_world.specs.ivy_host.Managers.{Managed, managed_ops}
-use Rattle.ivy_world.specs.ivy_host.Openings.{opening}
-use Rattle.ivy_world.specs.proof_headline.Reached.{IsLedTo}
+use Rattle.ivy_host.specs.stated.Hosts.{Host}
+use Rattle.ivy_host.specs.stated.Managers.{Managed, managed_ops}
+use Rattle.ivy_host.specs.stated.Openings.{opening}
+use Rattle.proof_worlds.specs.stated.Reached.{IsLedTo}
 use Rattle.ivy_simulation.specs.Nodes.{outputs_text, outputs_of, ends_text}
 use Rattle.ivy_simulation.specs.Simulated.{DrawnTo}
 

@@ -2,10 +2,10 @@
 use Rattle.std.specs.Prelude.{◌≡◌, ℕ, zero, suc, [], ◌∷◌}
 use Rattle.rand_pcg.specs.Lcg.{Lcg}
 use Rattle.ivy_model.specs.declared.Config.{Config}
-use Rattle.ivy_moves.specs.Worlds.{World}
-use Rattle.ivy_world.specs.ivy_host.Hosts.{Host}
-use Rattle.ivy_world.specs.ivy_host.Managers.{Managed}
-use Rattle.ivy_world.specs.proof_headline.Reached.{IsLedTo}
+use Rattle.ivy_moves.specs.stated.Worlds.{World}
+use Rattle.ivy_host.specs.stated.Hosts.{Host}
+use Rattle.ivy_host.specs.stated.Managers.{Managed}
+use Rattle.proof_worlds.specs.stated.Reached.{IsLedTo}
 use Rattle.ivy_texts.specs.Drawn.{drawn}
 
 -- so many moves lead from one world to another, each drawn over the strings that were sent before

@@ -1,8 +1,8 @@
 //! Whether one flat memory answers as an order says.
 ghost use Rattle.std.specs.Prelude.{◌↔◌, IsTrue, IfOk, MatchResult};
 ghost use Rattle.std.specs.Io.KnownBytes.{Appends};
-ghost use Rattle.ivy_model.specs.Config.{IsConfig};
-ghost use Rattle.ivy_model.specs.Legal.{Legal};
+ghost use Rattle.ivy_model.specs.stated.Config.{IsConfig};
+ghost use Rattle.ivy_model.specs.stated.Legal.{Legal};
 ghost use Rattle.ivy_texts.specs.Lines.{verdict_line};
 ghost use Rattle.ivy_simulation.specs.Judged.{PrintsVerdict};
 

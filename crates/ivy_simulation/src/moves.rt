@@ -1,7 +1,7 @@
 //! One move of a world that a command runs.
 ghost use Rattle.std.specs.Prelude.{◌≡◌, [], ◌∷◌, OnOk};
-ghost use Rattle.ivy_world.specs.ivy_host.Holding.{AllSpell};
-ghost use Rattle.ivy_world.specs.proof_headline.Reached.{IsLedTo, IsReached};
+ghost use Rattle.ivy_host.specs.stated.Holding.{AllSpell};
+ghost use Rattle.proof_worlds.specs.stated.Reached.{IsLedTo, IsReached};
 
 use ivy_model::Fault;
 use ivy_world::{Move, World};

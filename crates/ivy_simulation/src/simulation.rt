@@ -1,7 +1,7 @@
 //! Worlds that run by drawn moves.
 ghost use Rattle.std.specs.Prelude.{◌≡◌, OnOk};
-ghost use Rattle.ivy_model.specs.Config.{IsConfig};
-ghost use Rattle.ivy_world.specs.proof_headline.Reached.{IsReached};
+ghost use Rattle.ivy_model.specs.stated.Config.{IsConfig};
+ghost use Rattle.proof_worlds.specs.stated.Reached.{IsReached};
 ghost use Rattle.ivy_simulation.specs.Simulated.{DrawnTo};
 ghost use Rattle.ivy_texts.specs.Drawn.{seeded};
 

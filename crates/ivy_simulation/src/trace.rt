@@ -1,14 +1,14 @@
 //! Worlds that run by a schedule, with a trace of each move.
 ghost use Rattle.std.specs.Prelude.{◌≡◌, [], ◌∷◌, OnOk};
-ghost use Rattle.ivy_model.specs.Config.{IsConfig};
-ghost use Rattle.ivy_world.specs.proof_headline.Reached.{IsLedTo};
+ghost use Rattle.ivy_model.specs.stated.Config.{IsConfig};
+ghost use Rattle.proof_worlds.specs.stated.Reached.{IsLedTo};
 ghost use Rattle.ivy_simulation.specs.Played.{Adds};
 
 use crate::halt::Halt;
 use crate::moves::make;
 use ivy_model::{Config, Record};
 use ivy_texts::{Decimal, MoveText, RecordText, kind_name};
-use ivy_wire::{Bytes, read};
+use ivy_wire::{Bytes, read_frame};
 use ivy_world::{Move, World};
 use std::alloc::Allocator;
 use std::io::{self, Write};
@@ -42,7 +42,7 @@ fn trace_sent<A: Allocator + Copy, W: Write>(
     ensures { OnOk result (Adds (W.contents out.old) (W.contents out.new)) }
 {
     for index in from..sent.len() {
-        let frame = read(config, sent[index].bytes())?;
+        let frame = read_frame(config, sent[index].bytes())?;
         let name = kind_name(frame.kind());
         let source = Decimal(u64::from(frame.source));
         let dest = Decimal(u64::from(frame.dest));

@@ -8,28 +8,28 @@ use Rattle.ivy_model.specs.declared.Fault.{Fault}
 use Rattle.ivy_model.specs.declared.Fault.TheVariants as fault
 use Rattle.ivy_model.specs.declared.Record.{Record}
 use Rattle.ivy_model.specs.declared.Reply.{Reply}
-use Rattle.ivy_wire.specs.Data.{Parcel}
-use Rattle.ivy_moves.specs.ivy_link.Linked.{has_numbers}
-use Rattle.ivy_host.specs.ivy_coherence.declared.Need.{Need}
-use Rattle.ivy_host.specs.ivy_coherence.declared.Need.TheVariants as need
-use Rattle.ivy_host.specs.ivy_coherence.PageFaults.{Begun, begun}
-use Rattle.ivy_host.specs.Managers.{Managed, managed_ops}
-use Rattle.ivy_program.specs.Steps.{Process, Asks, step_of, answered_with, along_of}
-use Rattle.ivy_moves.specs.Cores.{Outcome}
-use Rattle.ivy_host.specs.ivy_coherence.Limits.{most_posted}
-use Rattle.ivy_host.specs.ivy_heap.declared.Answer.{Answer}
-use Rattle.ivy_host.specs.ivy_heap.declared.Answer.TheVariants.{Given, Awaited, Unserved}
-use Rattle.ivy_host.specs.ivy_memory.declared.Asked.{Asked}
-use Rattle.ivy_host.specs.ivy_memory.declared.Asked.TheVariants as asked
-use Rattle.ivy_host.specs.ivy_memory.Asking.{asked_of}
-use Rattle.ivy_host.proofs.of_ivy_memory.Sides.{heap_unserved}
-use Rattle.ivy_host.specs.ivy_memory.Beside.{Beside, nothing_beside, beside}
-use Rattle.ivy_host.specs.ivy_memory.Memories.{NodeMemory, CallBegun, reply_of, reply_at, without_call, answered, needed, again_unless, again, begun_as, call_begun, tried_as, polled_as, polled}
-use Rattle.ivy_host.proofs.of_ivy_memory.Polling.{polled_so}
-use Rattle.ivy_host.specs.Hosts.{Host, begins_as, begins_with, steps, turned_at, turn_of, number_of, recorded}
-use Rattle.ivy_outbox.specs.Outboxes.{Outbox, HasNumbers, RefusesParcels, posted_by, takes_none, after_none}
+use Rattle.ivy_wire.specs.stated.Data.{Parcel}
+use Rattle.ivy_link.specs.stated.Linked.{has_numbers}
+use Rattle.ivy_coherence.specs.declared.Need.{Need}
+use Rattle.ivy_coherence.specs.declared.Need.TheVariants as need
+use Rattle.ivy_coherence.specs.stated.PageFaults.{Begun, begun}
+use Rattle.ivy_host.specs.stated.Managers.{Managed, managed_ops}
+use Rattle.ivy_program.specs.stated.InstructionSteps.{Process, Asks, step_of, answered_with, along_of}
+use Rattle.ivy_moves.specs.stated.Cores.{Outcome}
+use Rattle.ivy_coherence.specs.EventLimits.{most_posted}
+use Rattle.ivy_alloc.specs.declared.CallProgress.{CallProgress}
+use Rattle.ivy_alloc.specs.declared.CallProgress.TheVariants.{Given, Awaited, Unserved}
+use Rattle.ivy_memory.specs.declared.Asked.{Asked}
+use Rattle.ivy_memory.specs.declared.Asked.TheVariants as asked
+use Rattle.ivy_memory.specs.stated.Asking.{asked_of}
+use Rattle.ivy_memory.proofs.serving.Sides.{heap_unserved}
+use Rattle.ivy_memory.specs.stated.Beside.{Beside, nothing_beside, beside}
+use Rattle.ivy_memory.specs.stated.Memories.{NodeMemory, CallBegun, reply_of, reply_at, without_call, answered, needed, again_unless, again, begun_as, call_begun, tried_as, polled_as, polled}
+use Rattle.ivy_memory.proofs.keeping.Polling.{polled_so}
+use Rattle.ivy_host.specs.stated.Hosts.{Host, begins_as, begins_with, steps, turned_at, turn_of, number_of, recorded}
+use Rattle.ivy_link.specs.Outboxes.{Outbox, HasNumbers, RefusesParcels, posted_by, takes_none, after_none}
 use Rattle.ivy_site.specs.Inside.{HasTurn, AfterHostTurn, HasNoNumbers, host_of, is_served, kept_by, told_by}
-use Rattle.ivy_outbox.proofs.Boxes.{as_many-wait}
+use Rattle.ivy_link.proofs.Boxes.{as_many-wait}
 
 abbrev H : Type 0
 H = Host Managed
@@ -98,7 +98,7 @@ unposted (inl grows) = grows.1
 unposted (inr refuses) = refuses.1
 
 -- what is not Unserved is served
-pub serves : (answer : Answer) → answer ≢ Unserved → is_served answer ≡ true
+pub serves : (answer : CallProgress) → answer ≢ Unserved → is_served answer ≡ true
 serves (Given r) not = refl
 serves Awaited not = refl
 serves Unserved not = absurd (not refl)
@@ -155,13 +155,13 @@ poll_call h k asked = record {
 }
 
 module _ (h : H) (k : Call) (a : CallBegun Managed) (calls : IsCall h k a) where
-  by_answer : (answer r : Answer) → answer ≡ a.answer → answer ≡ r
+  by_answer : (answer r : CallProgress) → answer ≡ a.answer → answer ≡ r
       → turn_of managed_ops h ≡ begins_with h k a r
   by_answer answer r same is = calls.turn ∙ ap (begins_with h k a) (sym same ∙ is)
 
   -- it has a reply
   called_answered : (box after : Outbox) (node : ℕ) (memory : NodeMemory Managed)
-      (process : Process) (history : List Record) (answer : Answer) (r : Reply)
+      (process : Process) (history : List Record) (answer : CallProgress) (r : Reply)
       → node ≡ number_of h → answer ≡ a.answer → answer ≡ Given r → memory ≡ a.after
       → HasNumbers box a.posted → after ≡ posted_by box a.posted
       → history ≡ h.history ++ record { node = node; call = k; reply = r } ∷ []
@@ -180,7 +180,7 @@ module _ (h : H) (k : Call) (a : CallBegun Managed) (calls : IsCall h k a) where
       }
 
   -- its word waits
-  called_awaited : (box after : Outbox) (memory : NodeMemory Managed) (answer : Answer)
+  called_awaited : (box after : Outbox) (memory : NodeMemory Managed) (answer : CallProgress)
       → answer ≡ a.answer → answer ≡ Awaited → memory ≡ a.after → HasNumbers box a.posted
       → after ≡ posted_by box a.posted
       → HasTurn h box (host_of memory h.process h.history) after
@@ -193,7 +193,7 @@ module _ (h : H) (k : Call) (a : CallBegun Managed) (calls : IsCall h k a) where
   }
 
   -- nothing changes
-  not_called : (box after : Outbox) (memory : NodeMemory Managed) (answer : Answer)
+  not_called : (box after : Outbox) (memory : NodeMemory Managed) (answer : CallProgress)
       → answer ≡ a.answer → answer ≡ Unserved → memory ≡ a.after → after ≡ posted_by box a.posted
       → AfterHostTurn false h box (host_of memory h.process h.history) after
   not_called box after memory answer same is next sent =
@@ -205,7 +205,7 @@ module _ (h : H) (k : Call) (a : CallBegun Managed) (calls : IsCall h k a) where
 
   -- one of the three
   pub called : (box after : Outbox) (node : ℕ) (memory : NodeMemory Managed) (process : Process)
-      (history : List Record) (served : Bool) (answer : Answer) → node ≡ number_of h
+      (history : List Record) (served : Bool) (answer : CallProgress) → node ≡ number_of h
       → answer ≡ a.answer → memory ≡ a.after → HasNumbers box a.posted
       → after ≡ posted_by box a.posted → served ≡ is_served answer
       → history ≡ kept_by h.history node k answer → process ≡ told_by h.process answer
@@ -222,7 +222,7 @@ module _ (h : H) (k : Call) (a : CallBegun Managed) (calls : IsCall h k a) where
       rw (is, kept, goes) (not_called box after memory Unserved same refl next sent)
 
   -- numbers are at an end for what it would post
-  cannot_by : (box : Outbox) → has_numbers box.link a.posted ≡ false → (r : Answer) → a.answer ≡ r
+  cannot_by : (box : Outbox) → has_numbers box.link a.posted ≡ false → (r : CallProgress) → a.answer ≡ r
       → (outcome : Outcome H) × (turn_of managed_ops h ≡ Some outcome)
       × (has_numbers box.link outcome.posted ≡ false)
   cannot_by box none (Given r) is = (

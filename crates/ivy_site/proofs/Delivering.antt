@@ -9,40 +9,40 @@ use Rattle.std.proofs.lemmas.List.Elements.{Contains-push}
 use Rattle.ivy_model.specs.declared.Config.{Config}
 use Rattle.ivy_model.specs.declared.Fault.{Fault}
 use Rattle.ivy_model.specs.declared.Fault.TheVariants as fault
-use Rattle.ivy_model.specs.Config.{IsConfig}
+use Rattle.ivy_model.specs.stated.Config.{IsConfig}
 use Rattle.ivy_wire.specs.declared.FrameKind.{FrameKind}
-use Rattle.ivy_wire.specs.Data.{Message, Frame, Parcel}
-use Rattle.ivy_wire.specs.Spelling.{Spells, spelling, frame_kind}
-use Rattle.ivy_wire.specs.DecodeErrors.{checked}
-use Rattle.ivy_wire.specs.Reading.{frame_at}
+use Rattle.ivy_wire.specs.stated.Data.{Message, Frame, Parcel}
+use Rattle.ivy_wire.specs.stated.Spelling.{Spells, spelling, frame_kind}
+use Rattle.ivy_wire.specs.stated.DecodeErrors.{checked}
+use Rattle.ivy_wire.specs.stated.Reading.{frame_at}
 use Rattle.ivy_wire.proofs.Frames.{spelled_once}
-use Rattle.ivy_moves.specs.ivy_link.declared.Verdict.{Verdict}
-use Rattle.ivy_moves.specs.ivy_link.declared.Verdict.TheVariants as verdict
-use Rattle.ivy_moves.specs.ivy_link.Linked.{Linked, peer_at, sends, has_numbers}
-use Rattle.ivy_moves.specs.ivy_link.Accepted.{verdict_on, offered, accepted}
-use Rattle.ivy_outbox.specs.Fitting.{FitsLink}
-use Rattle.ivy_moves.specs.ivy_link.Holding.{moved_at}
-use Rattle.ivy_moves.specs.ivy_link.Holding as holding
-use Rattle.ivy_moves.proofs.of_ivy_link.Sending.{sends-me, sends-peers}
-use Rattle.ivy_moves.proofs.of_ivy_link.Peers.{accepted-me}
-use Rattle.ivy_moves.proofs.of_ivy_link.Holds.{sends-delivered}
-use Rattle.ivy_host.specs.Managers.{Managed, managed_ops}
+use Rattle.ivy_link.specs.declared.Verdict.{Verdict}
+use Rattle.ivy_link.specs.declared.Verdict.TheVariants as verdict
+use Rattle.ivy_link.specs.stated.Linked.{Linked, peer_at, sends, has_numbers}
+use Rattle.ivy_link.specs.stated.Accepted.{verdict_on, offered, accepted}
+use Rattle.ivy_link.specs.Fitting.{FitsLink}
+use Rattle.ivy_link.specs.Holding.{moved_at}
+use Rattle.ivy_link.specs.Holding as holding
+use Rattle.ivy_link.proofs.Sending.{sends-me, sends-peers}
+use Rattle.ivy_link.proofs.Peers.{accepted-me}
+use Rattle.ivy_link.proofs.Holds.{sends-delivered}
+use Rattle.ivy_host.specs.stated.Managers.{Managed, managed_ops}
 use Rattle.ivy_moves.specs.Marks.{Mark, Delivery}
-use Rattle.ivy_moves.specs.Cores.{Core}
-use Rattle.ivy_moves.specs.Nodes.{Node, Effect, stays, posting, accepting, served_next, received, received_as, delivered, delivered_as}
-use Rattle.ivy_host.specs.ivy_coherence.Limits.{most_posted}
-use Rattle.ivy_host.specs.ivy_memory.Memories.{NodeMemory, memory_handled, memory_told}
-use Rattle.ivy_host.specs.Hosts.{Host, host_rules, serving}
-use Rattle.ivy_outbox.specs.Outboxes.{Outbox, HasNumbers, RefusesParcels, holding_of, with_holding, posted_by}
+use Rattle.ivy_moves.specs.stated.Cores.{Core}
+use Rattle.ivy_moves.specs.stated.Nodes.{Node, Effect, stays, posting, accepting, served_next, received, received_as, delivered, delivered_as}
+use Rattle.ivy_coherence.specs.EventLimits.{most_posted}
+use Rattle.ivy_memory.specs.stated.Memories.{NodeMemory, memory_handled, memory_told}
+use Rattle.ivy_host.specs.stated.Hosts.{Host, host_rules, serving}
+use Rattle.ivy_link.specs.Outboxes.{Outbox, HasNumbers, RefusesParcels, holding_of, with_holding, posted_by}
 use Rattle.ivy_site.specs.SiteView.{SiteView, after_hearing, after_delivery, box_of, shown_of}
 use Rattle.ivy_site.specs.Sites.{early_at, SiteDelivers, IsSpentDelivery, IsSite}
 use Rattle.ivy_site.specs.Inside.{CameEarlyAs}
-use Rattle.ivy_outbox.proofs.Boxes.{as_many}
+use Rattle.ivy_link.proofs.Boxes.{as_many}
 use Rattle.ivy_moves.specs.Early.{early_as}
 use Rattle.ivy_site.proofs.Made.{delivery_made, delivery_early}
 use Rattle.ivy_site.proofs.HeldStrings.{hearing-holds}
-use Rattle.ivy_host.specs.ivy_memory.Asking.{IsMessageWant}
-use Rattle.ivy_host.proofs.of_ivy_memory.Same.{told-same}
+use Rattle.ivy_memory.specs.Asking.{IsMessageWant}
+use Rattle.ivy_memory.proofs.keeping.Same.{told-same}
 use Rattle.ivy_host.proofs.WellBehaved.{serve-asking}
 use Rattle.ivy_host.proofs.WellBehaved.{IsAskingHost}
 

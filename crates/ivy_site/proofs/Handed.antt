@@ -2,14 +2,15 @@
 use Rattle.std.proofs.Common.{◌≡◌, ◌∙◌, List, Option, Some, None, Contains, refl, sym, ap, subst}
 use Rattle.ivy_model.specs.declared.Call.{Call}
 use Rattle.ivy_host.specs.Handing.{handing}
-use Rattle.ivy_host.specs.Hosts.{host_rules}
-use Rattle.ivy_host.specs.Managers.{managed_ops}
-use Rattle.ivy_host.specs.Openings.{first_node}
-use Rattle.ivy_host.proofs.Handed.{unseen}
+use Rattle.ivy_host.specs.stated.Hosts.{host_rules}
+use Rattle.ivy_host.specs.stated.Managers.{managed_ops}
+use Rattle.ivy_host.specs.stated.Openings.{first_node}
+use Rattle.ivy_host.proofs.HandedHosts.{unseen}
 use Rattle.ivy_moves.specs.Carrying.{EventsCarryOver, node_changed, effect_changed}
 use Rattle.ivy_moves.proofs.Unseen.{events-over}
-use Rattle.ivy_program.specs.Owned.{IsFree, process_handed}
-use Rattle.ivy_program.specs.Steps.{Process, Asks, Ends, HasEnded, step_of}
+use Rattle.ivy_program.specs.OwnCode.{IsFree, process_handed}
+use Rattle.ivy_program.specs.stated.InstructionSteps.{Process, Asks, Ends, step_of}
+use Rattle.ivy_program.specs.InstructionSteps.{HasEnded}
 use Rattle.ivy_site.specs.Inside.{host_of}
 use Rattle.ivy_site.specs.SiteView.{SiteView, box_of, shown_of}
 use Rattle.ivy_site.specs.Handed.{site_handed}

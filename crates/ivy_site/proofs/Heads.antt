@@ -4,26 +4,26 @@ use Rattle.std.specs.Prelude.{IfErr, MatchOption}
 use Rattle.ivy_model.specs.declared.Fault.{Fault}
 use Rattle.ivy_model.specs.Wants.{RanOut}
 use Rattle.ivy_wire.specs.declared.FrameKind.{FrameKind}
-use Rattle.ivy_wire.specs.DecodeErrors.{checked}
+use Rattle.ivy_wire.specs.stated.DecodeErrors.{checked}
 use Rattle.ivy_wire.proofs.Frames.{spelled_once}
 use Rattle.ivy_model.specs.declared.Config.{Config}
-use Rattle.ivy_model.specs.Config.{IsConfig}
+use Rattle.ivy_model.specs.stated.Config.{IsConfig}
 use Rattle.ivy_wire.specs.declared.frame.Frame as frame
-use Rattle.ivy_wire.specs.Data.{Message, Frame}
+use Rattle.ivy_wire.specs.stated.Data.{Message, Frame}
 use Rattle.ivy_wire.specs.Lent.{head_of}
-use Rattle.ivy_wire.specs.Spelling.{Spells, FitsMessage}
-use Rattle.ivy_moves.specs.ivy_link.declared.Verdict.{Verdict}
-use Rattle.ivy_moves.specs.ivy_link.Accepted.{offered}
-use Rattle.ivy_moves.specs.ivy_link.Holding.{after_hold}
-use Rattle.ivy_outbox.specs.Outboxes.{Outbox, HasNumbers, RefusesParcels, holding_of, with_holding, posted_by}
+use Rattle.ivy_wire.specs.stated.Spelling.{Spells, FitsMessage}
+use Rattle.ivy_link.specs.declared.Verdict.{Verdict}
+use Rattle.ivy_link.specs.stated.Accepted.{offered}
+use Rattle.ivy_link.specs.Holding.{after_hold}
+use Rattle.ivy_link.specs.Outboxes.{Outbox, HasNumbers, RefusesParcels, holding_of, with_holding, posted_by}
 use Rattle.ivy_site.specs.SiteView.{SiteView, holding_at, box_of, boxed}
 use Rattle.ivy_site.specs.Sites.{SpellsFrame, IsSite, IsSpentDelivery, holding_in}
 use Rattle.ivy_site.specs.Inside.{Hears, HoldsString}
-use Rattle.ivy_host.specs.Managers.{Managed, managed_ops}
-use Rattle.ivy_host.specs.ivy_coherence.Limits.{most_posted}
-use Rattle.ivy_host.specs.ivy_memory.Asking.{IsMessageWant}
-use Rattle.ivy_host.specs.ivy_memory.Memories.{NodeMemory, memory_handled, memory_told}
-use Rattle.ivy_moves.specs.ivy_link.declared.Verdict.TheVariants as verdict
+use Rattle.ivy_host.specs.stated.Managers.{Managed, managed_ops}
+use Rattle.ivy_coherence.specs.EventLimits.{most_posted}
+use Rattle.ivy_memory.specs.Asking.{IsMessageWant}
+use Rattle.ivy_memory.specs.stated.Memories.{NodeMemory, memory_handled, memory_told}
+use Rattle.ivy_link.specs.declared.Verdict.TheVariants as verdict
 use Rattle.ivy_site.proofs.Delivering.{IsRead, IsHeard, heard_message, spent_message, offered_mine}
 use Rattle.ivy_site.proofs.Receiving.{boxed_held, told_early}
 

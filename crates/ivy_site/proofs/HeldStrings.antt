@@ -11,16 +11,16 @@ use Rattle.std.proofs.lemmas.List.Elements.{Contains-append_left}
 use Rattle.std.proofs.lemmas.Grind.{get_or-set_at}
 use Rattle.std.proofs.lemmas.Option.{none-some, same_Some}
 use Rattle.std.proofs.Math.ListN.{set}
-use Rattle.ivy_wire.specs.Data.{Frame}
-use Rattle.ivy_wire.specs.Spelling.{Spells}
-use Rattle.ivy_moves.specs.ivy_link.declared.Verdict.{Verdict}
-use Rattle.ivy_moves.specs.ivy_link.declared.Verdict.TheVariants as verdict
-use Rattle.ivy_moves.specs.ivy_link.Linked.{Linked, peer_at}
-use Rattle.ivy_moves.specs.ivy_link.Accepted.{offered, accepted, delivered_then}
-use Rattle.ivy_moves.specs.ivy_link.Windows.{Window, place_at, place_of, is_free, moved_by, with_string, without_first}
-use Rattle.ivy_moves.specs.ivy_link.Windows as windows
-use Rattle.ivy_moves.specs.ivy_link.Holding.{holding, window_of, moved_at, can_hold_frame, place_in, after_hold, ready_of}
-use Rattle.ivy_moves.proofs.of_ivy_link.Holds.{moved-place, set-place, put-place, put_back, accepted-delivered, accepted-elsewhere}
+use Rattle.ivy_wire.specs.stated.Data.{Frame}
+use Rattle.ivy_wire.specs.stated.Spelling.{Spells}
+use Rattle.ivy_link.specs.declared.Verdict.{Verdict}
+use Rattle.ivy_link.specs.declared.Verdict.TheVariants as verdict
+use Rattle.ivy_link.specs.stated.Linked.{Linked, peer_at}
+use Rattle.ivy_link.specs.stated.Accepted.{offered, accepted, delivered_then}
+use Rattle.ivy_link.specs.Windows.{Window, place_at, place_of, is_free, moved_by, with_string, without_first}
+use Rattle.ivy_link.specs.Windows as windows
+use Rattle.ivy_link.specs.Holding.{holding, window_of, moved_at, can_hold_frame, place_in, after_hold, ready_of}
+use Rattle.ivy_link.proofs.Holds.{moved-place, set-place, put-place, put_back, accepted-delivered, accepted-elsewhere}
 use Rattle.ivy_site.specs.SiteView.{SiteView, holding_at}
 use Rattle.ivy_site.specs.Sites.{early_at, IsHeld, HoldsEarly, holding_in, without_ready}
 

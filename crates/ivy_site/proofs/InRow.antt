@@ -4,21 +4,21 @@ use Rattle.ivy_model.specs.declared.Call.{Call}
 use Rattle.ivy_model.specs.declared.Record.{Record}
 use Rattle.ivy_model.specs.declared.Row.{Row}
 use Rattle.ivy_model.specs.declared.Row.TheVariants.{Loads, Stores}
-use Rattle.ivy_model.specs.Legal.{HasWidth}
+use Rattle.ivy_model.specs.stated.Legal.{HasWidth}
 use Rattle.ivy_model.specs.Rows.{calls_of, numbers_in, record_in, row}
 use Rattle.ivy_model.proofs.Rows.{calls-of-row, length-numbers_in, length-row}
-use Rattle.ivy_host.specs.Managers.{Managed, managed_ops}
-use Rattle.ivy_host.specs.ivy_heap.declared.Answer.TheVariants.{Given}
-use Rattle.ivy_host.specs.ivy_memory.AtOnce.{AnswerAtOnce}
-use Rattle.ivy_host.specs.ivy_memory.Memories.{NodeMemory, CallBegun, call_begun}
-use Rattle.ivy_host.specs.Hosts.{Host}
+use Rattle.ivy_host.specs.stated.Managers.{Managed, managed_ops}
+use Rattle.ivy_alloc.specs.declared.CallProgress.TheVariants.{Given}
+use Rattle.ivy_memory.specs.AtOnce.{AnswerAtOnce}
+use Rattle.ivy_memory.specs.stated.Memories.{NodeMemory, CallBegun, call_begun}
+use Rattle.ivy_host.specs.stated.Hosts.{Host}
 use Rattle.ivy_moves.specs.declared.keep.Keep.{Keep}
 use Rattle.ivy_moves.specs.Marks.{Mark, Turn, turns}
-use Rattle.ivy_outbox.specs.Outboxes.{Outbox, HasNumbers, posted_by, takes_none, after_none}
-use Rattle.ivy_program.specs.Owned.{IsFree, Rests, asking, process_handed}
+use Rattle.ivy_link.specs.Outboxes.{Outbox, HasNumbers, posted_by, takes_none, after_none}
+use Rattle.ivy_program.specs.OwnCode.{IsFree, Rests, asking, process_handed}
 use Rattle.ivy_program.specs.Programs.{one_by_one}
-use Rattle.ivy_program.specs.Steps.{Process}
-use Rattle.ivy_program.proofs.Nexts.{alone_waiting, asks_next, handed_and_answered, all_answered}
+use Rattle.ivy_program.specs.stated.InstructionSteps.{Process}
+use Rattle.ivy_program.proofs.running.Nexts.{alone_waiting, asks_next, handed_and_answered, all_answered}
 use Rattle.ivy_site.specs.Calls.{AreAnswered, BeginsCall}
 use Rattle.ivy_site.specs.Handed.{site_handed}
 use Rattle.ivy_site.specs.Inside.{HasTurn, host_of}

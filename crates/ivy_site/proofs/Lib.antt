@@ -8,8 +8,6 @@ pub mod Made
 pub mod Handed
 pub mod HeldStrings
 pub mod Receiving
-pub use Rattle.ivy_host.proofs.of_ivy_memory as of_ivy_memory
-pub use Rattle.ivy_host.proofs as of_ivy_host
 pub mod InRow
-pub mod Together
+pub mod BatchedTurn
 pub mod Taking

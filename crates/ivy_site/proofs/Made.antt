@@ -5,21 +5,21 @@ use Rattle.std.proofs.lemmas.List.Elements.{Contains-append_left, Contains-appen
 use Rattle.std.proofs.lemmas.Bool.{cases_lt}
 use Rattle.std.proofs.lemmas.List.{get_or-replicate, get_or_past, length-replicate}
 use Rattle.std.proofs.lemmas.Option.{none-some}
-use Rattle.ivy_moves.specs.ivy_link.Windows.{first_window, place_at}
+use Rattle.ivy_link.specs.Windows.{first_window, place_at}
 use Rattle.ivy_model.specs.declared.Config.{Config}
-use Rattle.ivy_model.specs.Config.{IsConfig}
+use Rattle.ivy_model.specs.stated.Config.{IsConfig}
 use Rattle.ivy_wire.proofs.Frames.{spelled_once}
-use Rattle.ivy_moves.specs.ivy_link.declared.Verdict.{Verdict}
-use Rattle.ivy_moves.specs.ivy_link.Accepted.{offered}
-use Rattle.ivy_moves.specs.ivy_link.declared.Verdict.TheVariants as verdict
-use Rattle.ivy_host.specs.Managers.{Managed, managed_ops}
-use Rattle.ivy_host.specs.Hosts.{Host, host_rules}
-use Rattle.ivy_host.specs.Openings.{first_node}
-use Rattle.ivy_program.specs.Programs.{Program}
-use Rattle.ivy_moves.specs.Cores.{Core}
+use Rattle.ivy_link.specs.declared.Verdict.{Verdict}
+use Rattle.ivy_link.specs.stated.Accepted.{offered}
+use Rattle.ivy_link.specs.declared.Verdict.TheVariants as verdict
+use Rattle.ivy_host.specs.stated.Managers.{Managed, managed_ops}
+use Rattle.ivy_host.specs.stated.Hosts.{Host, host_rules}
+use Rattle.ivy_host.specs.stated.Openings.{first_node}
+use Rattle.ivy_program.specs.stated.Programs.{Program}
+use Rattle.ivy_moves.specs.stated.Cores.{Core}
 use Rattle.ivy_moves.specs.declared.keep.Keep.{Keep}
 use Rattle.ivy_moves.specs.Marks.{Mark, Turn, Delivery}
-use Rattle.ivy_moves.specs.Nodes.{Node, Effect, stays, turned, turned_to, verdict_as, verdict_of, pulsing}
+use Rattle.ivy_moves.specs.stated.Nodes.{Node, Effect, stays, turned, turned_to, verdict_as, verdict_of, pulsing}
 use Rattle.ivy_moves.specs.Parts.{followed_by, pulse_marks, AllHappen}
 use Rattle.ivy_moves.specs.Early.{early_as, early_in}
 use Rattle.ivy_moves.proofs.Early.{early-append}
@@ -27,7 +27,7 @@ use Rattle.ivy_moves.proofs.Parts.{all-append, single, pulsing-marks}
 use Rattle.ivy_site.specs.declared.turn.Turn as turn
 use Rattle.ivy_site.specs.declared.turn.Turn.TheVariants.{Idle, Moved, Ended}
 use Rattle.ivy_host.proofs.Programs.{turned-program, posting-core, delivered-program}
-use Rattle.ivy_outbox.specs.Outboxes.{Outbox, TakesFirst}
+use Rattle.ivy_link.specs.Outboxes.{Outbox, TakesFirst}
 use Rattle.ivy_site.specs.SiteView.{SiteView, after_hearing, after_delivery, after_pulse_to, box_of, boxed}
 use Rattle.ivy_site.specs.Sites.{early_at, IsSite, HoldsEarly, IsMadeByEvents, AfterTurn, SiteDelivers, first_keeping, IsSentBy}
 

@@ -2,18 +2,18 @@
 -- value.
 use Rattle.std.proofs.Common.{◌≡◌, ◌≢◌, ℕ, Bool, true, false, List, [], ◌∷◌, ◌++◌, map, refl, sym, ap, ◌∙◌, subst, append-nil}
 use Rattle.std.specs.Prelude.{IsTrue}
-use Rattle.ivy_wire.specs.Data.{Frame}
-use Rattle.ivy_wire.specs.Spelling.{spelling}
-use Rattle.ivy_moves.specs.ivy_link.Pulsed.{frames_again, pulsed}
+use Rattle.ivy_wire.specs.stated.Data.{Frame}
+use Rattle.ivy_wire.specs.stated.Spelling.{spelling}
+use Rattle.ivy_link.specs.stated.Pulsed.{frames_again, pulsed}
 use Rattle.ivy_moves.specs.Marks.{Mark, Pulse}
-use Rattle.ivy_moves.specs.Nodes.{pulsing}
-use Rattle.ivy_outbox.specs.Outboxes.{Outbox, with_sending}
+use Rattle.ivy_moves.specs.stated.Nodes.{pulsing}
+use Rattle.ivy_link.specs.Outboxes.{Outbox, with_sending}
 use Rattle.ivy_site.specs.SiteView.{SiteView, after_pulse_to, box_of, shown_of}
 use Rattle.ivy_moves.specs.Parts.{pulse_marks}
 use Rattle.ivy_site.specs.Sites.{IsSite}
 use Rattle.ivy_host.proofs.WellBehaved.{IsAskingHost}
-use Rattle.ivy_moves.specs.ivy_link.Linked.{peer_at}
-use Rattle.ivy_moves.proofs.of_ivy_link.Holds.{pulsed-delivered}
+use Rattle.ivy_link.specs.stated.Linked.{peer_at}
+use Rattle.ivy_link.proofs.Holds.{pulsed-delivered}
 use Rattle.ivy_site.proofs.Made.{pulse_made-on, pulse_early}
 use Rattle.ivy_site.proofs.HeldStrings.{quiet_holds}
 

@@ -4,32 +4,32 @@ use Rattle.std.proofs.Common.{◌≡◌, ◌≢◌, ℕ, ◌+◌, List, [], ◌�
 use Rattle.std.specs.Prelude.{IfSome}
 use Rattle.std.proofs.lemmas.Bool.{eq-eqb}
 use Rattle.std.proofs.lemmas.List.{length-append}
-use Rattle.ivy_moves.specs.ivy_link.Limits.{most_ahead}
+use Rattle.ivy_link.specs.stated.LinkLimits.{most_ahead}
 use Rattle.ivy_model.specs.declared.Config.{Config}
-use Rattle.ivy_model.specs.Config.{IsConfig}
+use Rattle.ivy_model.specs.stated.Config.{IsConfig}
 use Rattle.ivy_model.specs.declared.Fault.{Fault}
 use Rattle.ivy_model.specs.Wants.{RanOut}
 use Rattle.ivy_wire.specs.declared.FrameKind.{FrameKind}
 use Rattle.ivy_wire.specs.declared.frame.Frame as frame
-use Rattle.ivy_wire.specs.Data.{Frame}
-use Rattle.ivy_wire.specs.DecodeErrors.{checked}
-use Rattle.ivy_wire.specs.Reading.{frame_at}
-use Rattle.ivy_wire.specs.Spelling.{Spells, frame_kind}
+use Rattle.ivy_wire.specs.stated.Data.{Frame}
+use Rattle.ivy_wire.specs.stated.DecodeErrors.{checked}
+use Rattle.ivy_wire.specs.stated.Reading.{frame_at}
+use Rattle.ivy_wire.specs.stated.Spelling.{Spells, frame_kind}
 use Rattle.ivy_wire.proofs.Frames.{spelled_once}
-use Rattle.ivy_moves.specs.ivy_link.declared.Verdict.{Verdict}
-use Rattle.ivy_moves.specs.ivy_link.declared.Verdict.TheVariants as verdict
-use Rattle.ivy_moves.specs.ivy_link.Linked.{Linked, peer_at}
-use Rattle.ivy_moves.specs.ivy_link.Accepted.{offered}
-use Rattle.ivy_moves.specs.ivy_link.Windows.{with_string}
-use Rattle.ivy_moves.specs.ivy_link.Holding.{Holding, link_of, window_at, can_hold_frame, place_in, after_hold, after_taking, ready_of}
-use Rattle.ivy_outbox.specs.Outboxes.{Outbox, holding_of, with_holding}
+use Rattle.ivy_link.specs.declared.Verdict.{Verdict}
+use Rattle.ivy_link.specs.declared.Verdict.TheVariants as verdict
+use Rattle.ivy_link.specs.stated.Linked.{Linked, peer_at}
+use Rattle.ivy_link.specs.stated.Accepted.{offered}
+use Rattle.ivy_link.specs.Windows.{with_string}
+use Rattle.ivy_link.specs.Holding.{Holding, link_of, window_at, can_hold_frame, place_in, after_hold, after_taking, ready_of}
+use Rattle.ivy_link.specs.Outboxes.{Outbox, holding_of, with_holding}
 use Rattle.ivy_site.specs.SiteView.{SiteView, holding_at, after_delivery, box_of, boxed}
 use Rattle.ivy_site.specs.Sites.{early_at, IsSite, IsHeld, SiteDelivers}
 use Rattle.ivy_site.specs.Sites.{holding_in, without_ready}
 use Rattle.ivy_site.specs.Sites.{GoesOnOnce, SiteGoesOn, FollowsDelivery, AfterDelivery, GoesAsFar, DeliversWhole}
 use Rattle.ivy_site.specs.Inside.{CameEarlyAs, Holds, HoldsString, Hears, Receives}
 use Rattle.ivy_site.proofs.HeldStrings.{CameEarly, IsNextOf, holding-holds, taking-holds, put-back-same}
-use Rattle.ivy_outbox.proofs.Boxes.{link-kept}
+use Rattle.ivy_link.proofs.Boxes.{link-kept}
 
 -- a string spells one frame
 pub spelled_same : (c : Config) → IsConfig c → (f g : Frame) (bytes : List ℕ) → Spells c f bytes

@@ -7,19 +7,20 @@ use Rattle.ivy_model.specs.declared.Reply.{Reply}
 use Rattle.ivy_model.specs.declared.Row.{Row}
 use Rattle.ivy_model.specs.Rows.{calls_of, numbers_in, record_in, row}
 use Rattle.ivy_model.proofs.Rows.{length-numbers_in, length-row}
-use Rattle.ivy_host.specs.Hosts.{Host}
-use Rattle.ivy_host.specs.Managers.{Managed, managed_ops}
-use Rattle.ivy_host.specs.ivy_heap.declared.Answer.TheVariants.{Given}
-use Rattle.ivy_host.specs.ivy_memory.Memories.{NodeMemory, CallBegun, polled}
-use Rattle.ivy_host.specs.ivy_memory.Together.{TakesRecords}
-use Rattle.ivy_host.proofs.of_ivy_memory.Along.{AreFirst}
-use Rattle.ivy_host.proofs.of_ivy_memory.Polling.{polled-begun}
-use Rattle.ivy_host.proofs.of_ivy_memory.Begun.{GoesOn, IsBegun, one_goes}
+use Rattle.ivy_host.specs.stated.Hosts.{Host}
+use Rattle.ivy_host.specs.stated.Managers.{Managed, managed_ops}
+use Rattle.ivy_alloc.specs.declared.CallProgress.TheVariants.{Given}
+use Rattle.ivy_memory.specs.stated.Memories.{NodeMemory, CallBegun, polled}
+use Rattle.ivy_memory.specs.BatchedReplies.{TakesRecords}
+use Rattle.ivy_memory.proofs.batches.Along.{AreFirst}
+use Rattle.ivy_memory.proofs.keeping.Polling.{polled-begun}
+use Rattle.ivy_memory.proofs.keeping.Begun.{GoesOn, IsBegun, one_goes}
 use Rattle.ivy_host.proofs.WellBehaved.{first_asks}
 use Rattle.ivy_moves.specs.declared.keep.Keep.{Keep}
 use Rattle.ivy_moves.specs.Marks.{Mark, Turn, turns}
-use Rattle.ivy_outbox.specs.Outboxes.{Outbox, HasNumbers, posted_by, takes_none, after_none}
-use Rattle.ivy_program.specs.Steps.{AsksMany, AsksRow, Process, answered_all, answered_with}
+use Rattle.ivy_link.specs.Outboxes.{Outbox, HasNumbers, posted_by, takes_none, after_none}
+use Rattle.ivy_program.specs.InstructionSteps.{AsksMany, answered_all}
+use Rattle.ivy_program.specs.stated.InstructionSteps.{AsksRow, Process, answered_with}
 use Rattle.ivy_site.specs.Calls.{AreTaken, IsTaken}
 use Rattle.ivy_site.specs.Inside.{HasTurn, host_of}
 use Rattle.ivy_site.specs.SiteView.{SiteView, box_of, shown_of}

@@ -1,26 +1,29 @@
 -- A site's turn, from what its parts did: `v` is what the fields are seen as, `n` the value.
-use Rattle.std.proofs.Common.{◌≡◌, Bool, true, false, List, [], ◌∷◌, ◌++◌, None, refl, sym, ap, ◌∙◌, subst}
+use Rattle.std.proofs.Common.{◌≡◌, Bool, true, false, List, [], ◌∷◌, ◌++◌, Option, None, Some, MatchOption, refl, sym, ap, ◌∙◌, subst}
 use Rattle.ivy_model.specs.declared.Call.{Call}
 use Rattle.std.proofs.lemmas.Option.{none-some}
 use Rattle.ivy_model.specs.declared.Fault.{Fault}
 use Rattle.ivy_model.specs.declared.Record.{Record}
-use Rattle.ivy_host.specs.Managers.{Managed, managed_ops}
+use Rattle.ivy_model.specs.declared.Reply.{Reply}
+use Rattle.ivy_host.specs.stated.Managers.{Managed, managed_ops}
 use Rattle.ivy_program.specs.declared.machine.Next.{Next}
 use Rattle.ivy_program.specs.declared.machine.Next.TheVariants as next
-use Rattle.ivy_program.specs.Steps.{Process, Local, Ends, HasEnded, TellsStep, at_state}
+use Rattle.ivy_program.specs.stated.InstructionSteps.{Process, Asks, Local, Ends, at_state, step_of}
+use Rattle.ivy_program.specs.InstructionSteps.{HasEnded, TellsStep}
 use Rattle.ivy_moves.specs.Marks.{Mark, Turn}
-use Rattle.ivy_host.specs.ivy_memory.Memories.{NodeMemory}
-use Rattle.ivy_host.specs.Hosts.{Host, turn_of}
-use Rattle.ivy_outbox.specs.Outboxes.{Outbox}
+use Rattle.ivy_memory.specs.stated.Memories.{NodeMemory}
+use Rattle.ivy_host.specs.stated.Hosts.{Host, number_of, turn_of}
+use Rattle.ivy_link.specs.Outboxes.{Outbox}
+use Rattle.ivy_site.specs.Calls.{RecordsReply, recorded_by}
 use Rattle.ivy_site.specs.SiteView.{SiteView, box_of, shown_of}
 use Rattle.ivy_site.specs.Sites.{SiteTurns, IsSpentTurn, IsMadeByEvents, IsSite}
 use Rattle.ivy_site.specs.Inside.{HasTurn, AfterHostTurn, HasNoNumbers, host_of}
 use Rattle.ivy_host.proofs.Same.{turn-same}
 use Rattle.ivy_host.proofs.WellBehaved.{IsAskingHost, turn-asking}
 use Rattle.ivy_site.specs.declared.turn.Turn.TheVariants as turn
-use Rattle.ivy_moves.specs.ivy_link.Linked.{Linked, peer_at, after_sends}
-use Rattle.ivy_moves.proofs.of_ivy_link.Sending.{sends-me}
-use Rattle.ivy_moves.proofs.of_ivy_link.Holds.{sends-delivered}
+use Rattle.ivy_link.specs.stated.Linked.{Linked, peer_at, after_sends}
+use Rattle.ivy_link.proofs.Sending.{sends-me}
+use Rattle.ivy_link.proofs.Holds.{sends-delivered}
 use Rattle.ivy_host.proofs.Programs.{posting-link}
 use Rattle.ivy_site.proofs.HeldStrings.{IsQuiet, quiet_holds}
 use Rattle.ivy_site.proofs.Made.{turn_made, turn_early}
@@ -175,6 +178,39 @@ pub not_turned : (b : Bool) → b ≡ false → (old : H) (box : Outbox) (new : 
     → AfterHostTurn b old box new after → AfterHostTurn false old box new after
 not_turned true is old box new after h = absurd cc
 not_turned false is old box new after h = h
+
+-- the reply that the turn recorded, to the call in progress
+pub replied : (n v : SiteView) → v ≡ n → (call : Call) (reply : Option Reply) (hs : List Record)
+    (new : SiteView) → v.node.core.memory.asked ≡ Some call → hs ≡ v.node.core.history
+    → new.node.core.history ≡ recorded_by hs (number_of v.node.core) call reply
+    → RecordsReply reply n new
+replied n v same call None hs new asked rests is =
+    is ∙ rests ∙ ap (λ (x : SiteView). x.node.core.history) same
+replied n v same call (Some reply) hs new asked rests is =
+    subst (λ x. RecordsReply (Some reply) x new) same (
+      call,
+      subst (λ o. MatchOption o (step_of v.node.core.process ≡ Asks call) (λ k. k ≡ call))
+          (sym asked) refl,
+      is ∙ ap (λ rs. recorded_by rs (number_of v.node.core) call (Some reply)) rests,
+    )
+
+-- and to the call that begins in it
+pub begun_reply : (n v : SiteView) → v ≡ n → (call : Call) (reply : Option Reply) (x : Next)
+    (p : Process) (hs : List Record) (new : SiteView) → v.node.core.memory.asked ≡ None
+    → TellsStep x v.node.core.process p → x ≡ next.Call call → hs ≡ v.node.core.history
+    → new.node.core.history ≡ recorded_by hs (number_of v.node.core) call reply
+    → RecordsReply reply n new
+begun_reply n v same call None x p hs new idle steps told rests is =
+    is ∙ rests ∙ ap (λ (y : SiteView). y.node.core.history) same
+begun_reply n v same call (Some reply) x p hs new idle steps told rests is =
+    let s : TellsStep (next.Call call) v.node.core.process p =
+    subst (λ y. TellsStep y v.node.core.process p) told steps in
+    subst (λ y. RecordsReply (Some reply) y new) same (
+      call,
+      subst (λ o. MatchOption o (step_of v.node.core.process ≡ Asks call) (λ k. k ≡ call))
+          (sym idle) s.0,
+      is ∙ ap (λ rs. recorded_by rs (number_of v.node.core) call (Some reply)) rests,
+    )
 
 -- nothing changed
 pub idle_turn : (n v : SiteView) → v ≡ n → (k h : H) (box : Outbox) (events : List Mark)

@@ -2,16 +2,16 @@
 -- seen as, `n` the value.
 use Rattle.std.proofs.Common.{◌≡◌, ℕ, true, false, List, [], ◌∷◌, ◌++◌, map, Option, Some, None, refl, sym, ap, ◌∙◌, subst, append-nil}
 use Rattle.ivy_model.specs.declared.Fault.{Fault}
-use Rattle.ivy_wire.specs.Data.{Parcel}
-use Rattle.ivy_wire.specs.Spelling.{spelling}
-use Rattle.ivy_moves.specs.ivy_link.Linked.{sends, has_numbers}
-use Rattle.ivy_host.specs.Managers.{Managed, managed_ops}
-use Rattle.ivy_program.specs.Steps.{Step, step_of}
+use Rattle.ivy_wire.specs.stated.Data.{Parcel}
+use Rattle.ivy_wire.specs.stated.Spelling.{spelling}
+use Rattle.ivy_link.specs.stated.Linked.{sends, has_numbers}
+use Rattle.ivy_host.specs.stated.Managers.{Managed, managed_ops}
+use Rattle.ivy_program.specs.stated.InstructionSteps.{Step, step_of}
 use Rattle.ivy_moves.specs.Marks.{Mark, Turn}
-use Rattle.ivy_moves.specs.Cores.{Outcome}
-use Rattle.ivy_moves.specs.Nodes.{Node, Effect, posting, turned, turned_to}
-use Rattle.ivy_host.specs.Hosts.{Host, host_rules, turn_of, turned_at, steps, quietly}
-use Rattle.ivy_outbox.specs.Outboxes.{Outbox}
+use Rattle.ivy_moves.specs.stated.Cores.{Outcome}
+use Rattle.ivy_moves.specs.stated.Nodes.{Node, Effect, posting, turned, turned_to}
+use Rattle.ivy_host.specs.stated.Hosts.{Host, host_rules, turn_of, turned_at, steps, quietly}
+use Rattle.ivy_link.specs.Outboxes.{Outbox}
 use Rattle.ivy_site.specs.SiteView.{SiteView, box_of, shown_of}
 use Rattle.ivy_site.specs.Sites.{SiteTurns, IsSpentTurn}
 use Rattle.ivy_site.specs.Inside.{HasTurn, HasNoNumbers}

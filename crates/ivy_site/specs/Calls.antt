@@ -1,29 +1,29 @@
 -- A call that own code makes, and the turn in which it begins.
 use Rattle.std.specs.Prelude.{◌≡◌, ℕ, ◌+◌, ◌%◌, ◌<◌, ◌^◌, Bool, false, List, [], ◌∷◌, ◌++◌}
-use Rattle.std.specs.Prelude.{length, min, Option, Some, None, if◌then◌else◌}
+use Rattle.std.specs.Prelude.{length, min, MatchOption, Option, Some, None, if◌then◌else◌}
 use Rattle.ivy_model.specs.declared.Call.{Call}
 use Rattle.ivy_model.specs.declared.Config.{Config}
 use Rattle.ivy_model.specs.declared.Record.{Record}
 use Rattle.ivy_model.specs.declared.Reply.{Reply}
-use Rattle.ivy_host.specs.ivy_heap.declared.Answer.{Answer}
-use Rattle.ivy_host.specs.ivy_heap.declared.Answer.TheVariants.{Given}
+use Rattle.ivy_alloc.specs.declared.CallProgress.{CallProgress}
+use Rattle.ivy_alloc.specs.declared.CallProgress.TheVariants.{Given}
 use Rattle.ivy_model.specs.declared.Row.{Row}
-use Rattle.ivy_pagetable.specs.Rows.{row_len}
-use Rattle.ivy_host.specs.Managers.{Managed}
-use Rattle.ivy_host.specs.ivy_memory.Memories.{NodeMemory, in_progress}
-use Rattle.ivy_host.specs.ivy_memory.Rows.{row_has_to_wait}
-use Rattle.ivy_host.specs.Hosts.{number_of}
+use Rattle.ivy_pagetable.specs.WordRows.{row_len}
+use Rattle.ivy_host.specs.stated.Managers.{Managed}
+use Rattle.ivy_memory.specs.stated.Memories.{NodeMemory, in_progress}
+use Rattle.ivy_memory.specs.BatchedCalls.{row_has_to_wait}
+use Rattle.ivy_host.specs.stated.Hosts.{number_of}
 use Rattle.ivy_moves.specs.declared.keep.Keep.TheVariants.{Nothing}
 use Rattle.ivy_moves.specs.Histories.{HistoryState}
-use Rattle.ivy_program.specs.Owned.{IsFree}
+use Rattle.ivy_program.specs.OwnCode.{IsFree}
 use Rattle.ivy_program.specs.Programs.{IsCalled}
-use Rattle.ivy_program.specs.Steps.{Process}
+use Rattle.ivy_program.specs.stated.InstructionSteps.{Asks, Process, step_of}
 use Rattle.ivy_site.specs.Handed.{site_handed}
 use Rattle.ivy_site.specs.SiteView.{SiteView}
 use Rattle.ivy_site.specs.Sites.{SiteTurns}
 
 -- the reply that an answer gives, if it gives one
-abbrev pub reply_in : Answer → Option Reply
+abbrev pub reply_in : CallProgress → Option Reply
 reply_in (Given reply) = Some reply
 reply_in answer = None
 
@@ -46,6 +46,18 @@ abbrev pub AreAnswered : List Record → SiteView → SiteView → Type 0
 AreAnswered [] old new = new ≡ old
 AreAnswered (r ∷ more) old new =
     (mid : SiteView) × BeginsCall r.call (Some r.reply) old mid × AreAnswered more mid new
+
+-- the call that a turn is about: the one in progress, or the one that begins
+abbrev pub IsCallOf : SiteView → Call → Type 0
+IsCallOf s call = MatchOption s.node.core.memory.asked (step_of s.node.core.process ≡ Asks call)
+    (λ asked. asked ≡ call)
+
+-- the turn recorded this reply, to the call that it was about, or it recorded none
+abbrev pub RecordsReply : Option Reply → SiteView → SiteView → Type 0
+RecordsReply None old new = new.node.core.history ≡ old.node.core.history
+RecordsReply (Some reply) old new = (call : Call) × IsCallOf old call
+    × (new.node.core.history
+    ≡ recorded_by old.node.core.history (number_of old.node.core) call (Some reply))
 
 -- calls in a row, of so many bytes from an address on, can be listed with no place for them: each
 -- call before has its reply, no list of the past is kept, and the calls can be counted

@@ -3,21 +3,21 @@ use Rattle.std.specs.Prelude.{◌≡◌, ◌≢◌, ℕ, List, MatchOption, Bool
 use Rattle.ivy_model.specs.declared.Call.{Call}
 use Rattle.ivy_model.specs.declared.Fault.{Fault}
 use Rattle.ivy_model.specs.declared.Fault.TheVariants.{NumbersSpent}
-use Rattle.ivy_wire.specs.Data.{Frame}
-use Rattle.ivy_wire.specs.Spelling.{Spells}
-use Rattle.ivy_moves.specs.ivy_link.declared.Verdict.{Verdict}
-use Rattle.ivy_moves.specs.ivy_link.declared.Verdict.TheVariants as verdict
-use Rattle.ivy_program.specs.Steps.{Process, answered_with}
-use Rattle.ivy_host.specs.Managers.{Managed, managed_ops}
-use Rattle.ivy_moves.specs.Cores.{Outcome}
+use Rattle.ivy_wire.specs.stated.Data.{Frame}
+use Rattle.ivy_wire.specs.stated.Spelling.{Spells}
+use Rattle.ivy_link.specs.declared.Verdict.{Verdict}
+use Rattle.ivy_link.specs.declared.Verdict.TheVariants as verdict
+use Rattle.ivy_program.specs.stated.InstructionSteps.{Process, answered_with}
+use Rattle.ivy_host.specs.stated.Managers.{Managed, managed_ops}
+use Rattle.ivy_moves.specs.stated.Cores.{Outcome}
 use Rattle.ivy_model.specs.declared.Record.{Record}
-use Rattle.ivy_moves.specs.ivy_link.Linked.{has_numbers}
-use Rattle.ivy_host.specs.ivy_heap.declared.Answer.{Answer}
-use Rattle.ivy_host.specs.ivy_heap.declared.Answer.TheVariants.{Given, Unserved}
-use Rattle.ivy_host.specs.ivy_memory.Memories as memories
-use Rattle.ivy_outbox.specs.Outboxes.{Outbox, HasNumbers, posted_by}
-use Rattle.ivy_host.specs.Hosts.{Host, turn_of}
-use Rattle.ivy_moves.specs.ivy_link.Holding.{ready_of}
+use Rattle.ivy_link.specs.stated.Linked.{has_numbers}
+use Rattle.ivy_alloc.specs.declared.CallProgress.{CallProgress}
+use Rattle.ivy_alloc.specs.declared.CallProgress.TheVariants.{Given, Unserved}
+use Rattle.ivy_memory.specs.stated.Memories as memories
+use Rattle.ivy_link.specs.Outboxes.{Outbox, HasNumbers, posted_by}
+use Rattle.ivy_host.specs.stated.Hosts.{Host, turn_of}
+use Rattle.ivy_link.specs.Holding.{ready_of}
 use Rattle.ivy_site.specs.Calls.{reply_in, recorded_by}
 use Rattle.ivy_site.specs.declared.host.Host as host
 use Rattle.ivy_site.specs.SiteView.{SiteView, holding_at}
@@ -72,16 +72,16 @@ abbrev pub host_in : {A : Type 0} → host.Host A → Host Managed
 host_in h = host_of h.memory h.machine h.history.records
 
 -- whether the answer is a reply, or that the call waits
-abbrev pub is_served : Answer → Bool
+abbrev pub is_served : CallProgress → Bool
 is_served Unserved = false
 is_served answer = true
 
 -- the history with a record of the reply, where one was given
-abbrev pub kept_by : List Record → ℕ → Call → Answer → List Record
+abbrev pub kept_by : List Record → ℕ → Call → CallProgress → List Record
 kept_by history node k answer = recorded_by history node k (reply_in answer)
 
 -- the process goes on with the reply, where one was given
-abbrev pub told_by : Process → Answer → Process
+abbrev pub told_by : Process → CallProgress → Process
 told_by process (Given r) = answered_with process r
 told_by process answer = process
 

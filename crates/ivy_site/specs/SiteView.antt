@@ -2,17 +2,17 @@
 -- on the wire, and those that its link holds.
 use Rattle.std.specs.Prelude.{ℕ, List, [], ◌∷◌, ◌++◌}
 use Rattle.ivy_model.specs.declared.Config.{Config}
-use Rattle.ivy_moves.specs.ivy_link.declared.Verdict.{Verdict}
-use Rattle.ivy_moves.specs.ivy_link.declared.Verdict.TheVariants as verdict
-use Rattle.ivy_moves.specs.ivy_link.Windows.{Window}
-use Rattle.ivy_moves.specs.ivy_link.Holding.{Holding, holding, moved_at}
-use Rattle.ivy_host.specs.Managers.{Managed}
+use Rattle.ivy_link.specs.declared.Verdict.{Verdict}
+use Rattle.ivy_link.specs.declared.Verdict.TheVariants as verdict
+use Rattle.ivy_link.specs.Windows.{Window}
+use Rattle.ivy_link.specs.Holding.{Holding, holding, moved_at}
+use Rattle.ivy_host.specs.stated.Managers.{Managed}
 use Rattle.ivy_moves.specs.Marks.{Mark, Delivery}
 use Rattle.ivy_moves.specs.declared.keep.Keep.{Keep}
-use Rattle.ivy_moves.specs.Nodes.{Node, Effect}
+use Rattle.ivy_moves.specs.stated.Nodes.{Node, Effect}
 use Rattle.ivy_moves.specs.Parts.{pulse_marks}
-use Rattle.ivy_host.specs.Hosts.{Host}
-use Rattle.ivy_outbox.specs.Outboxes.{Outbox}
+use Rattle.ivy_host.specs.stated.Hosts.{Host}
+use Rattle.ivy_link.specs.Outboxes.{Outbox}
 
 -- `events` are all that the site ever listed; `waiting` are the strings not yet put on the wire,
 -- the first first; `held` has a window for each node; `keep` are the lists of its own past that can

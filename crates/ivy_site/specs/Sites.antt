@@ -6,30 +6,31 @@ use Rattle.ivy_model.specs.declared.Call.TheVariants.{Await}
 use Rattle.ivy_model.specs.declared.Fault.{Fault}
 use Rattle.ivy_model.specs.declared.Fault.TheVariants.{NumbersSpent}
 use Rattle.ivy_model.specs.Wants.{RanOut}
-use Rattle.ivy_wire.specs.Data.{Frame}
-use Rattle.ivy_wire.specs.Spelling.{Spells}
-use Rattle.ivy_moves.specs.ivy_link.Accepted.{offered}
-use Rattle.ivy_moves.specs.ivy_link.declared.Verdict.{Verdict}
-use Rattle.ivy_moves.specs.ivy_link.declared.Verdict.TheVariants as verdict
-use Rattle.ivy_moves.specs.ivy_link.Windows.{first_window, place_at}
-use Rattle.ivy_moves.specs.ivy_link.Holding.{window_of, after_hold, ready_of, after_taking}
-use Rattle.ivy_program.specs.Programs.{Program}
-use Rattle.ivy_program.specs.Steps.{HasEnded, AsksRow}
-use Rattle.ivy_host.specs.Managers.{Managed, managed_ops}
+use Rattle.ivy_wire.specs.stated.Data.{Frame}
+use Rattle.ivy_wire.specs.stated.Spelling.{Spells}
+use Rattle.ivy_link.specs.stated.Accepted.{offered}
+use Rattle.ivy_link.specs.declared.Verdict.{Verdict}
+use Rattle.ivy_link.specs.declared.Verdict.TheVariants as verdict
+use Rattle.ivy_link.specs.Windows.{first_window, place_at}
+use Rattle.ivy_link.specs.Holding.{window_of, after_hold, ready_of, after_taking}
+use Rattle.ivy_program.specs.stated.Programs.{Program}
+use Rattle.ivy_program.specs.InstructionSteps.{HasEnded}
+use Rattle.ivy_program.specs.stated.InstructionSteps.{AsksRow}
+use Rattle.ivy_host.specs.stated.Managers.{Managed, managed_ops}
 use Rattle.ivy_moves.specs.declared.keep.Keep.{Keep}
 use Rattle.ivy_moves.specs.declared.keep.Keep.TheVariants.{All}
 use Rattle.ivy_moves.specs.Marks.{Turn}
-use Rattle.ivy_moves.specs.Cores.{Outcome}
-use Rattle.ivy_moves.specs.Nodes.{Effect, posting, turned, delivered}
+use Rattle.ivy_moves.specs.stated.Cores.{Outcome}
+use Rattle.ivy_moves.specs.stated.Nodes.{Effect, posting, turned, delivered}
 use Rattle.ivy_moves.specs.Parts.{AllHappen}
 use Rattle.ivy_moves.specs.Early.{early_in}
 use Rattle.ivy_site.specs.declared.turn.Turn as turn
 use Rattle.ivy_site.specs.declared.turn.Turn.TheVariants.{Idle, Moved, Ended}
-use Rattle.ivy_moves.specs.ivy_link.Linked.{peer_at}
-use Rattle.ivy_host.specs.Hosts.{Host, host_rules, turn_of}
-use Rattle.ivy_host.specs.Openings.{first_node}
-use Rattle.ivy_host.specs.ivy_coherence.Limits.{most_posted}
-use Rattle.ivy_moves.specs.ivy_link.Limits.{most_ahead}
+use Rattle.ivy_link.specs.stated.Linked.{peer_at}
+use Rattle.ivy_host.specs.stated.Hosts.{Host, host_rules, turn_of}
+use Rattle.ivy_host.specs.stated.Openings.{first_node}
+use Rattle.ivy_coherence.specs.EventLimits.{most_posted}
+use Rattle.ivy_link.specs.stated.LinkLimits.{most_ahead}
 use Rattle.ivy_site.specs.SiteView.{SiteView, holding_at, after_event, after_delivery}
 
 -- how many strings one event sends at most: what is posted, and a pulse has no more frames

@@ -1,36 +1,37 @@
 //! What a node's memory, its program and its history do together in a turn that is about a call.
 ghost use Rattle.std.specs.Prelude.{◌≡◌, ◌↔◌, ◌+◌, ◌*◌, ◌%◌, ◌<◌, ◌≤◌, ◌^◌, ◌∷◌, ◌++◌, List, [], None, Some, true, false, length, IfOk, IfErr, OnOk, OnErr, IsTrue};
 ghost use Rattle.ivy_model.specs.declared.Call.{Call};
-ghost use Rattle.ivy_model.specs.Legal.{HasWidth};
+ghost use Rattle.ivy_model.specs.stated.Legal.{HasWidth};
 ghost use Rattle.ivy_model.specs.Rows.{calls_of, numbers_in, row};
 ghost use Rattle.ivy_moves.specs.Marks.{turns};
 ghost use Rattle.ivy_model.specs.Wants.{RanOut};
-ghost use Rattle.ivy_program.specs.Owned.{AsksNext, IsFree, Rests, asking, process_handed};
+ghost use Rattle.ivy_program.specs.OwnCode.{AsksNext, IsFree, Rests, asking, process_handed};
 ghost use Rattle.ivy_program.specs.Programs.{one_by_one};
 ghost use Rattle.ivy_program.specs.Programs.{IsCalled};
 ghost use Rattle.ivy_model.specs.declared.Reply.{Reply};
-ghost use Rattle.ivy_program.specs.Steps.{Asks, AsksMany, along_of, answered_all, step_of};
+ghost use Rattle.ivy_program.specs.stated.InstructionSteps.{Asks, along_of, step_of};
+ghost use Rattle.ivy_program.specs.InstructionSteps.{AsksMany, answered_all};
 ghost use Rattle.ivy_host.specs.Handing.{handing};
-ghost use Rattle.ivy_host.specs.ivy_coherence.Limits.{most_posted};
-ghost use Rattle.ivy_host.specs.ivy_memory.Rows.{first_call, other_calls, row_has_to_wait};
+ghost use Rattle.ivy_coherence.specs.EventLimits.{most_posted};
+ghost use Rattle.ivy_memory.specs.BatchedCalls.{first_call, other_calls, row_has_to_wait};
 ghost use Rattle.ivy_site.specs.Calls.{MayCallTogether, TakesReplies, TakesRow, recorded_by, reply_in};
 ghost use Rattle.ivy_site.specs.Inside.{host_in, is_served, kept_by, told_by, HasTurn, AfterHostTurn, HasNoNumbers};
 
 use ivy_host::NodeManager;
-use ivy_host::ivy_memory::{Answer, Memory};
+use ivy_link::Outbox;
+use ivy_memory::{CallProgress, Memory};
 use ivy_model::{Call, Fault, Record, Reply, Row};
 use ivy_moves::{Events, History};
-use ivy_outbox::Outbox;
 use ivy_program::Machine;
 use std::alloc::Allocator;
 
 /// The reply that an answer gives, if it gives one.
-fn reply_in(answer: Answer) -> Option<Reply>
+fn reply_in(answer: CallProgress) -> Option<Reply>
     ensures { result ≡ reply_in answer }
 {
     match answer {
-        Answer::Given(reply) => Some(reply),
-        Answer::Awaited | Answer::Unserved => None,
+        CallProgress::Given(reply) => Some(reply),
+        CallProgress::Awaited | CallProgress::Unserved => None,
     }
 }
 
@@ -56,7 +57,7 @@ impl<A: Allocator + Copy> Host<A> {
     /// Where a call was answered its reply is recorded, and the program goes on with it. It says whether the call
     /// was answered, or is in progress from now on.
     #[inline(always)]
-    fn keep(&mut self, node: u8, call: Call, answer: Answer) -> bool
+    fn keep(&mut self, node: u8, call: Call, answer: CallProgress) -> bool
         requires room { IsTrue self.old.history.has_room }
         requires asks { step_of self.old.machine ≡ Asks call }
         ensures served { result ≡ is_served answer }
@@ -66,19 +67,19 @@ impl<A: Allocator + Copy> Host<A> {
         ensures kept { self.new.history.kept ≡ self.old.history.kept }
     {
         match answer {
-            Answer::Given(reply) => {
+            CallProgress::Given(reply) => {
                 self.machine.answer(reply);
                 record_reply(&mut self.history, node, call, reply);
                 true
             }
-            Answer::Awaited => true,
-            Answer::Unserved => false,
+            CallProgress::Awaited => true,
+            CallProgress::Unserved => false,
         }
     }
 
     /// What [`Host::keep`] does, of a call that own code makes now. One that is answered at once is nowhere kept.
     #[inline(always)]
-    fn keep_made(&mut self, node: u8, call: Call, answer: Answer) -> bool
+    fn keep_made(&mut self, node: u8, call: Call, answer: CallProgress) -> bool
         requires room { IsTrue self.old.history.has_room }
         requires free { IsFree self.old.machine }
         requires width { HasWidth call }
@@ -89,16 +90,16 @@ impl<A: Allocator + Copy> Host<A> {
         ensures kept { self.new.history.kept ≡ self.old.history.kept }
     {
         match answer {
-            Answer::Given(reply) => {
+            CallProgress::Given(reply) => {
                 self.machine.hand_answered(call, reply);
                 record_reply(&mut self.history, node, call, reply);
                 true
             }
-            Answer::Awaited => {
+            CallProgress::Awaited => {
                 self.machine.hand(call);
                 true
             }
-            Answer::Unserved => {
+            CallProgress::Unserved => {
                 self.machine.hand(call);
                 false
             }
@@ -106,8 +107,12 @@ impl<A: Allocator + Copy> Host<A> {
     }
 
     /// A call that the program makes, and no other along with it, begins: it is answered at once, or in progress from
-    /// now on [1, 17]. A refused one changes nothing.
-    pub(crate) fn begin(&mut self, outbox: &mut Outbox<A>, call: Call) -> Result<(), Fault>
+    /// now on [1, 17]. It gives the reply, where that is there. A refused one changes nothing.
+    pub(crate) fn begin(
+        &mut self,
+        outbox: &mut Outbox<A>,
+        call: Call,
+    ) -> Result<Option<Reply>, Fault>
         requires room { IsTrue self.old.history.has_room }
         requires idle { self.old.memory.asked ≡ None }
         requires asks { step_of self.old.machine ≡ Asks call }
@@ -116,6 +121,7 @@ impl<A: Allocator + Copy> Host<A> {
         requires config { outbox.old.config ≡ self.old.memory.coherence.config }
         requires me { outbox.old.me ≡ self.old.memory.coherence.me }
         ensures ok { OnOk result (HasTurn (host_in self.old) outbox.old (host_in self.new) outbox.new) }
+        ensures recorded { IfOk result (λ reply. self.new.history.records ≡ recorded_by self.old.history.records self.old.memory.coherence.me call reply) }
         ensures err { OnErr result ((self.new ≡ self.old) × (outbox.new ≡ outbox.old)) }
         ensures kept { self.new.history.kept ≡ self.old.history.kept }
         ensures few { OnOk result (length outbox.new.waiting ≤ length outbox.old.waiting + most_posted) }
@@ -125,7 +131,7 @@ impl<A: Allocator + Copy> Host<A> {
         let number = self.history.next_number();
         let answer = self.memory.begin(call, number, outbox)?;
         let _ = self.keep(outbox.me(), call, answer);
-        Ok(())
+        Ok(reply_in(answer))
     }
 
     /// Own code makes a call, which begins: it is answered at once, or in progress from now on [1, 17]. It gives the
@@ -158,15 +164,20 @@ impl<A: Allocator + Copy> Host<A> {
         Ok(reply_in(begun))
     }
 
-    /// The call in progress is asked for its reply [1, 17]. It says whether anything changed: the reply is recorded, or
-    /// the call's word waits from now on.
-    pub(crate) fn poll(&mut self, outbox: &mut Outbox<A>, call: Call) -> Result<bool, Fault>
+    /// The call in progress is asked for its reply [1, 17]. It says whether anything changed: the reply is recorded, and
+    /// given, or the call's word waits from now on.
+    pub(crate) fn poll(
+        &mut self,
+        outbox: &mut Outbox<A>,
+        call: Call,
+    ) -> Result<(bool, Option<Reply>), Fault>
         requires room { IsTrue self.old.history.has_room }
         requires asked { self.old.memory.asked ≡ Some call }
         requires asks { step_of self.old.machine ≡ Asks call }
         requires config { outbox.old.config ≡ self.old.memory.coherence.config }
         requires me { outbox.old.me ≡ self.old.memory.coherence.me }
-        ensures ok { IfOk result (λ changed. AfterHostTurn changed (host_in self.old) outbox.old (host_in self.new) outbox.new) }
+        ensures ok { IfOk result (λ p. AfterHostTurn p.0 (host_in self.old) outbox.old (host_in self.new) outbox.new) }
+        ensures recorded { IfOk result (λ p. self.new.history.records ≡ recorded_by self.old.history.records self.old.memory.coherence.me call p.1) }
         ensures err { OnErr result ((self.new ≡ self.old) × (outbox.new ≡ outbox.old)) }
         ensures kept { self.new.history.kept ≡ self.old.history.kept }
         ensures few { OnOk result (length outbox.new.waiting ≤ length outbox.old.waiting + most_posted) }
@@ -174,7 +185,8 @@ impl<A: Allocator + Copy> Host<A> {
         ensures want { IfErr result RanOut }
     {
         let answer = self.memory.poll_reply(outbox)?;
-        Ok(self.keep(outbox.me(), call, answer))
+        let changed = self.keep(outbox.me(), call, answer);
+        Ok((changed, reply_in(answer)))
     }
 
     /// Whether own code can make calls in a row at once, of so many bytes from `addr` on: none waits, no list of the

@@ -1,4 +1,4 @@
-//! One node whole: its program, its memory, its link, and the strings that wait to be put on the wire.
+//! One node whole: its program, memory, link and events, with a call for each kind of event.
 //!
 //! In a comment, numbers in brackets as [1, 17] are the fault numbers that a call may answer.
 #![tactic(auto)]
@@ -8,8 +8,8 @@ mod rows;
 mod site;
 mod turn;
 
+pub use ivy_link::Verdict;
 pub use ivy_moves::Keep;
-pub use ivy_moves::ivy_link::Verdict;
 pub use ivy_program::{Program, parse};
 pub use rows::words_together;
 pub use site::Site;

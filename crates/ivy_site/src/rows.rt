@@ -2,7 +2,7 @@
 ghost use Rattle.std.specs.Prelude.{◌≡◌, ◌≢◌, ◌+◌, ◌*◌, ◌%◌, ◌<◌, ◌≤◌, [], ◌∷◌, None, Ok, length, min, IfErr, IfOk, MatchResult};
 ghost use Rattle.ivy_model.specs.Rows.{calls_of, numbers_in, row};
 ghost use Rattle.ivy_model.specs.Wants.{RanOut};
-ghost use Rattle.ivy_pagetable.specs.Rows.{row_len};
+ghost use Rattle.ivy_pagetable.specs.WordRows.{row_len};
 ghost use Rattle.ivy_site.specs.Calls.{AreTaken, BeginsRow, MayCallTogether, row_together};
 ghost use Rattle.ivy_site.specs.Handed.{site_handed};
 ghost use Rattle.ivy_site.specs.Sites.{most_sent, IsSameNode, IsSpentTurn};

@@ -1,22 +1,22 @@
 //! One node: its program, its memory, its link, and the strings that wait to be put on the wire.
 ghost use Rattle.std.specs.Prelude.{◌*◌, ◌≡◌, ◌↔◌, ◌≢◌, ◌+◌, ◌<◌, ◌≤◌, [], ◌∷◌, None, Some, Err, length, vec_len, vec_capacity};
 ghost use Rattle.std.specs.Prelude.{IsTrue, IsSome, IfOk, IfErr, OnOk, OnErr, IfSome, IsOkUnless, MatchBool, MatchResult, MatchOption, Contains};
-ghost use Rattle.ivy_model.specs.Config.{IsConfig};
+ghost use Rattle.ivy_model.specs.stated.Config.{IsConfig};
 ghost use Rattle.ivy_model.specs.Wants.{RanOut};
-ghost use Rattle.ivy_wire.specs.DecodeErrors.{checked};
-ghost use Rattle.ivy_program.specs.Owned.{IsFree};
-ghost use Rattle.ivy_program.specs.Programs.{Called};
-ghost use Rattle.ivy_program.specs.States.{first_state};
-ghost use Rattle.ivy_program.specs.Steps.{HasEnded};
-ghost use Rattle.ivy_moves.specs.Nodes.{pulsing};
-ghost use Rattle.ivy_host.specs.ivy_coherence.Limits.{most_posted};
-ghost use Rattle.ivy_moves.specs.ivy_link.Limits.{most_ahead};
-ghost use Rattle.ivy_moves.specs.ivy_link.Linked.{peer_at};
-ghost use Rattle.ivy_moves.specs.ivy_link.Holding.{ready_of};
-ghost use Rattle.ivy_outbox.specs.Outboxes.{next_dest};
+ghost use Rattle.ivy_wire.specs.stated.DecodeErrors.{checked};
+ghost use Rattle.ivy_program.specs.OwnCode.{IsFree};
+ghost use Rattle.ivy_program.specs.stated.Programs.{Called};
+ghost use Rattle.ivy_program.specs.stated.States.{first_state};
+ghost use Rattle.ivy_program.specs.InstructionSteps.{HasEnded};
+ghost use Rattle.ivy_moves.specs.stated.Nodes.{pulsing};
+ghost use Rattle.ivy_coherence.specs.EventLimits.{most_posted};
+ghost use Rattle.ivy_link.specs.stated.LinkLimits.{most_ahead};
+ghost use Rattle.ivy_link.specs.stated.Linked.{peer_at};
+ghost use Rattle.ivy_link.specs.Holding.{ready_of};
+ghost use Rattle.ivy_link.specs.Outboxes.{next_dest};
 ghost use Rattle.ivy_model.specs.Rows.{numbers_in, row};
-ghost use Rattle.ivy_host.specs.ivy_memory.AtOnce.{IsStored, row_at_hand};
-ghost use Rattle.ivy_site.specs.Calls.{AreAnswered, BeginsCall, MayCallInRow};
+ghost use Rattle.ivy_memory.specs.AtOnce.{IsStored, row_at_hand};
+ghost use Rattle.ivy_site.specs.Calls.{AreAnswered, BeginsCall, MayCallInRow, RecordsReply};
 ghost use Rattle.ivy_site.specs.Handed.{site_handed};
 ghost use Rattle.ivy_site.specs.SiteView.{holding_at, after_pulse_to};
 ghost use Rattle.ivy_site.specs.Sites.{most_sent, most_delivered, first_shown, first_keeping, AfterTurn, AfterDelivery};
@@ -24,18 +24,17 @@ ghost use Rattle.ivy_moves.specs.Keeping.{keeps_history, keeps_events, read_of, 
 ghost use Rattle.ivy_site.specs.Sites.{SpellsFrame, GoesAsFar, DeliversWhole, IsHeld, early_at, without_ready, IsSpentTurn, IsSpentDelivery, TakesFrame, IsSameNode, IsMadeByEvents, IsSentBy, Awaits, await_in};
 ghost use Rattle.ivy_site.specs.Inside.{Hears, Receives, AfterOnce, HoldsString};
 ghost use Rattle.ivy_moves.specs.Marks.{marks};
-ghost use Rattle.ivy_model.specs.Legal.{HasWidth};
+ghost use Rattle.ivy_model.specs.stated.Legal.{HasWidth};
 
 use crate::host::Host;
 use crate::turn::Turn;
 use ivy_host::NodeManager;
-use ivy_host::ivy_memory::Memory;
+use ivy_link::{MOST_AHEAD, Outbox, Verdict};
+use ivy_memory::Memory;
 use ivy_model::{Call, Config, Fault, Record, Reply, Row};
-use ivy_moves::ivy_link::{MOST_AHEAD, Verdict};
 use ivy_moves::{Event, Events, History, Keep};
-use ivy_outbox::Outbox;
 use ivy_program::{Machine, Next, Program};
-use ivy_wire::{Bytes, head_of, message_of, read};
+use ivy_wire::{Bytes, head_of, message_of, read_frame};
 use std::alloc::{AllocError, Allocator};
 use std::marker::Model;
 
@@ -71,8 +70,8 @@ impl<A: Allocator> Model for Site<A> {
     ghost Value = { SiteView };
 
     ghost use Rattle.std.specs.Coded.{codes};
-    ghost use Rattle.ivy_pagetable.specs.NodeSets.{nodes_code};
-    ghost use Rattle.ivy_host.specs.ivy_alloc.Heap.{heap_state_code};
+    ghost use Rattle.ivy_pagetable.specs.stated.NodeSets.{nodes_code};
+    ghost use Rattle.ivy_alloc.specs.Heap.{heap_state_code};
 
     ghost coded = { Prim.hlevel (codes, nodes_code, heap_state_code) };
 
@@ -408,7 +407,7 @@ impl<A: Allocator + Copy> Site<A> {
         ensures { IsTrue result ↔ Awaits self.now bytes.now }
     {
         let config = self.outbox.config();
-        let Ok(frame) = read(&config, bytes) else {
+        let Ok(frame) = read_frame(&config, bytes) else {
             return false;
         };
         frame.dest == self.outbox.me() && self.outbox.delivered_from(frame.source) < frame.number
@@ -456,31 +455,47 @@ impl<A: Allocator + Copy> Site<A> {
         ensures spent { IfErr result (IsSpentTurn self.old) }
         ensures want { IfErr result RanOut }
     {
+        let (turn, _) = self.poll()?;
+        Ok(turn)
+    }
+
+    /// One turn of the program, as [`Site::program_turn`] makes it, with the reply that was recorded in it [1, 17]. A
+    /// refused turn changes nothing.
+    pub fn poll(&mut self) -> Result<(Turn, Option<Reply>), Fault>
+        ensures same { IsSameNode self.old self.new }
+        ensures done { MatchResult result (λ p. AfterTurn p.0 self.old self.new) (λ _. self.new ≡ self.old) }
+        ensures recorded { IfOk result (λ p. RecordsReply p.1 self.old self.new) }
+        ensures ended { IfOk result (λ p. (p.0 ≡ Turn.Ended) ↔ HasEnded self.old.node.core.process) }
+        ensures waits { IfOk result (λ p. p.0 ≡ Turn.Idle → IsSome self.old.node.core.memory.asked) }
+        ensures few { length self.new.waiting ≤ length self.old.waiting + most_sent }
+        ensures spent { IfErr result (IsSpentTurn self.old) }
+        ensures want { IfErr result RanOut }
+    {
         self.host.history.reserve()?;
         self.events.reserve()?;
         if let Some(call) = self.host.memory.asked() {
-            let changed = self.host.poll(&mut self.outbox, call)?;
+            let (changed, reply) = self.host.poll(&mut self.outbox, call)?;
             if !changed {
-                return Ok(Turn::Idle);
+                return Ok((Turn::Idle, None));
             }
             self.events.push_turn();
-            return Ok(Turn::Moved);
+            return Ok((Turn::Moved, reply));
         }
         // In the midst of a row the memory has a call in progress, so it never comes to that. No contract says so: a call that
-        // is tried again is alone from then on.
+        // is tried again is alone from then on. A turn answers 1 and 17 alone, so it is 1 here.
         if !self.host.machine.is_alone() {
             return Err(Fault::Memory);
         }
         match self.host.machine.next()? {
-            Next::Ended => Ok(Turn::Ended),
+            Next::Ended => Ok((Turn::Ended, None)),
             Next::Local => {
                 self.events.push_turn();
-                Ok(Turn::Moved)
+                Ok((Turn::Moved, None))
             }
             Next::Call(call) => {
-                self.host.begin(&mut self.outbox, call)?;
+                let reply = self.host.begin(&mut self.outbox, call)?;
                 self.events.push_turn();
-                Ok(Turn::Moved)
+                Ok((Turn::Moved, reply))
             }
         }
     }
@@ -613,7 +628,7 @@ impl<A: Allocator + Copy> Site<A> {
         ensures spent { IfErr result (IsSpentDelivery self.old bytes.now) }
     {
         let config = self.outbox.config();
-        read(&config, bytes)?;
+        read_frame(&config, bytes)?;
         let string = Bytes::new(self.alloc, bytes)?;
         self.deliver_spelled(&string)
     }
@@ -627,23 +642,9 @@ impl<A: Allocator + Copy> Site<A> {
         ensures few { length self.new.waiting ≤ length self.old.waiting + most_delivered }
         ensures spent { IfErr result (IsSpentDelivery self.old string.now) }
     {
-        let (verdict, _) = self.deliver_telling(string)?;
-        Ok(verdict)
-    }
-
-    /// A string comes, as [`Site::deliver_shared`] says. Besides the verdict it says with which fault a string was
-    /// refused that the site held, and would have gone on with [1, 17]. Where none was, none that is held of the
-    /// frame's node is the next one now.
-    pub fn deliver_telling(&mut self, string: &Bytes<A>) -> Result<(Verdict, Option<Fault>), Fault>
-        ensures same { IsSameNode self.old self.new }
-        ensures done { MatchResult result (λ d. DeliversWhole d.0 d.1 string.now self.old self.new) (λ _. self.new ≡ self.old) }
-        ensures refused { MatchResult (checked self.old.config string.now) (λ _. IfErr result RanOut) (λ fault. result ≡ Err fault) }
-        ensures few { length self.new.waiting ≤ length self.old.waiting + most_delivered }
-        ensures spent { IfErr result (IsSpentDelivery self.old string.now) }
-    {
         let config = self.outbox.config();
-        read(&config, string.bytes())?;
-        self.deliver_whole(string)
+        read_frame(&config, string.bytes())?;
+        self.deliver_spelled(string)
     }
 
     /// A string comes, as [`Site::deliver_shared`] says, but the site does not go on after it. So one event is listed, or
@@ -657,7 +658,7 @@ impl<A: Allocator + Copy> Site<A> {
         ensures spent { IfErr result (IsSpentDelivery self.old string.now) }
     {
         let config = self.outbox.config();
-        read(&config, string.bytes())?;
+        read_frame(&config, string.bytes())?;
         self.receive(string)
     }
 
@@ -674,7 +675,9 @@ impl<A: Allocator + Copy> Site<A> {
         Ok(verdict)
     }
 
-    /// A string comes that spells a frame, as [`Site::deliver_telling`] says.
+    /// A string comes that spells a frame, as [`Site::deliver_spelled`] says. Besides the verdict it says with which fault
+    /// a string was refused that the site held, and would have gone on with [1, 17]. Where none was, none that is held of
+    /// the frame's node is the next one now.
     fn deliver_whole(&mut self, string: &Bytes<A>) -> Result<(Verdict, Option<Fault>), Fault>
         requires spelled { SpellsFrame self.old.config string.now }
         ensures same { IsSameNode self.old self.new }

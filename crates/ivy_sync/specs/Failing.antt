@@ -14,9 +14,9 @@ use Rattle.ivy_sync.specs.declared.error.SyncError.{SyncError}
 use Rattle.ivy_sync.specs.declared.error.SyncError.TheVariants as error
 use Rattle.ivy_sync.specs.declared.broadcast.Broadcast.{Broadcast}
 use Rattle.ivy_sync.specs.declared.queue.Queue.{Queue}
-use Rattle.ivy_sync.specs.Barriers.{least_of}
+use Rattle.ivy_sync.specs.meeting.Barriers.{least_of}
 use Rattle.ivy_sync.specs.Doing.{AsksInVain, allots, claims_word, draws, stores}
-use Rattle.ivy_sync.specs.Queues.{slot}
+use Rattle.ivy_sync.specs.queueing.Queues.{slot}
 
 -- in some state of the memory a call may fail so
 abbrev pub AtSome : {State : Type 0} → (State → Fault → Type 0) → Fault → Type 0

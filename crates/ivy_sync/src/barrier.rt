@@ -2,7 +2,7 @@ ghost use Rattle.std.specs.Prelude.{◌≡◌, ◌+◌, IfErr, IfOk, OnErr};
 ghost use Rattle.ivy_sync.specs.Doing.{Crosses};
 
 use crate::error::SyncError;
-use ivy_calls::{SharedMemory, advance, await_};
+use ivy_calls::{SharedMemory, advance_count, await_};
 
 /// A barrier of all nodes by eventcount `count`, over and over: each node has a value of its own.
 ///
@@ -18,7 +18,7 @@ pub struct Barrier {
 }
 
 impl Barrier {
-    ghost use Rattle.ivy_sync.specs.Barriers.{least_of, passed_on};
+    ghost use Rattle.ivy_sync.specs.meeting.Barriers.{least_of, passed_on};
     ghost use Rattle.ivy_sync.specs.Failing.{AtSome, FailsToCross};
 
     /// Waits for the others. After an `Err` the barrier is as it was.
@@ -35,7 +35,7 @@ impl Barrier {
         let Some(all) = self.passed.checked_add(u64::from(self.nodes)) else {
             return Err(SyncError::Spent { place: self.count });
         };
-        advance(memory, self.count)?;
+        advance_count(memory, self.count)?;
         await_(memory, self.count, all)?;
         self.passed = all;
         Ok(())

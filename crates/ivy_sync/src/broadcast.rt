@@ -19,8 +19,8 @@ pub struct Broadcast {
 
 impl Broadcast {
     ghost use Rattle.ivy_sync.specs.Doing.{allots};
-    ghost use Rattle.ivy_sync.specs.Barriers.{passed_on};
-    ghost use Rattle.ivy_sync.specs.Broadcasts.{Gives, Gets};
+    ghost use Rattle.ivy_sync.specs.meeting.Barriers.{passed_on};
+    ghost use Rattle.ivy_sync.specs.meeting.Broadcasts.{Gives, Gets};
     ghost use Rattle.ivy_sync.specs.Failing.{AtSome, FailsToGive, FailsToGet};
 
     /// One in a new block, by this barrier. One node makes it, and tells the others where it lies.

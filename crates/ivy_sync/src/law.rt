@@ -1,18 +1,18 @@
 //! What holds of every order that explains what the nodes were answered. Each of these is a fact, and
 //! the call does nothing.
-ghost use Rattle.ivy_sync.specs.Barriers.{BarrierSeparates};
-ghost use Rattle.ivy_sync.specs.Broadcasts.{BroadcastsArrive};
-ghost use Rattle.ivy_sync.specs.Locks.{LeftLocksAreFree, MutualExclusion};
-ghost use Rattle.ivy_sync.specs.Messages.{MessagesPass};
-ghost use Rattle.ivy_sync.specs.Phases.{PhasesShare, SetUpIsThere};
-ghost use Rattle.ivy_sync.specs.Queues.{QueuesKeepOrder};
-ghost use Rattle.ivy_sync.specs.Reductions.{ReductionsAgree};
-ghost use Rattle.ivy_sync.specs.Registers.{WordsAreRegisters};
-ghost use Rattle.ivy_sync.specs.Sections.{SectionsAreSerial};
-ghost use Rattle.ivy_sync.specs.SharedQueues.{SharedQueuesKeepOrder};
-ghost use Rattle.ivy_sync.specs.Sums.{SumsAreWhole};
-ghost use Rattle.ivy_sync.specs.TicketLocks.{TicketLocksExclude};
-ghost use Rattle.ivy_sync.specs.Tickets.{TicketsExclude};
+ghost use Rattle.ivy_sync.specs.meeting.Barriers.{BarrierSeparates};
+ghost use Rattle.ivy_sync.specs.meeting.Broadcasts.{BroadcastsArrive};
+ghost use Rattle.ivy_sync.specs.excluding.Locks.{LeftLocksAreFree, MutualExclusion};
+ghost use Rattle.ivy_sync.specs.queueing.Messages.{MessagesPass};
+ghost use Rattle.ivy_sync.specs.meeting.Phases.{PhasesShare, SetUpIsThere};
+ghost use Rattle.ivy_sync.specs.queueing.Queues.{QueuesKeepOrder};
+ghost use Rattle.ivy_sync.specs.meeting.Reductions.{ReductionsAgree};
+ghost use Rattle.ivy_sync.specs.excluding.Registers.{WordsAreRegisters};
+ghost use Rattle.ivy_sync.specs.excluding.Sections.{SectionsAreSerial};
+ghost use Rattle.ivy_sync.specs.queueing.SharedQueues.{SharedQueuesKeepOrder};
+ghost use Rattle.ivy_sync.specs.meeting.Sums.{SumsAreWhole};
+ghost use Rattle.ivy_sync.specs.excluding.TicketLocks.{TicketLocksExclude};
+ghost use Rattle.ivy_sync.specs.excluding.Tickets.{TicketsExclude};
 
 /// The accesses to a word that is always written whole are those of one register.
 pub fn words_are_registers()

@@ -1,4 +1,4 @@
-//! Locks, barriers, queues and reductions over a shared memory, and the laws that their users reason by.
+//! Locks, barriers, queues, reductions and broadcasts over shared memory, with laws to reason by.
 #![tactic(auto)]
 
 mod barrier;

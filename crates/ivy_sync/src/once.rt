@@ -5,7 +5,7 @@ ghost use Rattle.ivy_sync.specs.Doing.{IsTurn, arrives, clears};
 ghost use Rattle.ivy_sync.specs.Failing.{AtSome, FailsToClear, FailsToBegin};
 
 use crate::cleared::cleared_word;
-use ivy_calls::{CallError, SharedMemory, advance, await_, cas};
+use ivy_calls::{CallError, SharedMemory, advance_count, await_, cas};
 
 /// Something that one node does for all, by the word of 8 bytes at `word` and eventcount `done`, both 0 at
 /// first.
@@ -61,6 +61,6 @@ impl Once {
             Fails (M.can_fail memory.old) (Advance self.now.done) error
             (M.answers memory.old) (M.answers memory.new)) }
     {
-        advance(memory, self.done)
+        advance_count(memory, self.done)
     }
 }

@@ -3,7 +3,7 @@ ghost use Rattle.ivy_model.specs.declared.call.Call.TheVariants.{Alloc};
 ghost use Rattle.ivy_calls.specs.Fails.{Fails};
 
 use crate::error::SyncError;
-use ivy_calls::{CallError, SharedMemory, advance, alloc, await_, load, store};
+use ivy_calls::{CallError, SharedMemory, advance_count, alloc, await_, load, store};
 
 /// Where a queue of one sender and one receiver lies: `size` words of 8 bytes from `at` on, and two eventcounts,
 /// 0 at first, that say how many values were sent and taken.
@@ -54,7 +54,7 @@ impl Queue {
         self.size > 0 && self.size <= u64::MAX / 8 && self.at.checked_add(8 * self.size).is_some()
     }
 
-    ghost use Rattle.ivy_sync.specs.Queues.{IsPlace, slot};
+    ghost use Rattle.ivy_sync.specs.queueing.Queues.{IsPlace, slot};
 
     /// Where the `n`-th value lies.
     fn slot(&self, n: u64) -> u64
@@ -74,7 +74,7 @@ pub struct Sender {
 }
 
 impl Sender {
-    ghost use Rattle.ivy_sync.specs.Queues.{AddsSend, IsPlace};
+    ghost use Rattle.ivy_sync.specs.queueing.Queues.{AddsSend, IsPlace};
     ghost use Rattle.ivy_sync.specs.Failing.{AtSome, FailsToSend};
 
     /// Waits for room, and sends the value. After an `Err` the sender is as it was.
@@ -95,7 +95,7 @@ impl Sender {
         };
         await_(memory, queue.taken, after.saturating_sub(queue.size))?;
         store(memory, queue.slot(self.next), value)?;
-        advance(memory, queue.sent)?;
+        advance_count(memory, queue.sent)?;
         self.next = after;
         Ok(())
     }
@@ -110,7 +110,7 @@ pub struct Receiver {
 }
 
 impl Receiver {
-    ghost use Rattle.ivy_sync.specs.Queues.{AddsTake, IsPlace};
+    ghost use Rattle.ivy_sync.specs.queueing.Queues.{AddsTake, IsPlace};
     ghost use Rattle.ivy_sync.specs.Failing.{AtSome, FailsToTake};
 
     /// Waits for the next value, and takes it. After an `Err` the receiver is as it was.
@@ -131,7 +131,7 @@ impl Receiver {
         };
         await_(memory, queue.sent, after)?;
         let value = load(memory, queue.slot(self.next))?;
-        advance(memory, queue.taken)?;
+        advance_count(memory, queue.taken)?;
         self.next = after;
         Ok(value)
     }

@@ -20,9 +20,9 @@ pub struct Reduction {
 
 impl Reduction {
     ghost use Rattle.ivy_sync.specs.Doing.{allots};
-    ghost use Rattle.ivy_sync.specs.Barriers.{passed_on};
+    ghost use Rattle.ivy_sync.specs.meeting.Barriers.{passed_on};
     ghost use Rattle.ivy_sync.specs.Failing.{AtSome};
-    ghost use Rattle.ivy_sync.specs.Folds.{FailsToGather, Folds};
+    ghost use Rattle.ivy_sync.specs.meeting.Folds.{FailsToGather, Folds};
 
     /// One in a new block, by this barrier. One node makes it, and tells the others where it lies.
     pub fn alloc<M: SharedMemory>(memory: &mut M, barrier: Barrier) -> Result<Self, CallError>

@@ -4,7 +4,7 @@ ghost use Rattle.ivy_sync.specs.Failing.{AtSome};
 use crate::error::SyncError;
 use crate::lock::Lock;
 use crate::queue::{Queue, Sender};
-use ivy_calls::{SharedMemory, read};
+use ivy_calls::{SharedMemory, read_count};
 
 /// The sending end of a queue for several nodes, which send one after another under a lock. Who holds it
 /// finds out from the eventcount how many values were sent.
@@ -17,8 +17,8 @@ pub struct SharedSender {
 }
 
 impl SharedSender {
-    ghost use Rattle.ivy_sync.specs.Queues.{IsPlace};
-    ghost use Rattle.ivy_sync.specs.SharedQueues.{FailsToShare, Shares};
+    ghost use Rattle.ivy_sync.specs.queueing.Queues.{IsPlace};
+    ghost use Rattle.ivy_sync.specs.queueing.SharedQueues.{FailsToShare, Shares};
 
     /// Waits for the lock and for room, and sends the value.
     ///
@@ -33,7 +33,7 @@ impl SharedSender {
             (M.answers memory.old) (M.answers memory.new)) }
     {
         self.lock.acquire(memory)?;
-        let next = read(memory, self.queue.sent)?;
+        let next = read_count(memory, self.queue.sent)?;
         let mut sender = Sender {
             queue: self.queue,
             next,

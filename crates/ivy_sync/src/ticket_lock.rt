@@ -5,7 +5,7 @@ ghost use Rattle.ivy_sync.specs.Doing.{Enters, arrives, clears};
 ghost use Rattle.ivy_sync.specs.Failing.{AtSome, FailsToClear, FailsToEnter};
 
 use crate::cleared::cleared_word;
-use ivy_calls::{CallError, SharedMemory, advance, await_, fetch_add};
+use ivy_calls::{CallError, SharedMemory, advance_count, await_, fetch_add};
 
 /// A lock by tickets: the word of 8 bytes at `next` has the next ticket, and eventcount `turn` the one whose
 /// turn it is. Both are 0 at first.
@@ -61,6 +61,6 @@ impl TicketLock {
             Fails (M.can_fail memory.old) (Advance self.now.turn) error
             (M.answers memory.old) (M.answers memory.new)) }
     {
-        advance(memory, self.turn)
+        advance_count(memory, self.turn)
     }
 }

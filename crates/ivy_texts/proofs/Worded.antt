@@ -4,11 +4,11 @@ use Rattle.std.specs.Str.Lines.{lines}
 use Rattle.std.specs.List.{AllZip, enumerate_from, filter}
 use Rattle.std.proofs.lemmas.List.{length-map, map_push, take-map, drop-map}
 use Rattle.std.proofs.lemmas.List.Elements.{filter-append}
-use Rattle.ivy_model.specs.Legal.{HasWidth}
-use Rattle.ivy_program.specs.Lines.{IsNumberWord}
-use Rattle.ivy_program.specs.Words.{words_of}
-use Rattle.ivy_program.proofs.Reading.{texts_of}
-use Rattle.ivy_program.proofs.Zips.{zip_push}
+use Rattle.ivy_model.specs.stated.Legal.{HasWidth}
+use Rattle.ivy_program.specs.texts.Lines.{IsNumberWord}
+use Rattle.ivy_program.specs.texts.TextWords.{words_of}
+use Rattle.ivy_program.proofs.reading.Reading.{texts_of}
+use Rattle.ivy_program.proofs.reading.Zips.{zip_push}
 use Rattle.ivy_model.specs.declared.Record.{Record}
 use Rattle.ivy_texts.specs.declared.order.Sizes.{Sizes}
 use Rattle.ivy_texts.specs.Spelled.{has_words, worded, SpellsCall, SpellsOrder, SpellsRecord, SpellsReply, SpellsSizes}

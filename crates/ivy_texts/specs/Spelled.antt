@@ -7,11 +7,11 @@ use Rattle.ivy_model.specs.declared.Call.TheVariants.{Load, Store, Swap, Cas, Fe
 use Rattle.ivy_model.specs.declared.Reply.{Reply}
 use Rattle.ivy_model.specs.declared.Reply.TheVariants.{Value, Done, Refused}
 use Rattle.ivy_model.specs.declared.Record.{Record}
-use Rattle.ivy_model.specs.Legal.{HasWidth}
+use Rattle.ivy_model.specs.stated.Legal.{HasWidth}
 use Rattle.ivy_moves.specs.declared.Move.{Move}
 use Rattle.ivy_moves.specs.declared.Move.TheVariants.{Turn, Deliver, Pulse}
-use Rattle.ivy_program.specs.Lines.{IsNumberWord}
-use Rattle.ivy_program.specs.Words.{words_of}
+use Rattle.ivy_program.specs.texts.Lines.{IsNumberWord}
+use Rattle.ivy_program.specs.texts.TextWords.{words_of}
 use Rattle.ivy_texts.specs.declared.order.Sizes.{Sizes}
 
 -- a keyword, and words of which this holds after it

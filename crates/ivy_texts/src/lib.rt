@@ -1,8 +1,9 @@
-//! The texts of schedules and of orders, read and written line by line, moves that a generator draws, and the
-//! configuration that options name.
+//! Texts of schedules, orders and printed values, drawn moves, and the files that commands read.
 //!
-//! A schedule has a world's moves, one a line, and an order the records of all nodes. Numbers in brackets, as
-//! `[1, 20]`, are those of the faults that a call may answer.
+//! A schedule has a world's moves, one a line, and an order the records of all nodes. Numbers in brackets, as `[1,
+//! 20]`, are those of the faults that a call may answer.
+//!
+//! The texts of the files that a command line names, whatever knows them.
 #![tactic(auto)]
 
 mod drawn;
@@ -10,6 +11,7 @@ mod order;
 mod print;
 mod schedule;
 mod settings;
+mod texts;
 
 pub use drawn::{draw, generator_of};
 pub use order::{Order, Sizes, parse_byte, parse_call, parse_order};
@@ -19,3 +21,4 @@ pub use print::{
 };
 pub use schedule::parse_schedule;
 pub use settings::Settings;
+pub use texts::{FilesOf, Texts};

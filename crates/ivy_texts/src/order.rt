@@ -1,8 +1,8 @@
 //! Orders: the records of all nodes as one list, one a line.
 ghost use Rattle.std.specs.Prelude.{◌≡◌, IfOk, IfErr, IfSome, Some, codes, map, slice_get};
-ghost use Rattle.ivy_model.specs.Legal.{HasWidth, IsWidth};
-ghost use Rattle.ivy_program.specs.Lines.{IsNumberWord};
-ghost use Rattle.ivy_program.specs.Texts.{IsRefusal};
+ghost use Rattle.ivy_model.specs.stated.Legal.{HasWidth, IsWidth};
+ghost use Rattle.ivy_program.specs.texts.Lines.{IsNumberWord};
+ghost use Rattle.ivy_program.specs.texts.Texts.{IsRefusal};
 ghost use Rattle.ivy_texts.specs.Spelled.{SpellsCall, SpellsOrder, SpellsRecord, SpellsReply, SpellsSizes};
 
 use ivy_model::{Call, Fault, Record, Reply};

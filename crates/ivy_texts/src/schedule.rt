@@ -1,6 +1,6 @@
 //! Schedules: the moves of a world, one a line.
 ghost use Rattle.std.specs.Prelude.{IfOk, IfErr, IfSome, map};
-ghost use Rattle.ivy_program.specs.Texts.{IsRefusal};
+ghost use Rattle.ivy_program.specs.texts.Texts.{IsRefusal};
 ghost use Rattle.ivy_moves.specs.declared.Move.{Move};
 ghost use Rattle.ivy_texts.specs.Spelled.{SpellsMove, SpellsSchedule};
 

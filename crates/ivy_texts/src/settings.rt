@@ -1,6 +1,6 @@
 //! The configuration that a command line asks for.
 ghost use Rattle.std.specs.Prelude.{◌≡◌, IfOk, IsOk, IsOkUnless};
-ghost use Rattle.ivy_model.specs.Config.{IsConfig, IsNarrow};
+ghost use Rattle.ivy_model.specs.stated.Config.{IsConfig, IsNarrow};
 
 use ivy_model::{Config, Fault, Kind};
 

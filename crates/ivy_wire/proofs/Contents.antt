@@ -7,15 +7,15 @@ use Rattle.std.proofs.lemmas.Bool.Decides.{nat_tests}
 use Rattle.byteorder.specs.Endian.{big_number, big_bytes}
 use Rattle.byteorder.specs.Numbers.{big_number-reads_back, big_from-lt}
 use Rattle.ivy_model.specs.declared.Config.{Config}
-use Rattle.ivy_model.specs.Config.{IsConfig}
-use Rattle.ivy_model.specs.Limits.{most_nodes}
+use Rattle.ivy_model.specs.stated.Config.{IsConfig}
+use Rattle.ivy_model.specs.stated.Limits.{most_nodes}
 use Rattle.ivy_wire.specs.declared.frame.FrameKind.{FrameKind}
 use Rattle.ivy_wire.specs.declared.frame.FrameKind.TheVariants as kinds
-use Rattle.ivy_wire.specs.Data.{Content}
+use Rattle.ivy_wire.specs.stated.Data.{Content}
 use Rattle.ivy_wire.specs.declared.frame.Content.TheVariants as contents
-use Rattle.ivy_wire.specs.Spelling.{kind_of, content_text, text_len, FitsContent}
-use Rattle.ivy_wire.specs.DecodeErrors.{is_sound_content}
-use Rattle.ivy_wire.specs.Reading.{content_at}
+use Rattle.ivy_wire.specs.stated.Spelling.{kind_of, content_text, text_len, FitsContent}
+use Rattle.ivy_wire.specs.stated.DecodeErrors.{is_sound_content}
+use Rattle.ivy_wire.specs.stated.Reading.{content_at}
 use Rattle.ivy_wire.proofs.Fields.{IsBytes, IsBytes-drop, field_1, field_4, only_1, only_4, only_8}
 
 -- the content that a text has in it; it fits where the text is sound

@@ -11,17 +11,18 @@ use Rattle.byteorder.specs.Numbers.{big_number-reads_back, big_from-lt}
 use Rattle.ivy_model.specs.declared.Config.{Config}
 use Rattle.ivy_model.specs.declared.Fault.{Fault}
 use Rattle.ivy_model.specs.declared.Fault.TheVariants.{Memory, ShortFrame, BadMagic, BadVersion, BadNode, BadBody}
-use Rattle.ivy_model.specs.Config.{IsConfig}
+use Rattle.ivy_model.specs.stated.Config.{IsConfig}
 use Rattle.ivy_wire.specs.declared.frame.FrameKind.{FrameKind}
 use Rattle.ivy_wire.specs.declared.frame.FrameKind.TheVariants as kinds
-use Rattle.ivy_wire.specs.Data.{Content}
+use Rattle.ivy_wire.specs.stated.Data.{Content}
 use Rattle.ivy_wire.specs.declared.frame.Content.TheVariants as contents
-use Rattle.ivy_wire.specs.Data.{Message}
-use Rattle.ivy_wire.specs.Data.{Frame}
-use Rattle.ivy_wire.specs.Lengths.{frame_version}
-use Rattle.ivy_wire.specs.Spelling.{code_of, kind_of, frame_kind, content_text, message_text, spelling, text_len, FitsMessage, Fits, Spells}
-use Rattle.ivy_wire.specs.DecodeErrors.{kind_byte, source_at, dest_at, len_at, frame_number_at, ack_at, text_at, kind_at, is_sound_content, is_sound_text, checked_in, checked_kind, checked, HasHead}
-use Rattle.ivy_wire.specs.Reading.{content_at, message_at, frame_at}
+use Rattle.ivy_wire.specs.stated.Data.{Message}
+use Rattle.ivy_wire.specs.stated.Data.{Frame}
+use Rattle.ivy_wire.specs.stated.Lengths.{frame_version}
+use Rattle.ivy_wire.specs.stated.Spelling.{code_of, kind_of, frame_kind, content_text, message_text, spelling, text_len, FitsMessage, Fits, Spells}
+use Rattle.ivy_wire.specs.stated.DecodeErrors.{kind_byte, source_at, dest_at, len_at, frame_number_at, ack_at, text_at, kind_at, is_sound_content, is_sound_text, checked_in, checked_kind, checked}
+use Rattle.ivy_wire.specs.DecodeErrors.{HasHead}
+use Rattle.ivy_wire.specs.stated.Reading.{content_at, message_at, frame_at}
 use Rattle.ivy_model.proofs.Limits.{page_has_words}
 use Rattle.ivy_wire.proofs.Fields.{IsBytes, IsBytes-drop, field_1, field_2, field_8}
 use Rattle.ivy_wire.proofs.Contents.{both, content_spelled, content_again}

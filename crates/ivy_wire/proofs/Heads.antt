@@ -2,10 +2,10 @@
 use Rattle.std.proofs.Common.{◌≡◌, ℕ, ◌≤◌, List, ◌∷◌, ◌++◌, length, Some, None, Option, refl, ap, arith}
 use Rattle.byteorder.specs.Endian.{big_bytes}
 use Rattle.ivy_model.specs.declared.Config.{Config}
-use Rattle.ivy_model.specs.Config.{IsConfig}
-use Rattle.ivy_wire.specs.Data.{Content, Message, Frame}
+use Rattle.ivy_model.specs.stated.Config.{IsConfig}
+use Rattle.ivy_wire.specs.stated.Data.{Content, Message, Frame}
 use Rattle.ivy_wire.specs.declared.frame.Content.TheVariants as contents
-use Rattle.ivy_wire.specs.Spelling.{content_text, message_text, text_len, frame_kind, Fits}
+use Rattle.ivy_wire.specs.stated.Spelling.{content_text, message_text, text_len, frame_kind, Fits}
 use Rattle.ivy_wire.specs.Heads.{content_head, content_page, body_head, body_page}
 use Rattle.ivy_wire.proofs.Frames.{spelling_read}
 

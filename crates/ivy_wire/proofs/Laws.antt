@@ -3,9 +3,9 @@ use Rattle.std.proofs.Common.{◌≡◌, ℕ, ◌≤◌, List, [], ◌∷◌, �
 use Rattle.std.proofs.lemmas.List.{append-nil, length-append}
 use Rattle.ivy_model.specs.declared.Fault.{Fault}
 use Rattle.ivy_wire.specs.declared.frame.FrameKind.{FrameKind}
-use Rattle.ivy_wire.specs.Spelling.{frame_kind, spelling, Spells}
-use Rattle.ivy_wire.specs.DecodeErrors.{len_at}
-use Rattle.ivy_wire.specs.Reading.{frame_at}
+use Rattle.ivy_wire.specs.stated.Spelling.{frame_kind, spelling, Spells}
+use Rattle.ivy_wire.specs.stated.DecodeErrors.{len_at}
+use Rattle.ivy_wire.specs.stated.Reading.{frame_at}
 use Rattle.ivy_wire.specs.Grammar.{HasOneSpelling, SpellsAtMostOne, NoneBeginsAnother}
 use Rattle.ivy_wire.proofs.Frames.{spelled_once, spelled_read, no_text}
 

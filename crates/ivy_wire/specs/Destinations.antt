@@ -1,8 +1,8 @@
 -- Whom a string is for.
 use Rattle.std.specs.Prelude.{◌≡◌, ℕ, List, Option, Some, slice_get}
 use Rattle.ivy_model.specs.declared.Config.{Config}
-use Rattle.ivy_wire.specs.Data.{Frame}
-use Rattle.ivy_wire.specs.Spelling.{Spells}
+use Rattle.ivy_wire.specs.stated.Data.{Frame}
+use Rattle.ivy_wire.specs.stated.Spelling.{Spells}
 
 -- the byte of a header that has the destination
 abbrev pub dest_of : List ℕ → Option ℕ

@@ -1,9 +1,9 @@
 -- What holds of all spellings.
 use Rattle.std.specs.Prelude.{◌≡◌, ℕ, List, [], ◌++◌}
 use Rattle.ivy_model.specs.declared.Config.{Config}
-use Rattle.ivy_model.specs.Config.{IsConfig}
-use Rattle.ivy_wire.specs.Data.{Frame}
-use Rattle.ivy_wire.specs.Spelling.{Fits, Spells}
+use Rattle.ivy_model.specs.stated.Config.{IsConfig}
+use Rattle.ivy_wire.specs.stated.Data.{Frame}
+use Rattle.ivy_wire.specs.stated.Spelling.{Fits, Spells}
 
 -- a frame that fits has one spelling
 abbrev pub HasOneSpelling : Type 0

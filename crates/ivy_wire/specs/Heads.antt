@@ -1,10 +1,10 @@
 -- The spelling of a frame in two parts: its head, and the page that its message brings.
 use Rattle.std.specs.Prelude.{ℕ, List, [], ◌∷◌, ◌++◌, Option, Some, None}
 use Rattle.byteorder.specs.Endian.{big_bytes}
-use Rattle.ivy_wire.specs.Lengths.{frame_version}
-use Rattle.ivy_wire.specs.Data.{Content, Message, Frame}
+use Rattle.ivy_wire.specs.stated.Lengths.{frame_version}
+use Rattle.ivy_wire.specs.stated.Data.{Content, Message, Frame}
 use Rattle.ivy_wire.specs.declared.frame.Content.TheVariants as contents
-use Rattle.ivy_wire.specs.Spelling.{code_of, frame_kind}
+use Rattle.ivy_wire.specs.stated.Spelling.{code_of, frame_kind}
 
 -- the page of a content, and what comes before it
 abbrev pub content_page : Content → List ℕ

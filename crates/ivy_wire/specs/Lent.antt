@@ -6,7 +6,7 @@ use Rattle.ivy_wire.specs.declared.frame.Content.TheVariants.{ReadReq, WriteReq,
 use Rattle.ivy_wire.specs.declared.frame.Message as message
 use Rattle.ivy_wire.specs.declared.frame.Frame as frame
 use Rattle.ivy_wire.specs.declared.parcel.Parcel as parcel
-use Rattle.ivy_wire.specs.Data.{Content, Message, Frame, Parcel}
+use Rattle.ivy_wire.specs.stated.Data.{Content, Message, Frame, Parcel}
 
 abbrev pub owned_content : content.Content (Bor (List ℕ)) → Content
 owned_content (ReadReq page) = ReadReq page

@@ -1,13 +1,8 @@
-pub mod Data
-pub mod Lengths
-pub mod Spelling
+pub mod stated
 pub mod Heads
 pub mod DecodeErrors
-pub mod Reading
 pub mod Destinations
 pub mod Grammar
 pub mod Lent
 pub mod Posts
 pub mod Texts
-pub use Rattle.ivy_model.specs.Config
-pub use Rattle.ivy_model.specs.Wants

@@ -4,7 +4,7 @@ use Rattle.std.specs.Prelude.{◌≡◌, ℕ, List, [], Result, OnOk, IfErr}
 use Rattle.ivy_model.specs.declared.Config.{Config}
 use Rattle.ivy_model.specs.declared.Fault.{Fault}
 use Rattle.ivy_model.specs.Wants.{RanOut}
-use Rattle.ivy_wire.specs.Data.{Content, Parcel}
+use Rattle.ivy_wire.specs.stated.Data.{Parcel}
 
 -- `config` is the configuration of the nodes, and `node` the one whose messages are taken. `takes`
 -- says that there is a place for a list, memory aside, and `after` what the post is once it took
@@ -34,14 +34,6 @@ pub record PostLaws {P : Type 0} (ops : PostOps P) : Type 0 where
 pub record IsPostOf {P : Type 0} (ops : PostOps P) (post : P) (c : Config) (me : ℕ) : Type 0 where
   pub config : ops.config post ≡ c
   pub node : ops.node post ≡ me
-
--- a parcel of a message for the origin's call of this number
-abbrev pub parcel_to : ℕ → ℕ → ℕ → ℕ → Content → Parcel
-parcel_to me dest origin call body = record {
-  source = me;
-  dest = dest;
-  message = record { origin = origin; call = call; content = body };
-}
 
 -- the post was asked once, for these messages, and refused them with this fault
 abbrev pub HasRefused : {P : Type 0} → PostOps P → P → P → List Parcel → Fault → Type 0

@@ -1,9 +1,9 @@
 //! What nodes say to one another.
 ghost use Rattle.std.specs.Prelude.{◌≡◌, ◌↔◌, IsTrue, IfOk};
-ghost use Rattle.ivy_model.specs.Config.{IsConfig};
+ghost use Rattle.ivy_model.specs.stated.Config.{IsConfig};
 ghost use Rattle.ivy_wire.specs.Lent.{owned_content, owned_message, owned_body, owned_frame};
 
-use crate::page::Page;
+use crate::page::OwnedPage;
 use ivy_model::{Config, Fault};
 use std::alloc::{AllocError, Allocator};
 
@@ -59,7 +59,7 @@ pub(crate) const HEADER_LEN: usize = 24;
 pub(crate) const CALL_LEN: usize = 9;
 
 /// What a message says, beside whose call it is. `B` is what holds the bytes of a page: a
-/// [`Page`] that owns them, or a slice that is lent.
+/// [`OwnedPage`] that owns them, or a slice that is lent.
 #[derive(Clone, Copy, Debug, Drop, PartialEq, Eq)]
 pub enum Content<B> {
     /// Asks for a copy of a page, to read it.
@@ -112,7 +112,7 @@ pub struct Frame<B> {
 }
 
 impl FrameKind {
-    ghost use Rattle.ivy_wire.specs.Spelling.{code_of, text_len};
+    ghost use Rattle.ivy_wire.specs.stated.Spelling.{code_of, text_len};
 
     /// The number of the kind in a frame, 0 to 10.
     pub fn code(self) -> u8
@@ -168,7 +168,7 @@ macro_rules! with_page {
 }
 
 impl Content<&[u8]> {
-    ghost use Rattle.ivy_wire.specs.Spelling.{kind_of, FitsContent};
+    ghost use Rattle.ivy_wire.specs.stated.Spelling.{kind_of, FitsContent};
 
     /// What the message is about.
     pub fn kind(&self) -> FrameKind
@@ -223,18 +223,18 @@ impl Content<&[u8]> {
         }
     }
 
-    fn owned<A: Allocator>(&self, alloc: A) -> Result<Content<Page<A>>, AllocError>
+    fn owned<A: Allocator>(&self, alloc: A) -> Result<Content<OwnedPage<A>>, AllocError>
         ensures { IfOk result (λ content. content ≡ owned_content self.now) }
     {
-        Ok(with_page!(self, bytes => Page::new(alloc, *bytes)?))
+        Ok(with_page!(self, bytes => OwnedPage::new(alloc, *bytes)?))
     }
 }
 
 impl Message<&[u8]> {
-    ghost use Rattle.ivy_wire.specs.Spelling.{FitsMessage};
+    ghost use Rattle.ivy_wire.specs.stated.Spelling.{FitsMessage};
 
     /// The message with a copy of its page. Err only where the allocator has no memory.
-    pub fn owned<A: Allocator>(&self, alloc: A) -> Result<Message<Page<A>>, AllocError>
+    pub fn owned<A: Allocator>(&self, alloc: A) -> Result<Message<OwnedPage<A>>, AllocError>
         ensures { IfOk result (λ message. message ≡ owned_message self.now) }
     {
         Ok(Message {
@@ -255,7 +255,7 @@ impl Message<&[u8]> {
 fn owned_body<A: Allocator>(
     alloc: A,
     body: &Option<Message<&[u8]>>,
-) -> Result<Option<Message<Page<A>>>, AllocError>
+) -> Result<Option<Message<OwnedPage<A>>>, AllocError>
     ensures { IfOk result (λ copy. copy ≡ owned_body body.now) }
 {
     match body {
@@ -265,10 +265,10 @@ fn owned_body<A: Allocator>(
 }
 
 impl Frame<&[u8]> {
-    ghost use Rattle.ivy_wire.specs.Spelling.{Fits, frame_kind};
+    ghost use Rattle.ivy_wire.specs.stated.Spelling.{Fits, frame_kind};
 
     /// The frame with a copy of its page. Err only where the allocator has no memory.
-    pub fn owned<A: Allocator>(&self, alloc: A) -> Result<Frame<Page<A>>, AllocError>
+    pub fn owned<A: Allocator>(&self, alloc: A) -> Result<Frame<OwnedPage<A>>, AllocError>
         ensures { IfOk result (λ frame. frame ≡ owned_frame self.now) }
     {
         Ok(Frame {
@@ -308,7 +308,7 @@ impl Frame<&[u8]> {
     }
 }
 
-impl<A: Allocator> Content<Page<A>> {
+impl<A: Allocator> Content<OwnedPage<A>> {
     fn lent(&self) -> Content<&[u8]>
         ensures { owned_content result ≡ self.now }
     {
@@ -316,7 +316,7 @@ impl<A: Allocator> Content<Page<A>> {
     }
 }
 
-impl<A: Allocator> Message<Page<A>> {
+impl<A: Allocator> Message<OwnedPage<A>> {
     /// The message with its page lent.
     pub fn lent(&self) -> Message<&[u8]>
         ensures { owned_message result ≡ self.now }
@@ -329,7 +329,7 @@ impl<A: Allocator> Message<Page<A>> {
     }
 }
 
-impl<A: Allocator> Frame<Page<A>> {
+impl<A: Allocator> Frame<OwnedPage<A>> {
     /// The frame with its page lent.
     pub fn lent(&self) -> Frame<&[u8]>
         ensures { owned_frame result ≡ self.now }

@@ -1,11 +1,11 @@
-//! The frames that nodes send one another, as bytes.
+//! Messages and frames, their one spelling as bytes, and the trait of whatever sends messages.
 //!
-//! A [`Frame`] carries at most one [`Message`]. [`encode`] writes it as a string of bytes, the one
-//! that spells it. [`read`] and [`decode`] read exactly these strings: the page of what [`read`]
-//! gives is lent from the string, and [`decode`] copies it.
+//! A [`Frame`] carries at most one [`Message`]. [`encode`] writes it as a string of bytes, the one that spells it.
+//! [`read_frame`] and [`decode`] read exactly these strings: the page of what [`read_frame`] gives is lent from the string, and
+//! [`decode`] copies it.
 //!
-//! Numbers in brackets at the end of a sentence, as in `[1, 11 to 16]`, are those of the faults that a
-//! call may answer ([`ivy_model::Fault::number`]).
+//! Numbers in brackets at the end of a sentence, as in `[1, 11 to 16]`, are those of the faults that a call may answer
+//! ([`ivy_model::Fault::number`]).
 #![tactic(auto)]
 
 mod bytes;
@@ -19,7 +19,7 @@ mod writing;
 pub use bytes::Bytes;
 pub use frame::{Content, Frame, FrameKind, Message};
 pub use grammar::grammar_is_prefix_free;
-pub use page::Page;
+pub use page::OwnedPage;
 pub use parcel::{Parcel, Post, parcel_to, post_one};
-pub use reading::{decode, destination, head_of, message_of, read};
+pub use reading::{decode, destination, head_of, message_of, read_frame};
 pub use writing::{encode, string_of};

@@ -2,8 +2,9 @@
 ghost use Rattle.std.specs.Prelude.{◌≡◌, [], ◌∷◌, map, All, IfErr, OnOk};
 ghost use Rattle.ivy_model.specs.Wants.{RanOut};
 ghost use Rattle.ivy_wire.specs.Lent.{owned_content, owned_parcel};
-ghost use Rattle.ivy_wire.specs.Spelling.{FitsParcel};
-ghost use Rattle.ivy_wire.specs.Posts.{parcel_to, HasPosted};
+ghost use Rattle.ivy_wire.specs.stated.Spelling.{FitsParcel};
+ghost use Rattle.ivy_wire.specs.stated.Posts.{parcel_to};
+ghost use Rattle.ivy_wire.specs.Posts.{HasPosted};
 
 use crate::frame::{Content, Message};
 use ivy_model::Fault;

@@ -1,17 +1,18 @@
 //! From bytes to a frame.
 ghost use Rattle.std.specs.Prelude.{◌≡◌, ℕ, ◌+◌, ◌<◌, ◌≤◌, ◌↔◌, List, length, drop, Some, None, option_map, IsTrue, IfNone, IfOk, IfErr, IsOk, IsOkAnd, MatchResult, MatchOption, IsOkUnless};
-ghost use Rattle.ivy_model.specs.Config.{IsConfig};
-ghost use Rattle.ivy_wire.specs.Lengths.{header_len, call_len};
-ghost use Rattle.ivy_wire.specs.Spelling.{text_len, Spells};
-ghost use Rattle.ivy_wire.specs.Data.{Frame as SeenFrame};
-ghost use Rattle.ivy_wire.specs.Reading.{content_at, message_at, frame_at};
+ghost use Rattle.ivy_model.specs.stated.Config.{IsConfig};
+ghost use Rattle.ivy_wire.specs.stated.Lengths.{header_len, call_len};
+ghost use Rattle.ivy_wire.specs.stated.Spelling.{text_len, Spells};
+ghost use Rattle.ivy_wire.specs.stated.Data.{Frame as SeenFrame};
+ghost use Rattle.ivy_wire.specs.stated.Reading.{content_at, message_at, frame_at};
 ghost use Rattle.ivy_wire.specs.Destinations.{dest_of, IsDestination};
 ghost use Rattle.ivy_wire.specs.Lent.{head_of, owned_content, owned_body, owned_frame};
 ghost use Rattle.ivy_model.specs.declared.Config.{Config};
-ghost use Rattle.ivy_wire.specs.DecodeErrors.{kind_at, HasHead, checked, len_at, frame_number_at, ack_at, text_at};
+ghost use Rattle.ivy_wire.specs.stated.DecodeErrors.{kind_at, checked, len_at, frame_number_at, ack_at, text_at};
+ghost use Rattle.ivy_wire.specs.DecodeErrors.{HasHead};
 
 use crate::frame::{CALL_LEN, Content, Frame, FrameKind, HEADER_LEN, KINDS, Message, VERSION};
-use crate::page::Page;
+use crate::page::OwnedPage;
 use byteorder::{BigEndian, ByteOrder};
 use ivy_model::{Config, Fault};
 use std::alloc::Allocator;
@@ -28,14 +29,14 @@ pub fn destination(bytes: &[u8]) -> Option<u8>
     bytes.get(DESTINATION).copied()
 }
 
-#[tactic(auto, unfolding(crate::specs::DecodeErrors::kind_at))]
+#[tactic(auto, unfolding(crate::specs::stated::DecodeErrors::kind_at))]
 fn kind_at(code: u8) -> Option<FrameKind>
     ensures { result ≡ kind_at code }
 {
     KINDS.get(usize::from(code)).copied()
 }
 
-#[tactic(auto, unfolding(crate::specs::DecodeErrors::len_at))]
+#[tactic(auto, unfolding(crate::specs::stated::DecodeErrors::len_at))]
 fn len_at(bytes: &[u8]) -> u16
     requires { header_len ≤ length bytes.now }
     ensures { result ≡ len_at bytes.now }
@@ -43,7 +44,7 @@ fn len_at(bytes: &[u8]) -> u16
     BigEndian::read_u16(&bytes[6..])
 }
 
-#[tactic(auto, unfolding(crate::specs::DecodeErrors::frame_number_at))]
+#[tactic(auto, unfolding(crate::specs::stated::DecodeErrors::frame_number_at))]
 fn frame_number_at(bytes: &[u8]) -> u64
     requires { header_len ≤ length bytes.now }
     ensures { result ≡ frame_number_at bytes.now }
@@ -51,7 +52,7 @@ fn frame_number_at(bytes: &[u8]) -> u64
     BigEndian::read_u64(&bytes[8..])
 }
 
-#[tactic(auto, unfolding(crate::specs::DecodeErrors::ack_at))]
+#[tactic(auto, unfolding(crate::specs::stated::DecodeErrors::ack_at))]
 fn ack_at(bytes: &[u8]) -> u64
     requires { header_len ≤ length bytes.now }
     ensures { result ≡ ack_at bytes.now }
@@ -59,7 +60,7 @@ fn ack_at(bytes: &[u8]) -> u64
     BigEndian::read_u64(&bytes[16..])
 }
 
-#[tactic(auto, unfolding(crate::specs::DecodeErrors::text_at))]
+#[tactic(auto, unfolding(crate::specs::stated::DecodeErrors::text_at))]
 fn text_at(bytes: &[u8]) -> &[u8]
     requires { header_len ≤ length bytes.now }
     ensures text { result.now ≡ text_at bytes.now }
@@ -69,7 +70,7 @@ fn text_at(bytes: &[u8]) -> &[u8]
 }
 
 /// The kind of the frame, where all that comes before number and body is right. Else what is wrong.
-#[tactic(auto, unfolding(crate::specs::DecodeErrors::checked, crate::specs::DecodeErrors::checked_kind, crate::specs::DecodeErrors::checked_in))]
+#[tactic(auto, unfolding(crate::specs::stated::DecodeErrors::checked, crate::specs::stated::DecodeErrors::checked_kind, crate::specs::stated::DecodeErrors::checked_in))]
 fn checked_head(config: &Config, bytes: &[u8]) -> Result<FrameKind, Fault>
     requires { IsConfig config.now }
     ensures found { IfOk result (λ kind. HasHead config.now kind bytes.now) }
@@ -102,7 +103,7 @@ fn checked_head(config: &Config, bytes: &[u8]) -> Result<FrameKind, Fault>
     Ok(kind)
 }
 
-#[tactic(auto, unfolding(crate::specs::Reading::content_at))]
+#[tactic(auto, unfolding(crate::specs::stated::Reading::content_at))]
 fn content_at<'a>(config: &Config, kind: FrameKind, rest: &'a [u8]) -> Option<Content<&'a [u8]>>
     requires limits { IsConfig config.now }
     requires len { text_len config.now kind ≤ call_len + length rest.now }
@@ -145,7 +146,7 @@ fn content_at<'a>(config: &Config, kind: FrameKind, rest: &'a [u8]) -> Option<Co
     }
 }
 
-#[tactic(auto, unfolding(crate::specs::Reading::message_at, crate::specs::Reading::content_at))]
+#[tactic(auto, unfolding(crate::specs::stated::Reading::message_at, crate::specs::stated::Reading::content_at))]
 fn message_at<'a>(config: &Config, kind: FrameKind, text: &'a [u8]) -> Option<Message<&'a [u8]>>
     requires limits { IsConfig config.now }
     requires len { length text.now ≡ text_len config.now kind }
@@ -164,7 +165,7 @@ fn message_at<'a>(config: &Config, kind: FrameKind, text: &'a [u8]) -> Option<Me
     })
 }
 
-#[tactic(auto, unfolding(crate::specs::Reading::frame_at))]
+#[tactic(auto, unfolding(crate::specs::stated::Reading::frame_at))]
 fn frame_at<'a>(config: &Config, kind: FrameKind, bytes: &'a [u8]) -> Frame<&'a [u8]>
     requires limits { IsConfig config.now }
     requires len { length bytes.now ≡ header_len + text_len config.now kind }
@@ -208,7 +209,7 @@ pub fn message_of<'a>(config: &Config, bytes: &'a [u8]) -> Option<Message<&'a [u
 /// memory.
 ///
 /// A string that spells none is refused with the first of 11 to 16 whose test it fails.
-pub fn read<'a>(config: &Config, bytes: &'a [u8]) -> Result<Frame<&'a [u8]>, Fault>
+pub fn read_frame<'a>(config: &Config, bytes: &'a [u8]) -> Result<Frame<&'a [u8]>, Fault>
     requires limits { IsConfig config.now }
     // A frame is given only if the whole string spells it.
     ensures found { IfOk result (λ frame. Spells config.now (owned_frame frame) bytes.now) }
@@ -228,13 +229,13 @@ pub fn read<'a>(config: &Config, bytes: &'a [u8]) -> Result<Frame<&'a [u8]>, Fau
 
 /// The frame that the whole string spells, with a copy of its page [1, 11 to 16].
 ///
-/// A string that spells none is refused as [`read`] refuses it. Its tests take no memory, so 1 is
+/// A string that spells none is refused as [`read_frame`] refuses it. Its tests take no memory, so 1 is
 /// answered only for a string that spells a frame.
 pub fn decode<A: Allocator>(
     alloc: A,
     config: &Config,
     bytes: &[u8],
-) -> Result<Frame<Page<A>>, Fault>
+) -> Result<Frame<OwnedPage<A>>, Fault>
     requires limits { IsConfig config.now }
     // A frame is given only if the whole string spells it.
     ensures found { IfOk result (λ frame. Spells config.now frame bytes.now) }
@@ -245,6 +246,6 @@ pub fn decode<A: Allocator>(
     // A string that spells none is refused with the first test that it fails.
     ensures fault { MatchResult (checked config.now bytes.now) (λ _. IsOkUnless result Fault.Memory) (λ e. result ≡ Err e) }
 {
-    let frame = read(config, bytes)?;
+    let frame = read_frame(config, bytes)?;
     Ok(frame.owned(alloc)?)
 }

@@ -1,7 +1,7 @@
 //! From a frame to its bytes.
 ghost use Rattle.std.specs.Prelude.{◌≡◌, ◌++◌, ◌≤◌, length, take, drop, IfOk, IsOkUnless};
-ghost use Rattle.ivy_model.specs.Config.{IsConfig};
-ghost use Rattle.ivy_wire.specs.Spelling.{Fits, Spells, frame_kind, spelling};
+ghost use Rattle.ivy_model.specs.stated.Config.{IsConfig};
+ghost use Rattle.ivy_wire.specs.stated.Spelling.{Fits, Spells, frame_kind, spelling};
 ghost use Rattle.ivy_wire.specs.Heads.{body_head, body_page, content_head, header};
 ghost use Rattle.ivy_wire.specs.Lent.{owned_content, owned_body, owned_frame};
 

@@ -1,8 +1,10 @@
-//! The workers of a session, two for each node: when each makes a turn, when it sleeps, and what they tell one another. One
-//! makes the turns of the node's program, and while that waits those on the wire too, which else the other one makes.
+//! The two workers of each node: when they make turns, sleep, wake one another and retransmit.
 //!
-//! What a turn does is known to a node's place alone ([`Seat`]). No contract above speaks of workers: what is promised of
-//! a session holds whoever makes the turns, and in whatever order.
+//! One makes the turns of the node's program, and while that waits those on the wire too, which else the other one
+//! makes.
+//!
+//! What a turn does is known to a node's place alone ([`Seat`]). No contract above speaks of workers: what is promised
+//! of a session holds whoever makes the turns, and in whatever order.
 //!
 //! In a comment, numbers in brackets as [1, 17] are the fault numbers that a call may answer.
 #![tactic(auto)]

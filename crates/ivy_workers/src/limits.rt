@@ -1,6 +1,6 @@
 //! The limits of a session.
 ghost use Rattle.std.specs.Prelude.{◌↔◌, IsTrue};
-ghost use Rattle.ivy_workers.specs.Limits.{AreLimits};
+ghost use Rattle.ivy_workers.specs.SessionLimits.{AreLimits};
 
 /// What a session may use.
 #[derive(Clone, Copy, Debug, PartialEq, Eq)]

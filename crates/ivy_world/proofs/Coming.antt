@@ -8,27 +8,27 @@ use Rattle.std.proofs.lemmas.List.{length-map, length-append}
 use Rattle.std.proofs.lemmas.Option.{slice_get-map, slice_get_within, slice_get_cases, get_or_from_slice_get}
 use Rattle.ivy_model.specs.declared.Config.{Config}
 use Rattle.ivy_model.specs.declared.Fault.{Fault}
-use Rattle.ivy_wire.specs.Data.{Message}
-use Rattle.ivy_wire.specs.Spelling.{Spells}
-use Rattle.ivy_moves.specs.ivy_link.Linked.{Linked, peer_at}
-use Rattle.ivy_moves.specs.ivy_link.Paired.{link_at, IsBody, IsMade}
+use Rattle.ivy_wire.specs.stated.Data.{Message}
+use Rattle.ivy_wire.specs.stated.Spelling.{Spells}
+use Rattle.ivy_link.specs.stated.Linked.{Linked, peer_at}
+use Rattle.ivy_link.specs.stated.Paired.{link_at, IsBody, IsMade}
 use Rattle.ivy_moves.specs.declared.Move.{Move}
 use Rattle.ivy_moves.specs.declared.Move.TheVariants.{Turn, Deliver, Pulse}
-use Rattle.ivy_moves.specs.Following.{links_of, IsString}
-use Rattle.ivy_moves.specs.Nodes.{Node}
-use Rattle.ivy_moves.specs.Worlds.{World, Moves}
+use Rattle.ivy_moves.specs.stated.Following.{links_of, IsString}
+use Rattle.ivy_moves.specs.stated.Nodes.{Node}
+use Rattle.ivy_moves.specs.stated.Worlds.{World, Moves}
 use Rattle.ivy_moves.proofs.Places.{link_of}
 use Rattle.ivy_site.proofs.Receiving.{spelled_same}
-use Rattle.ivy_site.specs.ivy_host.Hosts.{Host, host_rules}
-use Rattle.ivy_site.specs.ivy_host.Managers.{Managed, managed_ops}
+use Rattle.ivy_host.specs.stated.Hosts.{Host, host_rules}
+use Rattle.ivy_host.specs.stated.Managers.{Managed, managed_ops}
 use Rattle.ivy_site.specs.SiteView.{SiteView}
-use Rattle.proof_headline.specs.Keeping.{Keeps}
-use Rattle.proof_headline.specs.RunState.{Run}
-use Rattle.proof_headline.specs.proof_progress.Still.{HasNothingUnderWay, IsStill}
-use Rattle.proof_headline.proofs.of_proof_transitions.Places.{get_map}
+use Rattle.proof_worlds.specs.stated.Keeping.{Keeps}
+use Rattle.proof_worlds.specs.stated.RunState.{Run}
+use Rattle.proof_worlds.specs.stated.Still.{HasNothingUnderWay, IsStill}
+use Rattle.proof_table.proofs.transitions.Places.{get_map}
 use Rattle.ivy_world.specs.declared.round.Round.{Round}
 use Rattle.ivy_world.specs.WorldSites.{world_of, AreSites}
-use Rattle.ivy_world.specs.Rounds.{IsUnderWay, HasNoneUnderWay, IsNextMove, Comes, NoneComes, IsPassed, IsRoundMove, DoesNothing, DoesSomething, StaysStill, round_after}
+use Rattle.ivy_world.specs.WorldRounds.{IsUnderWay, HasNoneUnderWay, IsNextMove, Comes, NoneComes, IsPassed, IsRoundMove, DoesNothing, DoesSomething, StaysStill, round_after}
 use Rattle.ivy_world.proofs.Growing.{IsFurther, moves_further}
 
 -- what stands before the end of a list stands there still

@@ -3,18 +3,18 @@ use Rattle.std.proofs.Common.{◌≡◌, ℕ, List, [], ◌∷◌, ◌++◌, map
 use Rattle.std.proofs.lemmas.List.{map-set, set-set}
 use Rattle.std.proofs.lemmas.Option.{slice_get-map, get_or_from_slice_get}
 use Rattle.ivy_model.specs.declared.Config.{Config}
-use Rattle.ivy_model.specs.Config.{IsConfig}
-use Rattle.ivy_program.specs.Programs.{Program}
-use Rattle.ivy_wire.specs.Data.{Frame}
-use Rattle.ivy_moves.specs.ivy_link.declared.Verdict.{Verdict}
-use Rattle.ivy_moves.specs.ivy_link.declared.Verdict.TheVariants as verdict
-use Rattle.ivy_moves.specs.ivy_link.Windows.{Window}
-use Rattle.ivy_site.specs.ivy_host.Managers.{Managed, managed_ops}
-use Rattle.ivy_site.specs.ivy_host.Hosts.{Host, host_rules}
+use Rattle.ivy_model.specs.stated.Config.{IsConfig}
+use Rattle.ivy_program.specs.stated.Programs.{Program}
+use Rattle.ivy_wire.specs.stated.Data.{Frame}
+use Rattle.ivy_link.specs.declared.Verdict.{Verdict}
+use Rattle.ivy_link.specs.declared.Verdict.TheVariants as verdict
+use Rattle.ivy_link.specs.Windows.{Window}
+use Rattle.ivy_host.specs.stated.Managers.{Managed, managed_ops}
+use Rattle.ivy_host.specs.stated.Hosts.{Host, host_rules}
 use Rattle.ivy_moves.specs.declared.Move.{Move}
 use Rattle.ivy_moves.specs.declared.Move.TheVariants as move
-use Rattle.ivy_moves.specs.Nodes.{Node, verdict_of, delivered}
-use Rattle.ivy_moves.specs.Worlds as worlds
+use Rattle.ivy_moves.specs.stated.Nodes.{Node, verdict_of, delivered}
+use Rattle.ivy_moves.specs.stated.Worlds as worlds
 use Rattle.ivy_moves.proofs.Kept.{stays-there}
 use Rattle.ivy_moves.proofs.Places.{set-there}
 use Rattle.ivy_site.specs.SiteView.{SiteView}

@@ -6,22 +6,22 @@ use Rattle.std.proofs.Common.{sym, ap, subst, ◌∙◌, inl, inr, arith, append
 use Rattle.std.proofs.lemmas.Option.{same_Some, none-some}
 use Rattle.ivy_model.specs.declared.Config.{Config}
 use Rattle.ivy_model.specs.declared.Fault.{Fault}
-use Rattle.ivy_wire.specs.Data.{Message, Frame, Parcel}
+use Rattle.ivy_wire.specs.stated.Data.{Message, Frame, Parcel}
 use Rattle.ivy_wire.specs.declared.FrameKind.{FrameKind}
-use Rattle.ivy_wire.specs.DecodeErrors.{checked}
-use Rattle.ivy_wire.specs.Reading.{frame_at}
-use Rattle.ivy_wire.specs.Spelling.{spelling}
-use Rattle.ivy_moves.specs.ivy_link.declared.Verdict.{Verdict}
-use Rattle.ivy_moves.specs.ivy_link.declared.Verdict.TheVariants as verdict
-use Rattle.ivy_moves.specs.ivy_link.Accepted.{verdict_on, offered, delivered_then, heard, accepted}
-use Rattle.ivy_moves.specs.ivy_link.Linked.{Linked, Peer, peer_at, with_peer, has_numbers, sends}
+use Rattle.ivy_wire.specs.stated.DecodeErrors.{checked}
+use Rattle.ivy_wire.specs.stated.Reading.{frame_at}
+use Rattle.ivy_wire.specs.stated.Spelling.{spelling}
+use Rattle.ivy_link.specs.declared.Verdict.{Verdict}
+use Rattle.ivy_link.specs.declared.Verdict.TheVariants as verdict
+use Rattle.ivy_link.specs.stated.Accepted.{verdict_on, offered, delivered_then, heard, accepted}
+use Rattle.ivy_link.specs.stated.Linked.{Linked, Peer, peer_at, with_peer, has_numbers, sends}
 use Rattle.ivy_moves.specs.declared.Move.{Move}
 use Rattle.ivy_moves.specs.declared.Move.TheVariants.{Turn, Deliver, Pulse}
-use Rattle.ivy_moves.specs.Cores.{Core, Outcome}
-use Rattle.ivy_moves.specs.Nodes.{Node, Effect, stays, posting, accepting, turned_to, turned, served_next, received_as, received, delivered_as, delivered, verdict_of, pulsing}
-use Rattle.ivy_moves.specs.Worlds.{World, remembered, gone_on, world_goes_on, remembering, turn_of, delivery_of, pulse_of, made_by, moved, GoesOnWith, MayGoOn, Moves, is_named}
+use Rattle.ivy_moves.specs.stated.Cores.{Core, Outcome}
+use Rattle.ivy_moves.specs.stated.Nodes.{Node, Effect, stays, posting, accepting, turned_to, turned, served_next, received_as, received, delivered_as, delivered, verdict_of, pulsing}
+use Rattle.ivy_moves.specs.stated.Worlds.{World, remembered, gone_on, world_goes_on, remembering, turn_of, delivery_of, pulse_of, made_by, moved, GoesOnWith, MayGoOn, Moves, is_named}
 use Rattle.ivy_moves.proofs.Places.{guarded, set-cases, peer-either}
-use Rattle.ivy_moves.proofs.of_ivy_link.Holds.{sends-delivered, pulsed-delivered}
+use Rattle.ivy_link.proofs.Holds.{sends-delivered, pulsed-delivered}
 
 least : (n m : ℕ) → m ≡ n → n ≤ m
 least n m same = omega (arith, same)

@@ -2,20 +2,20 @@
 use Rattle.std.proofs.Common.{◌≡◌, ℕ, List, [], ◌∷◌, ◌++◌, set, slice_get, Some, None, refl, sym, ap, ◌∙◌, append-nil, inl, inr}
 use Rattle.std.specs.Prelude.{IsSome}
 use Rattle.std.proofs.lemmas.Option.{same_Some}
-use Rattle.proof_headline.proofs.of_proof_transitions.Places.{get_map}
+use Rattle.proof_table.proofs.transitions.Places.{get_map}
 use Rattle.ivy_model.specs.declared.Config.{Config}
 use Rattle.ivy_moves.specs.declared.Move.{Move}
 use Rattle.ivy_moves.specs.declared.Move.TheVariants as move
 use Rattle.ivy_moves.proofs.Places.{set_same}
-use Rattle.ivy_site.specs.ivy_host.Hosts.{turn_of}
-use Rattle.ivy_site.specs.ivy_host.Managers.{managed_ops}
+use Rattle.ivy_host.specs.stated.Hosts.{turn_of}
+use Rattle.ivy_host.specs.stated.Managers.{managed_ops}
 use Rattle.ivy_site.specs.declared.turn.Turn as turn
 use Rattle.ivy_site.specs.declared.turn.Turn.TheVariants.{Idle, Moved, Ended}
 use Rattle.ivy_site.specs.SiteView.{SiteView}
 use Rattle.ivy_site.specs.Sites.{AfterTurn}
 use Rattle.ivy_world.specs.WorldSites.{world_of, AreSites}
 use Rattle.ivy_world.specs.Settling.{HasStopped}
-use Rattle.ivy_world.specs.Rounds.{HasIdleTurn, DoesNothing}
+use Rattle.ivy_world.specs.WorldRounds.{HasIdleTurn, DoesNothing}
 
 -- what the site was and is where its turn is not one that does anything
 quiet_turn : (t : turn.Turn) (old done : SiteView) → AfterTurn t old done

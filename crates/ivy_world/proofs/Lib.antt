@@ -1,10 +1,10 @@
 pub mod Settled
-pub mod Rounds
+pub mod WorldRounds
 pub mod Idling
 pub mod Worlds
 pub mod Making
-pub mod Handed
-pub mod Together
+pub mod HandedWorlds
+pub mod BatchedWorlds
 pub mod GoingOn
 pub mod Growing
 pub mod Coming

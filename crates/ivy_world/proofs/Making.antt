@@ -11,30 +11,30 @@ use Rattle.ivy_model.specs.declared.Fault.{Fault}
 use Rattle.std.specs.Prelude.{IfSome}
 use Rattle.ivy_model.specs.declared.Record.{Record}
 use Rattle.ivy_model.specs.Wants.{RanOut}
-use Rattle.ivy_site.specs.ivy_host.Managers.{Managed, managed_ops}
-use Rattle.ivy_wire.specs.Data.{Frame}
-use Rattle.ivy_moves.specs.ivy_link.declared.Verdict.{Verdict}
-use Rattle.ivy_moves.specs.ivy_link.declared.Verdict.TheVariants as verdict
-use Rattle.ivy_model.specs.Config.{IsConfig}
+use Rattle.ivy_host.specs.stated.Managers.{Managed, managed_ops}
+use Rattle.ivy_wire.specs.stated.Data.{Frame}
+use Rattle.ivy_link.specs.declared.Verdict.{Verdict}
+use Rattle.ivy_link.specs.declared.Verdict.TheVariants as verdict
+use Rattle.ivy_model.specs.stated.Config.{IsConfig}
 use Rattle.ivy_moves.specs.declared.Move.{Move}
 use Rattle.ivy_moves.specs.declared.Move.TheVariants as move
-use Rattle.ivy_moves.specs.Nodes.{Node, Effect, stays, turned, turned_to, pulsing, received_as, verdict_of, delivered}
-use Rattle.ivy_moves.specs.Worlds as worlds
+use Rattle.ivy_moves.specs.stated.Nodes.{Node, Effect, stays, turned, turned_to, pulsing, received_as, verdict_of, delivered}
+use Rattle.ivy_moves.specs.stated.Worlds as worlds
 use Rattle.ivy_site.specs.declared.turn.Turn as turn
 use Rattle.ivy_site.specs.declared.turn.Turn.TheVariants.{Idle, Moved, Ended}
-use Rattle.ivy_site.specs.ivy_host.Hosts.{Host, host_rules}
-use Rattle.ivy_site.specs.ivy_host.Holding.{AllSpell}
-use Rattle.ivy_world.specs.Runs.{IsRefusedBy}
+use Rattle.ivy_host.specs.stated.Hosts.{Host, host_rules}
+use Rattle.ivy_host.specs.stated.Holding.{AllSpell}
+use Rattle.ivy_world.specs.stated.Runs.{IsRefusedBy}
 use Rattle.ivy_site.specs.SiteView.{SiteView, after_pulse_to, after_delivery}
 use Rattle.ivy_site.specs.Sites.{SpellsFrame, early_at, IsMadeByEvents, AfterTurn, IsSpentTurn, SiteDelivers, IsSpentDelivery}
 use Rattle.ivy_world.specs.WorldSites.{programs_of, world_of, run_of, AreSites}
-use Rattle.proof_headline.specs.RunState.{Run}
+use Rattle.proof_worlds.specs.stated.RunState.{Run}
 use Rattle.ivy_moves.specs.Early.{early_as}
 use Rattle.ivy_moves.specs.Keeping.{keeps_history, read_of}
 use Rattle.ivy_moves.proofs.Places.{set-cases}
 use Rattle.ivy_moves.proofs.Kept.{none_after}
 use Rattle.ivy_site.proofs.Made.{turn_made, turn_early, pulse_made-on, pulse_early, delivery_made, delivery_early, all_taken}
-use Rattle.ivy_site.proofs.of_ivy_host.Programs.{turned-program, posting-core, received-program, delivered-is}
+use Rattle.ivy_host.proofs.Programs.{turned-program, posting-core, received-program, delivered-is}
 
 -- one site changed
 

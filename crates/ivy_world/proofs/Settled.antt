@@ -7,23 +7,23 @@ use Rattle.std.proofs.lemmas.Bool.{cases_eq}
 use Rattle.std.proofs.lemmas.Option.{same_Some, slice_get_within, slice_get-map}
 use Rattle.ivy_model.specs.declared.Fault.{Fault}
 use Rattle.ivy_moves.specs.declared.Move.{Move}
-use Rattle.ivy_moves.specs.Worlds.{Moves}
-use Rattle.ivy_moves.specs.Nodes.{Node}
-use Rattle.ivy_site.specs.ivy_host.Hosts.{Host, host_rules, turn_of}
-use Rattle.ivy_site.specs.ivy_host.Managers.{Managed, managed_ops}
+use Rattle.ivy_moves.specs.stated.Worlds.{Moves}
+use Rattle.ivy_moves.specs.stated.Nodes.{Node}
+use Rattle.ivy_host.specs.stated.Hosts.{Host, host_rules, turn_of}
+use Rattle.ivy_host.specs.stated.Managers.{Managed, managed_ops}
 use Rattle.ivy_moves.specs.declared.Move.TheVariants.{Turn, Deliver, Pulse}
-use Rattle.proof_headline.proofs.of_proof_transitions.Places.{get_map}
+use Rattle.proof_table.proofs.transitions.Places.{get_map}
 use Rattle.ivy_world.specs.declared.round.Round.{Round}
 use Rattle.ivy_world.specs.declared.rest.Rest.{Rest}
 use Rattle.ivy_world.specs.declared.rest.Rest.TheVariants.{Going}
-use Rattle.proof_headline.specs.RunState.{Run}
-use Rattle.proof_headline.specs.Reached.{IsLedTo}
-use Rattle.ivy_world.specs.Runs.{IsRefusedBy, IsSameRun}
+use Rattle.proof_worlds.specs.stated.RunState.{Run}
+use Rattle.proof_worlds.specs.stated.Reached.{IsLedTo}
+use Rattle.ivy_world.specs.stated.Runs.{IsRefusedBy, IsSameRun}
 use Rattle.ivy_site.specs.SiteView.{SiteView}
 use Rattle.ivy_world.specs.WorldSites.{world_of}
 use Rattle.ivy_world.specs.Settling.{HasSettledBy, HasStopped, StandsStill}
-use Rattle.proof_headline.specs.proof_progress.Still.{HasNothingUnderWay}
-use Rattle.ivy_world.specs.Rounds.{DoesNothing, IsDeliveredFrom, IsRoundMove, round_after, HadTurns, IsInRound, HasMadeOne, HasRefusedOne}
+use Rattle.proof_worlds.specs.stated.Still.{HasNothingUnderWay}
+use Rattle.ivy_world.specs.WorldRounds.{DoesNothing, IsDeliveredFrom, IsRoundMove, round_after, HadTurns, IsInRound, HasMadeOne, HasRefusedOne}
 use Rattle.ivy_moves.proofs.Leading.{leads_one}
 
 at_end : {A : Type 0} (xs : List A) (x : A) → slice_get (xs ++ x ∷ []) (length xs) ≡ Some x

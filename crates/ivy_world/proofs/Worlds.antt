@@ -4,20 +4,20 @@ use Rattle.std.specs.Result.{result_err}
 use Rattle.std.proofs.lemmas.List.{length-map}
 use Rattle.std.proofs.lemmas.Option.{same_Some, none-some}
 use Rattle.ivy_model.specs.declared.Config.{Config}
-use Rattle.ivy_model.specs.Config.{IsConfig}
+use Rattle.ivy_model.specs.stated.Config.{IsConfig}
 use Rattle.ivy_model.specs.declared.Fault.{Fault}
 use Rattle.ivy_model.specs.declared.Fault.TheVariants.{NoSuchFrame}
-use Rattle.ivy_site.specs.ivy_host.Managers.{Managed, managed_ops}
-use Rattle.ivy_program.specs.Programs.{Program}
+use Rattle.ivy_host.specs.stated.Managers.{Managed, managed_ops}
+use Rattle.ivy_program.specs.stated.Programs.{Program}
 use Rattle.ivy_moves.specs.declared.Move.{Move}
-use Rattle.ivy_moves.specs.Worlds as worlds
-use Rattle.ivy_site.specs.ivy_host.Hosts.{Host, host_rules}
-use Rattle.ivy_site.specs.ivy_host.Openings.{first_nodes, opening}
-use Rattle.proof_headline.specs.Reached.{IsLedTo}
-use Rattle.ivy_world.specs.Runs.{IsRefusedBy, CannotBeNamed, IsNamedUnless}
-use Rattle.ivy_site.specs.ivy_host.Holding.{AllSpell}
+use Rattle.ivy_moves.specs.stated.Worlds as worlds
+use Rattle.ivy_host.specs.stated.Hosts.{Host, host_rules}
+use Rattle.ivy_host.specs.stated.Openings.{first_nodes, opening}
+use Rattle.proof_worlds.specs.stated.Reached.{IsLedTo}
+use Rattle.ivy_world.specs.stated.Runs.{IsRefusedBy, CannotBeNamed, IsNamedUnless}
+use Rattle.ivy_host.specs.stated.Holding.{AllSpell}
 use Rattle.ivy_site.specs.SiteView.{SiteView}
-use Rattle.proof_headline.proofs.Headline.{spelled-led}
+use Rattle.proof_worlds.proofs.headline.Headline.{spelled-led}
 use Rattle.ivy_moves.proofs.Leading.{leads_one}
 use Rattle.ivy_site.specs.Sites.{first_keeping, early_at, IsMadeByEvents}
 use Rattle.ivy_site.proofs.Made.{first_made}

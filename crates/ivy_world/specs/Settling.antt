@@ -2,17 +2,17 @@
 use Rattle.std.specs.Prelude.{◌≡◌, ◌<◌, ◌≤◌, ◌⊎◌, ℕ, List, length, map, slice_get, Some, IsSome, Result, Ok}
 use Rattle.ivy_model.specs.declared.Fault.{Fault}
 use Rattle.ivy_moves.specs.declared.Move.{Move}
-use Rattle.ivy_moves.specs.Nodes.{Node}
-use Rattle.ivy_site.specs.ivy_host.Hosts.{Host, answered_by}
-use Rattle.ivy_site.specs.ivy_host.Managers.{Managed, managed_ops}
-use Rattle.proof_headline.specs.proof_progress.Settled.{AreSettled}
-use Rattle.proof_headline.specs.proof_progress.Still.{IsStill}
-use Rattle.ivy_program.specs.Steps.{HasEnded}
+use Rattle.ivy_moves.specs.stated.Nodes.{Node}
+use Rattle.ivy_host.specs.stated.Hosts.{Host, answered_by}
+use Rattle.ivy_host.specs.stated.Managers.{Managed, managed_ops}
+use Rattle.proof_worlds.specs.stated.Settled.{AreSettled}
+use Rattle.proof_worlds.specs.stated.Still.{IsStill}
+use Rattle.ivy_program.specs.InstructionSteps.{HasEnded}
 use Rattle.ivy_world.specs.declared.rest.Rest.{Rest}
 use Rattle.ivy_world.specs.declared.rest.Rest.TheVariants.{Going}
-use Rattle.proof_headline.specs.RunState.{Run}
-use Rattle.ivy_world.specs.Runs.{made_of, IsRefusedAt, IsNamedAt, IsExplainedOn}
-use Rattle.proof_headline.specs.Reached.{IsLedTo}
+use Rattle.proof_worlds.specs.stated.RunState.{Run}
+use Rattle.ivy_world.specs.stated.Runs.{made_of, IsRefusedAt, IsNamedAt, IsExplainedOn}
+use Rattle.proof_worlds.specs.stated.Reached.{IsLedTo}
 
 -- There are moves, at most so many, of which this is what was done: they were made, or those before
 -- the refused one. Where the world is going on, they are as many.

@@ -6,18 +6,18 @@ use Rattle.ivy_model.specs.declared.Fault.TheVariants.{Memory, BadConfig}
 use Rattle.ivy_site.specs.Handed.{site_handed}
 use Rattle.ivy_site.specs.Sites.{first_keeping, early_at, IsMadeByEvents, IsSpentTurn}
 use Rattle.ivy_model.specs.declared.Config.{Config}
-use Rattle.ivy_model.specs.Config.{IsConfig}
+use Rattle.ivy_model.specs.stated.Config.{IsConfig}
 use Rattle.ivy_model.specs.Wants.{RanOut}
-use Rattle.ivy_site.specs.ivy_host.Managers.{Managed, managed_ops}
-use Rattle.ivy_program.specs.Programs.{Program}
+use Rattle.ivy_host.specs.stated.Managers.{Managed, managed_ops}
+use Rattle.ivy_program.specs.stated.Programs.{Program}
 use Rattle.ivy_moves.specs.declared.keep.Keep.TheVariants.{History}
 use Rattle.ivy_moves.specs.declared.Move.{Move}
-use Rattle.ivy_moves.specs.Worlds as worlds
-use Rattle.ivy_site.specs.ivy_host.Hosts.{Host, host_rules}
+use Rattle.ivy_moves.specs.stated.Worlds as worlds
+use Rattle.ivy_host.specs.stated.Hosts.{Host, host_rules}
 use Rattle.ivy_site.specs.Calls.{BeginsRow}
 use Rattle.ivy_site.specs.SiteView.{SiteView}
-use Rattle.proof_headline.specs.RunState.{Run}
-use Rattle.proof_headline.specs.Reached.{IsReached}
+use Rattle.proof_worlds.specs.stated.RunState.{Run}
+use Rattle.proof_worlds.specs.stated.Reached.{IsReached}
 
 -- the programs of the sites, in order
 abbrev pub programs_of : List SiteView → List Program

@@ -1,7 +1,7 @@
 //! The rounds in which a world settles.
 ghost use Rattle.std.specs.Prelude.{◌≡◌, ◌↔◌, ℕ, ◌<◌, ◌≤◌, ◌+◌, ◌^◌, length, false, IsTrue, IfSome, MatchOption};
 ghost use Rattle.ivy_world.specs.WorldSites.{AreSites};
-ghost use Rattle.ivy_world.specs.Rounds.{IsUnderWay, IsUnderWayTo, HasNoneUnderWay, IsNextMove, IsDeliveredFrom, round_after};
+ghost use Rattle.ivy_world.specs.WorldRounds.{IsUnderWay, IsUnderWayTo, HasNoneUnderWay, IsNextMove, IsDeliveredFrom, round_after};
 
 use ivy_model::Config;
 use ivy_moves::Move;

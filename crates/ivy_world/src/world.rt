@@ -1,33 +1,33 @@
 //! All nodes, and every string ever sent between them.
 ghost use Rattle.std.specs.Prelude.{◌≡◌, ◌+◌, ◌*◌, ◌<◌, ◌≤◌, ◌↔◌, ◌++◌, ◌∷◌, [], true, false, Some, Ok, length, slice_get, slice_set, vec_len, vec_capacity, IsTrue, IfOk, IfErr, IfNone, IfSome, OnOk, OnErr, IsErrOf, IsOkUnless, MatchResult};
-ghost use Rattle.ivy_model.specs.Config.{IsConfig, IsNarrow};
-ghost use Rattle.ivy_model.specs.Legal.{HasWidth};
-ghost use Rattle.ivy_program.specs.Owned.{IsFree};
-ghost use Rattle.ivy_program.specs.Steps.{HasEnded};
-ghost use Rattle.ivy_site.specs.ivy_host.Managers.{managed_ops};
+ghost use Rattle.ivy_model.specs.stated.Config.{IsConfig, IsNarrow};
+ghost use Rattle.ivy_model.specs.stated.Legal.{HasWidth};
+ghost use Rattle.ivy_program.specs.OwnCode.{IsFree};
+ghost use Rattle.ivy_program.specs.InstructionSteps.{HasEnded};
+ghost use Rattle.ivy_host.specs.stated.Managers.{managed_ops};
 ghost use Rattle.ivy_moves.specs.declared.Move.{Move};
-ghost use Rattle.ivy_moves.specs.Worlds.{Moves, is_named};
-ghost use Rattle.ivy_site.specs.ivy_host.Hosts.{host_rules};
-ghost use Rattle.ivy_site.specs.ivy_host.Holding.{AllSpell};
-ghost use Rattle.proof_headline.specs.Keeping.{Keeps};
-ghost use Rattle.ivy_site.specs.ivy_host.Openings.{opening};
+ghost use Rattle.ivy_moves.specs.stated.Worlds.{Moves, is_named};
+ghost use Rattle.ivy_host.specs.stated.Hosts.{host_rules};
+ghost use Rattle.ivy_host.specs.stated.Holding.{AllSpell};
+ghost use Rattle.proof_worlds.specs.stated.Keeping.{Keeps};
+ghost use Rattle.ivy_host.specs.stated.Openings.{opening};
 ghost use Rattle.ivy_model.specs.Rows.{calls_of, numbers_in, row};
 ghost use Rattle.ivy_site.specs.Calls.{MayCallTogether, row_together, words_together};
-ghost use Rattle.ivy_world.specs.Handed.{BeginsBlock, IsRefusedBlock, own_code, run_handed};
-ghost use Rattle.ivy_world.specs.Runs.{made_of, IsRefusedBy, IsNamedUnless, IsSameRun, IsRefusedAt, IsNamedAt, IsExplainedOn};
-ghost use Rattle.proof_headline.specs.Reached.{IsLedTo, IsReached};
+ghost use Rattle.ivy_world.specs.HandedWorlds.{BeginsBlock, IsRefusedBlock, own_code, run_handed};
+ghost use Rattle.ivy_world.specs.stated.Runs.{made_of, IsRefusedBy, IsNamedUnless, IsSameRun, IsRefusedAt, IsNamedAt, IsExplainedOn};
+ghost use Rattle.proof_worlds.specs.stated.Reached.{IsLedTo, IsReached};
 ghost use Rattle.ivy_site.specs.Handed.{site_handed};
 ghost use Rattle.ivy_site.specs.Sites.{await_in};
-ghost use Rattle.proof_headline.specs.proof_progress.Still.{HasNothingUnderWay};
+ghost use Rattle.proof_worlds.specs.stated.Still.{HasNothingUnderWay};
 ghost use Rattle.ivy_world.specs.Settling.{StandsStill, HasSettledBy, Settles, HasSettled, IsFoundStill};
-ghost use Rattle.ivy_world.specs.Rounds.{DoesNothing, DoesSomething, IsComing, NoneComes, IsRoundMove, IsInRound, StaysStill, HasMadeOne, HasRefusedOne};
+ghost use Rattle.ivy_world.specs.WorldRounds.{DoesNothing, DoesSomething, IsComing, NoneComes, IsRoundMove, IsInRound, StaysStill, HasMadeOne, HasRefusedOne};
 ghost use Rattle.ivy_model.specs.Wants.{RanOut};
 ghost use Rattle.ivy_world.specs.WorldSites.{world_of, AreSites, AfterMove, HaveBegun, IsMemory, IsRefusedRow, IsWorldWant, AreFirst};
 
 use crate::rest::Rest;
 use crate::round::{Round, is_delivered, next_move};
+use ivy_link::MOST_AHEAD;
 use ivy_model::{Call, Config, Fault, MOST_NODES, Record, Row};
-use ivy_moves::ivy_link::MOST_AHEAD;
 use ivy_moves::{Keep, Move};
 use ivy_program::Program;
 use ivy_site::{Site, Turn};
@@ -56,16 +56,16 @@ pub struct World<A: Allocator> {
 }
 
 impl<A: Allocator> Model for World<A> {
-    ghost use Rattle.proof_headline.specs.RunState.{Run};
+    ghost use Rattle.proof_worlds.specs.stated.RunState.{Run};
     ghost use Rattle.std.specs.Prelude.{◌≡◌};
     ghost use Rattle.ivy_world.specs.WorldSites.{run_of, world_of, IsRunning};
-    ghost use Rattle.ivy_world.specs.Rounds.{IsPassed};
+    ghost use Rattle.ivy_world.specs.WorldRounds.{IsPassed};
 
     ghost Value = { Run };
 
     ghost use Rattle.std.specs.Coded.{codes};
-    ghost use Rattle.ivy_pagetable.specs.NodeSets.{nodes_code};
-    ghost use Rattle.ivy_site.specs.ivy_alloc.Heap.{heap_state_code};
+    ghost use Rattle.ivy_pagetable.specs.stated.NodeSets.{nodes_code};
+    ghost use Rattle.ivy_alloc.specs.Heap.{heap_state_code};
 
     ghost coded = { Prim.hlevel (codes, nodes_code, heap_state_code) };
 

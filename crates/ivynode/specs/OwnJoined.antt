@@ -5,15 +5,13 @@ use Rattle.std.specs.Io.KnownBytes.{Appends}
 use Rattle.ivy_model.specs.declared.Config.{Config}
 use Rattle.ivy_simulation.specs.Nodes.{numbered_texts}
 use Rattle.ivy_texts.specs.Printed.{then_number}
-use Rattle.ivy_process.specs.ivy_join.ivy_lines.declared.log.Head.{Head}
-use Rattle.ivy_process.specs.ivy_join.ivy_lines.Own.{Entry, SpellsOwnLog}
-use Rattle.ivy_process.specs.ivy_join.ivy_site.SiteView.{SiteView}
-use Rattle.ivy_process.specs.ivy_join.Joined.{AreHeads}
-use Rattle.ivy_process.specs.ivy_join.Owned.{AreAllTold, AreAnswered, AreOwnJoined}
-
--- some text spells this log of own code
-abbrev pub IsOwnSpelled : Head → List Entry → Type 0
-IsOwnSpelled head entries = (text : List ℕ) × SpellsOwnLog text head entries
+use Rattle.ivy_logs.specs.declared.log.LogHead.{LogHead}
+use Rattle.ivy_logs.specs.declared.log.LogKind.TheVariants.{OfOwnCode}
+use Rattle.ivy_logs.specs.Entries.{LogEntry}
+use Rattle.ivy_site.specs.SiteView.{SiteView}
+use Rattle.ivy_join.specs.Joined.{AreHeads}
+use Rattle.ivy_join.specs.OwnJoined.{AreAllTold, AreAnswered, AreOwnJoined}
+use Rattle.ivynode.specs.Joined.{IsSpelled}
 
 -- the line that says how many calls of the node were answered
 abbrev pub answered_line : ℕ → ℕ → List ℕ
@@ -32,9 +30,9 @@ all_answered_in sites = numbered_texts answered_in 0 sites
 -- log has all answers, one flat memory could have given them. How many calls of each node were answered was printed
 pub record PrintsOwnJoined (old new : Option (List ℕ)) : Type 0 where
   pub config : Config
-  pub heads : List Head
-  pub logs : List (List Entry)
-  pub spelled : AllZip IsOwnSpelled heads logs
+  pub heads : List LogHead
+  pub logs : List (List LogEntry)
+  pub spelled : AllZip (IsSpelled OfOwnCode) heads logs
   pub own : AreHeads config 0 heads
   pub sites : List SiteView
   pub joined : AreOwnJoined config logs sites

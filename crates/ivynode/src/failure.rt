@@ -1,11 +1,11 @@
 //! Why a command was not carried out.
 ghost use Rattle.std.specs.Prelude.{◌≡◌, ◌≤◌, ◌↔◌};
-ghost use Rattle.ivy_process.specs.ivy_join.Joined.{SaysNoParts};
+ghost use Rattle.ivy_join.specs.Joined.{SaysNoParts};
 ghost use Rattle.ivynode.specs.Joined.{IsNoRun};
 ghost use Rattle.ivynode.specs.declared.failure.Failure.TheVariants as failure;
 
+use ivy_join::Unjoined;
 use ivy_model::Fault;
-use ivy_process::ivy_join::Unjoined;
 use std::alloc::{AllocError, AllocFailed};
 use std::fmt;
 use std::io::{self, ErrorKind, Write};
@@ -22,7 +22,7 @@ pub enum Failure {
     /// A call was refused.
     Refused(Fault),
     /// A node stopped before its input ended.
-    Stopped(ivy_process::Failure),
+    Stopped(ivy_process::NodeFailure),
     /// The logs are not the parts of one run.
     Unjoined(Unjoined),
     /// Standard output took no more.
@@ -39,7 +39,7 @@ impl Failure {
         match self {
             Failure::BadCommandLine(_) | Failure::CannotRead(_) | Failure::AtFault(_, _) => 2,
             Failure::Refused(Fault::BadConfig | Fault::ProgramFault(_)) => 2,
-            Failure::Stopped(ivy_process::Failure::NotItsLog(_)) => 2,
+            Failure::Stopped(ivy_process::NodeFailure::NotItsLog(_)) => 2,
             Failure::Unjoined(why) => status_of(*why),
             Failure::Refused(_) | Failure::Stopped(_) | Failure::Unwritten => 1,
         }
@@ -65,7 +65,7 @@ fn status_of(why: Unjoined) -> u8
         Unjoined::Refused(_) => 1,
         Unjoined::Missing(_) | Unjoined::Twice(_) | Unjoined::Differs(_) => 2,
         Unjoined::NotSent { .. } | Unjoined::NoSuchEvent { .. } => 3,
-        Unjoined::OtherEvents(_) | Unjoined::OtherAnswers(_) => 3,
+        Unjoined::OtherAnswers(_) => 3,
     }
 }
 
@@ -101,10 +101,10 @@ impl<T: Drop> From<AllocFailed<T>> for Failure {
     }
 }
 
-impl From<ivy_process::Failure> for Failure {
-    fn from(why: ivy_process::Failure) -> Self {
+impl From<ivy_process::NodeFailure> for Failure {
+    fn from(why: ivy_process::NodeFailure) -> Self {
         match why {
-            ivy_process::Failure::Refused(fault) => Failure::Refused(fault),
+            ivy_process::NodeFailure::Refused(fault) => Failure::Refused(fault),
             _ => Failure::Stopped(why),
         }
     }

@@ -1,5 +1,4 @@
-//! The program `ivynode`: one node of a shared memory in a process of its own, the router that joins such nodes, and the
-//! joining of their logs.
+//! The program `ivynode`: its commands and its `main`.
 #![tactic(auto)]
 
 ghost use Rattle.std.specs.Prelude.{◌≡◌, IsOk, MatchResult, map, string_bytes};
@@ -9,18 +8,17 @@ ghost use Rattle.ivynode.specs.Requests.{AsksToJoin, AsksToJoinOwn, IsJoin, IsJo
 
 mod failure;
 mod files;
-mod joining;
-mod owning;
+mod joins;
+mod lines;
+mod node_process;
 mod request;
-mod running;
 mod words;
-mod writing;
 
 use failure::Failure;
-use joining::join_files;
-use owning::join_own_files;
+use joins::{join_files, join_own_files};
+use lines::LineByLine;
+use node_process::{run, run_router};
 use request::{Help, Request, read};
-use running::{run, run_router};
 use std::env;
 use std::fs::File;
 use std::io::{self, BufWriter, Write};
@@ -28,7 +26,6 @@ use std::process::ExitCode;
 use std::rt::{Clock, Env, Files, Stdin};
 use std::sync::Wait;
 use std::thread::Threads;
-use writing::LineByLine;
 
 /// What `--help` prints.
 const HELP: &str = "\

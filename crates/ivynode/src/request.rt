@@ -5,9 +5,9 @@ ghost use Rattle.ivynode.specs.Requests.{AsksToJoin, AsksToJoinOwn, IsJoin, IsJo
 use crate::failure::Failure;
 use crate::words::Words;
 use ivy_model::Kind;
-use ivy_process::ivy_join::ivy_lines::ivy_texts::Settings;
-use ivy_process::{Harm, Limits};
+use ivy_process::{Harm, NodeLimits};
 use ivy_program::parse_number;
+use ivy_texts::Settings;
 use std::alloc::Global;
 
 /// What is told of the program.
@@ -25,7 +25,7 @@ pub(crate) struct Asked<'a> {
     pub(crate) settings: Settings,
     pub(crate) log: Option<&'a str>,
     pub(crate) is_synced: bool,
-    pub(crate) limits: Limits,
+    pub(crate) limits: NodeLimits,
 }
 
 /// What a command line asks for.
@@ -69,8 +69,8 @@ fn settings_of(words: &Words<'_>) -> Result<Settings, Failure> {
     })
 }
 
-fn limits_of(words: &Words<'_>) -> Result<Limits, Failure> {
-    Ok(Limits {
+fn limits_of(words: &Words<'_>) -> Result<NodeLimits, Failure> {
+    Ok(NodeLimits {
         pulse_millis: words.number("--pulse-ms", 20, 1, 60_000)?,
         turns: words.number("--turns", 100_000_000, 1, MOST)?,
         kept: words.number("--kept", 1_000_000, 1, MOST)?,

@@ -1,10 +1,11 @@
-//! The program `ivyscope`: hands the words of the command line, the files and the streams to the commands.
+//! The program `ivyscope`: its `main` alone.
 #![tactic(auto)]
 
 use ivy_model::Fault;
-use ivy_scope::ivy_files::FilesOf;
-use ivy_scope::ivy_replay::Progress;
-use ivy_scope::{Failure, Misuse, perform};
+use ivy_options::Misuse;
+use ivy_replay::Progress;
+use ivy_scope::{ScopeFailure, run_command};
+use ivy_texts::FilesOf;
 use std::env;
 use std::io::{self, BufWriter, ErrorKind, IsTerminal, Write};
 use std::process::ExitCode;
@@ -63,14 +64,14 @@ where
         began: seconds(rt),
         told: 0,
     };
-    Ok(perform(rt, rt.alloc(), &words, &files, &mut out, err, &mut teller))
+    Ok(run_command(rt, &words, &files, &mut out, err, &mut teller))
 }
 
 /// Why the command did not begin.
-fn failure_of(error: &io::Error) -> Failure<'static> {
+fn failure_of(error: &io::Error) -> ScopeFailure<'static> {
     match error.kind() {
-        ErrorKind::OutOfMemory => Failure::Refused(Fault::Memory),
-        _ => Failure::Misused(Misuse::no_text()),
+        ErrorKind::OutOfMemory => ScopeFailure::Refused(Fault::Memory),
+        _ => ScopeFailure::Misused(Misuse::NotUtf8),
     }
 }
 

@@ -1,9 +1,3 @@
-pub mod LinkEvents
-pub mod Events
-pub mod Told
-pub mod Pulsed
-pub mod Turning
-pub mod Falling
-pub mod Counts
-pub mod Answering
-pub use Rattle.proof_progress.proofs as of_proof_progress
+pub mod answers
+pub mod fairness
+pub mod sweeps

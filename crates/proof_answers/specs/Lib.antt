@@ -1,5 +1,3 @@
-pub mod Undropped
-pub mod Pulses
-pub mod Rounds
-pub mod Answered
-pub use Rattle.proof_progress.specs as proof_progress
+pub mod answers
+pub mod fairness
+pub mod sweeps

@@ -1,7 +1,10 @@
-//! The laws of what reaches a node, and of who is answered.
-ghost use Rattle.proof_answers.specs.Answered.{SomeAnswered};
-ghost use Rattle.proof_answers.specs.Undropped.{NothingIsDropped};
-ghost use Rattle.proof_answers.specs.Pulses.{PulsesDeliver, PulsesMoveOn};
+//! The laws of what reaches a node, of who is answered, and of sweeps of pulses.
+ghost use Rattle.proof_answers.specs.answers.Answered.{SomeAnswered};
+ghost use Rattle.proof_answers.specs.answers.Pulses.{PulsesDeliver, PulsesMoveOn};
+ghost use Rattle.proof_answers.specs.answers.Undropped.{NothingIsDropped};
+ghost use Rattle.proof_answers.specs.fairness.Fairness.{CallsAnswered, HeapCallsAnswered};
+ghost use Rattle.proof_answers.specs.sweeps.FewUnderWay.{FewAreUnderWay};
+ghost use Rattle.proof_answers.specs.sweeps.Sweeps.{SweepsAreRounds, SweepsDeliver};
 
 /// Nothing that is undelivered is ever dropped. This is a fact, and the call does nothing.
 ///
@@ -42,4 +45,51 @@ pub fn pulses_move_on()
 /// has no turn; nor that this call is answered.
 pub fn some_call_is_answered()
     ensures { SomeAnswered }
+{}
+
+/// Each due call is answered under managing nodes. This is a fact, and the call does nothing.
+///
+/// In each world that moves lead to from the opening of some programs, under managing nodes, let a call be in progress
+/// at a node that, where it is an await, waits for no more advances of its count than the nodes were told. A round of
+/// that node is any list of moves in which it has a turn, and by whose end each message is delivered that a node had
+/// sent at its beginning. Then 6 N + 3 rounds of N nodes, whatever the others do in them, make the node's history
+/// longer. So nobody is passed over for ever. It says nothing of a message that is never delivered, or of a node that
+/// has no turn; nor of nodes that hint at each other, where others that are answered may pass a call over for ever.
+pub fn calls_are_answered()
+    ensures { CallsAnswered }
+{}
+
+/// Each call of the heap is answered in three rounds. This is a fact, and the call does nothing.
+///
+/// In each world that moves lead to from the opening of some programs, under either manager, let an allocation or a free
+/// be in progress at a node. Then three rounds of that node, as above, make its history longer, whatever the others do
+/// in them. Node 0, which keeps the heap, has no such call in progress: it is answered in the turn that makes it.
+pub fn heap_calls_are_answered()
+    ensures { HeapCallsAnswered }
+{}
+
+/// Few messages are under way. This is a fact, and the call does nothing.
+///
+/// In each world that moves lead to from the opening of some programs, under either manager: of what a node sent
+/// another one, at most as many messages as there are nodes were not delivered there yet. For of each node's call, or of
+/// its order to give a copy up, one message at most is under way between two nodes.
+pub fn few_are_under_way()
+    ensures { FewAreUnderWay }
+{}
+
+/// What three sweeps of pulses achieve. This is a fact, and the call does nothing.
+///
+/// In each world that moves lead to from the opening of some programs, under either manager: a sweep is any list of moves
+/// in which each node pulses each other one, and the strings of each pulse are delivered, in the order in which they were
+/// sent, whatever other moves are made between. After three of them each message is delivered that a node had sent
+/// another one before the first. It says nothing where a string that a pulse sent is lost.
+pub fn sweeps_deliver()
+    ensures { SweepsDeliver }
+{}
+
+/// Three sweeps of pulses are a round. This is a fact, and the call does nothing.
+///
+/// They are one of each node that has a turn in them, as the law of the calls that are answered speaks of rounds.
+pub fn sweeps_are_rounds()
+    ensures { SweepsAreRounds }
 {}

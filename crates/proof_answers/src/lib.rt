@@ -1,8 +1,20 @@
-//! Who is answered, and when. Nothing undelivered is ever dropped ([`nothing_is_dropped`]), and what a pulse achieves
-//! whose strings are delivered in order ([`pulses_deliver`]), and two of them ([`pulses_move_on`]). In rounds of a node whose call is due somebody is answered
-//! ([`some_call_is_answered`]). All else here is definitions and lemmas.
+//! Which calls are answered, in how many rounds, and what pulses and sweeps deliver.
+//!
+//! Nothing undelivered is ever dropped ([`nothing_is_dropped`]), and what a pulse achieves whose strings are delivered
+//! in order ([`pulses_deliver`]), and two of them ([`pulses_move_on`]). In rounds of a node whose call is due somebody
+//! is answered ([`some_call_is_answered`]). All else here is definitions and lemmas.
+//!
+//! Who is answered: under managing nodes each node ([`calls_are_answered`]), and under either manager each one that
+//! allocates or frees ([`heap_calls_are_answered`]). All else here is definitions and lemmas.
+//!
+//! What sweeps of pulses achieve: few messages are under way between two nodes ([`few_are_under_way`]), so three sweeps
+//! deliver all that had been sent before ([`sweeps_deliver`]), and are a round ([`sweeps_are_rounds`]). All else here
+//! is definitions and lemmas.
 #![tactic(auto)]
 
 mod law;
 
-pub use law::{nothing_is_dropped, pulses_deliver, pulses_move_on, some_call_is_answered};
+pub use law::{
+    calls_are_answered, few_are_under_way, heap_calls_are_answered, nothing_is_dropped,
+    pulses_deliver, pulses_move_on, some_call_is_answered, sweeps_are_rounds, sweeps_deliver,
+};

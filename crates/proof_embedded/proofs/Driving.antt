@@ -10,30 +10,30 @@ use Rattle.ivy_model.specs.declared.Record.{Record}
 use Rattle.ivy_model.specs.declared.Reply as reply
 use Rattle.ivy_model.specs.declared.Row.{Row}
 use Rattle.ivy_model.specs.declared.Row.TheVariants.{Loads, Stores}
-use Rattle.ivy_model.specs.Config.{IsConfig}
+use Rattle.ivy_model.specs.stated.Config.{IsConfig}
 use Rattle.ivy_model.specs.Rows.{calls_of, numbers_in, row}
-use Rattle.ivy_program.specs.Programs.{Program, Called}
-use Rattle.ivy_moves.specs.Nodes.{pulsing}
+use Rattle.ivy_program.specs.stated.Programs.{Program, Called}
+use Rattle.ivy_moves.specs.stated.Nodes.{pulsing}
 use Rattle.ivy_moves.specs.declared.Move.{Move}
 use Rattle.ivy_moves.specs.declared.Move.TheVariants as move
 use Rattle.ivy_moves.specs.declared.keep.Keep.TheVariants.{History}
-use Rattle.ivy_moves.specs.ivy_link.declared.Verdict.{Verdict}
+use Rattle.ivy_link.specs.declared.Verdict.{Verdict}
 use Rattle.ivy_moves.proofs.Places.{set-cases, set-there, set_same}
-use Rattle.ivy_embedded.specs.ivy_site.declared.turn.Turn.TheVariants.{Moved}
-use Rattle.ivy_embedded.specs.ivy_site.Calls.{AreAnswered, AreTaken, BeginsRow}
-use Rattle.ivy_embedded.specs.ivy_site.Handed.{site_handed}
-use Rattle.ivy_embedded.specs.ivy_site.SiteView.{SiteView, after_pulse_to}
-use Rattle.ivy_embedded.specs.ivy_site.Sites.{SiteTurns, AfterDelivery, first_keeping}
+use Rattle.ivy_site.specs.declared.turn.Turn.TheVariants.{Moved}
+use Rattle.ivy_site.specs.Calls.{AreAnswered, AreTaken, BeginsRow}
+use Rattle.ivy_site.specs.Handed.{site_handed}
+use Rattle.ivy_site.specs.SiteView.{SiteView, after_pulse_to}
+use Rattle.ivy_site.specs.Sites.{SiteTurns, AfterDelivery, first_keeping}
 use Rattle.ivy_embedded.specs.Nodes.{Embedded, first_embedded, strings_of, waiting_in}
 use Rattle.ivy_embedded.specs.Exports.{AfterBegin, AfterCall, ChangesWaiting, Takes}
 use Rattle.ivy_embedded.specs.declared.status.TheConstants.{DONE, SHORT_BUFFER, NO_FRAME}
-use Rattle.proof_headline.specs.Keeping.{Keeps}
+use Rattle.proof_worlds.specs.stated.Keeping.{Keeps}
 use Rattle.ivy_world.specs.WorldSites.{programs_of, world_of, run_of, IsRunning, first_sites_from, AfterMove}
 use Rattle.ivy_world.proofs.GoingOn.{went_there, delivery_went}
 use Rattle.ivy_world.proofs.Making.{turn_went, pulse_went}
-use Rattle.ivy_world.proofs.Handed.{handed_running}
+use Rattle.ivy_world.proofs.HandedWorlds.{handed_running}
 use Rattle.ivy_world.proofs.Worlds.{first_running-of, running_each, runs_on}
-use Rattle.proof_headline.proofs.Headline.{keeps-reached}
+use Rattle.proof_worlds.proofs.headline.Headline.{keeps-reached}
 use Rattle.proof_embedded.specs.Driven.{Request, Begin, Reply, LoadBlock, StoreBlock, BeginLoadBlock, BeginStoreBlock, TakeLoadBlock, TakeStoreBlock, Deliver, NextFrame, Pulse, Driven, TakesOut, Does, Asks, DrivesTo, first_from, opened, node_in, program_in, AreOfOneRun, DrivenNodesAreOfOneRun}
 use Rattle.proof_embedded.proofs.Emptied.{with_strings, turn_carries, delivery_carries, pulse_carries}
 

@@ -1,13 +1,13 @@
 -- What a site does with the strings that wait at it, it does with any others there, and whatever
 -- lists of its past it keeps.
 use Rattle.std.proofs.Common.{◌≡◌, ℕ, List, [], ◌∷◌, ◌++◌, append-nil, append_assoc, refl, sym, ap, subst, ◌∙◌}
-use Rattle.ivy_wire.specs.Data.{Frame}
-use Rattle.ivy_moves.specs.Nodes.{pulsing}
-use Rattle.ivy_moves.specs.ivy_link.declared.Verdict.{Verdict}
-use Rattle.ivy_moves.specs.ivy_link.declared.Verdict.TheVariants as verdict
+use Rattle.ivy_wire.specs.stated.Data.{Frame}
+use Rattle.ivy_moves.specs.stated.Nodes.{pulsing}
+use Rattle.ivy_link.specs.declared.Verdict.{Verdict}
+use Rattle.ivy_link.specs.declared.Verdict.TheVariants as verdict
 use Rattle.ivy_moves.specs.declared.keep.Keep.TheVariants.{History}
-use Rattle.ivy_embedded.specs.ivy_site.SiteView.{SiteView, after_pulse_to}
-use Rattle.ivy_embedded.specs.ivy_site.Sites.{SiteTurns, SiteDelivers, GoesOnOnce, SiteGoesOn, FollowsDelivery, AfterDelivery, holding_in}
+use Rattle.ivy_site.specs.SiteView.{SiteView, after_pulse_to}
+use Rattle.ivy_site.specs.Sites.{SiteTurns, SiteDelivers, GoesOnOnce, SiteGoesOn, FollowsDelivery, AfterDelivery, holding_in}
 
 -- the site with these strings
 abbrev pub with_strings : List (List ℕ) → SiteView → SiteView

@@ -2,16 +2,16 @@
 use Rattle.std.specs.Prelude.{◌≡◌, ◌≢◌, ◌⊎◌, ℕ, zero, suc, ◌+◌, List, [], ◌∷◌, ◌++◌, take, map, slice_get, slice_set, Some, Contains}
 use Rattle.ivy_model.specs.declared.Config.{Config}
 use Rattle.ivy_model.specs.declared.Row.TheVariants.{Loads, Stores}
-use Rattle.ivy_model.specs.Config.{IsConfig}
-use Rattle.ivy_program.specs.Programs.{Program}
-use Rattle.ivy_moves.specs.Nodes.{Node}
-use Rattle.ivy_moves.specs.Worlds.{World}
-use Rattle.ivy_embedded.specs.ivy_site.ivy_host.Hosts.{Host}
-use Rattle.ivy_embedded.specs.ivy_site.ivy_host.Managers.{Managed}
+use Rattle.ivy_model.specs.stated.Config.{IsConfig}
+use Rattle.ivy_program.specs.stated.Programs.{Program}
+use Rattle.ivy_moves.specs.stated.Nodes.{Node}
+use Rattle.ivy_moves.specs.stated.Worlds.{World}
+use Rattle.ivy_host.specs.stated.Hosts.{Host}
+use Rattle.ivy_host.specs.stated.Managers.{Managed}
 use Rattle.ivy_embedded.specs.Nodes.{Embedded, first_embedded}
 use Rattle.ivy_embedded.specs.Exports.{Answers, Begins, BeginsBlock, CarriesOut, Delivers, IsRequest, Polls, Pulses, RefusesCall, RefusesPoll, RefusesPulse, RefusesString, TakesAt, TakesBlock, TellsWant}
 use Rattle.ivy_embedded.specs.declared.status.TheConstants.{DONE}
-use Rattle.proof_headline.specs.Keeping.{Keeps}
+use Rattle.proof_worlds.specs.stated.Keeping.{Keeps}
 
 -- what the program asks of a node; the five numbers are those that a call is begun with, and a block
 -- is read or written from an address on, or begun, and then taken, with these bytes of its buffer

@@ -1,5 +1,6 @@
-//! What nodes are that a program drives by the functions of a C header, whatever it does with them
-//! ([`driven_nodes_are_of_one_run`]). All else here is definitions and lemmas.
+//! Nodes that a program drives through the C functions are the nodes of one run.
+//!
+//! All else here is definitions and lemmas.
 #![tactic(auto)]
 
 mod law;

@@ -1,13 +1,13 @@
 //! The heap: least addresses, blocks that end and join, drawn calls beside a plain list of blocks, and
 //! each growth refused in turn.
 use crate::common::{expect_same, expect_same_at};
-use failing_alloc::Failing;
-use ivy_host::ivy_alloc::Heap;
+use ivy_alloc::Heap;
 use ivy_model::{Config, Fault, Kind};
 use rand_core::utils::NextWord;
 use rand_pcg::Lcg64Xsh32;
 use std::alloc::{Allocator, Global};
 use std::process::Abort;
+use test_support::Failing;
 
 /// A heap of one page, from 64 to 127.
 const SMALL: Config = Config {

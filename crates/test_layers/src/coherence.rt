@@ -1,17 +1,17 @@
 //! Faults and requests at one of three nodes, under managing nodes.
-ghost use Rattle.ivy_pagetable.specs.Words.{IsWord};
+ghost use Rattle.ivy_pagetable.specs.stated.Words.{IsWord};
 
 use crate::letters::{Bytes, Letter, Said, message, received};
 use crate::posted::Posted;
-use failing_alloc::Failing;
-use ivy_host::ivy_coherence::{Coherence, Need};
-use ivy_host::ivy_fixed::FixedManager;
+use ivy_coherence::{Coherence, Need};
+use ivy_fixed::FixedManager;
 use ivy_model::{Config, Fault, Kind};
 use ivy_pagetable::{Out, Word};
 use std::alloc::{Allocator, Global};
 use std::marker::Model;
 use std::process::Abort;
 use std::test::Fail;
+use test_support::Failing;
 
 /// Three nodes, and two pages of 64 bytes. Node 1 keeps the owner of page 1.
 const TRIO: Config = Config {
@@ -43,12 +43,12 @@ struct Node<A: Allocator> {
 impl<A: Allocator> Model for Node<A> {
     ghost use Rattle.std.specs.Prelude.{◌≡◌, ℕ, List};
     ghost use Rattle.ivy_model.specs.declared.Config as declared;
-    ghost use Rattle.ivy_wire.specs.Data as wire;
-    ghost use Rattle.ivy_host.specs.ivy_fixed.Fixed.{Owners};
-    ghost use Rattle.ivy_host.specs.ivy_coherence.Coherent.{Coherent};
+    ghost use Rattle.ivy_wire.specs.stated.Data as wire;
+    ghost use Rattle.ivy_fixed.specs.stated.Fixed.{Owners};
+    ghost use Rattle.ivy_coherence.specs.stated.Coherent.{Coherent};
     ghost use Rattle.test_layers.specs.declared.coherence.TheConstants.{TRIO};
     ghost use Rattle.std.specs.Coded.{codes};
-    ghost use Rattle.ivy_pagetable.specs.NodeSets.{nodes_code};
+    ghost use Rattle.ivy_pagetable.specs.stated.NodeSets.{nodes_code};
 
     ghost Value = { Coherent Owners × (declared.Config × ℕ × List wire.Parcel) };
 

@@ -1,6 +1,6 @@
 //! The manager of pages by hints.
 use crate::managers::{Calls, Told, check};
-use ivy_host::ivy_dynamic::DynamicManager;
+use ivy_dynamic::DynamicManager;
 use ivy_model::{Config, Kind};
 use std::process::Abort;
 use std::test::Fail;

@@ -1,6 +1,6 @@
 //! Eventcounts as words of page 0.
 use crate::common::expect_same;
-use ivy_host::ivy_event::{advance, await_at_least, read};
+use ivy_event::{advance, await_at_least, read};
 use ivy_model::{Config, Fault, Kind};
 use ivy_pagetable::Word;
 

@@ -1,6 +1,6 @@
 //! The manager of pages by managing nodes.
 use crate::managers::{Calls, Told, all_hops, check, names, tell};
-use ivy_host::ivy_fixed::FixedManager;
+use ivy_fixed::FixedManager;
 use ivy_model::{Config, Kind};
 use ivy_pagetable::Manager;
 use std::alloc::Global;

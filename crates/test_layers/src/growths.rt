@@ -3,12 +3,12 @@
 
 use crate::letters::{Bytes, Said};
 use crate::memory::{Node, Scene, Step, check_node};
-use failing_alloc::Failing;
-use ivy_host::ivy_memory::Answer;
+use ivy_memory::CallProgress;
 use ivy_model::{Call, Fault, Reply};
 use std::alloc::{Allocator, Global};
 use std::process::Abort;
 use std::test::Fail;
+use test_support::Failing;
 
 /// What a node does while a growth is refused, what goes before it, and what it does after that.
 pub(crate) struct Growing<'a> {
@@ -78,9 +78,9 @@ static CALL_ASKS: Growing<'static> = Growing {
         steps: &[
             Step::Asked(None),
             Step::Posted(0),
-            Step::Awaits(1, 3, Ok(Answer::Awaited)),
+            Step::Awaits(1, 3, Ok(CallProgress::Awaited)),
             Step::Comes(0, (Said::Copy(Bytes::Ones), 1, 3)),
-            Step::Polls(Ok(Answer::Given(Reply::Value(u64::MAX)))),
+            Step::Polls(Ok(CallProgress::Given(Reply::Value(u64::MAX)))),
         ],
         posted: &[(0, (Said::Request, 1, 3))],
     },
@@ -95,7 +95,7 @@ fn growths_of_a_reply_that_asks(rt: HostRuntime) -> Result<(), Fail> {
 
 static REPLY_ASKS: Growing<'static> = Growing {
     before: &[
-        Step::Awaits(1, 3, Ok(Answer::Awaited)),
+        Step::Awaits(1, 3, Ok(CallProgress::Awaited)),
         Step::Comes(0, (Said::Copy(Bytes::Zeros), 1, 3)),
         Step::Comes(0, (Said::Order, 0, 9)),
     ],
@@ -105,9 +105,9 @@ static REPLY_ASKS: Growing<'static> = Growing {
         steps: &[
             Step::Asked(Some(Call::Await { k: 0, least: 1 })),
             Step::Posted(2),
-            Step::Polls(Ok(Answer::Awaited)),
+            Step::Polls(Ok(CallProgress::Awaited)),
             Step::Comes(0, (Said::Copy(Bytes::Ones), 1, 3)),
-            Step::Polls(Ok(Answer::Given(Reply::Value(u64::MAX)))),
+            Step::Polls(Ok(CallProgress::Given(Reply::Value(u64::MAX)))),
         ],
         posted: &[
             (0, (Said::Request, 1, 3)),
@@ -130,9 +130,9 @@ static REQUEST_FOR_THE_PAGE: Growing<'static> = Growing {
         me: 0,
         steps: &[
             Step::Posted(0),
-            Step::Reads(0, 1, Ok(Answer::Given(Reply::Value(0)))),
+            Step::Reads(0, 1, Ok(CallProgress::Given(Reply::Value(0)))),
             Step::Comes(1, (Said::WriteRequest, 1, 7)),
-            Step::Reads(0, 2, Ok(Answer::Awaited)),
+            Step::Reads(0, 2, Ok(CallProgress::Awaited)),
             Step::Breaches(0),
         ],
         posted: &[

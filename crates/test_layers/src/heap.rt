@@ -3,7 +3,7 @@
 use crate::growths::{Growing, refuse_each};
 use crate::letters::{Letter, Said};
 use crate::memory::{Node, Outcome, Scene, Step, check, check_node};
-use ivy_host::ivy_memory::Answer;
+use ivy_memory::CallProgress;
 use ivy_model::{Call, Fault, Reply};
 use std::alloc::Global;
 use std::process::Abort;
@@ -11,20 +11,20 @@ use std::test::Fail;
 
 /// What calls come to: the block at address 64, where the heap begins; the end of a block; and the refusals of no
 /// bytes, of more than there is room for, and of the end of a block that is not there.
-const AT_64: Outcome = Ok(Answer::Given(Reply::Value(64)));
+const AT_64: Outcome = Ok(CallProgress::Given(Reply::Value(64)));
 
-const DONE: Outcome = Ok(Answer::Given(Reply::Done));
+const DONE: Outcome = Ok(CallProgress::Given(Reply::Done));
 
-const NO_BYTES: Outcome = Ok(Answer::Given(Reply::Refused(8)));
+const NO_BYTES: Outcome = Ok(CallProgress::Given(Reply::Refused(8)));
 
-const NO_ROOM: Outcome = Ok(Answer::Given(Reply::Refused(9)));
+const NO_ROOM: Outcome = Ok(CallProgress::Given(Reply::Refused(9)));
 
-const NO_BLOCK: Outcome = Ok(Answer::Given(Reply::Refused(10)));
+const NO_BLOCK: Outcome = Ok(CallProgress::Given(Reply::Refused(10)));
 
 /// Node 0 has to be asked, or has not answered yet.
-const AWAITED: Outcome = Ok(Answer::Awaited);
+const AWAITED: Outcome = Ok(CallProgress::Awaited);
 
-const UNSERVED: Outcome = Ok(Answer::Unserved);
+const UNSERVED: Outcome = Ok(CallProgress::Unserved);
 
 /// Node 1 asks for 8 bytes by its first call, and is given the block at 64.
 const WANTS_8: Letter = (Said::BlockRequest(8), 1, 1);

@@ -1,7 +1,7 @@
 //! Strings that a link holds until those before them have come.
 ghost use Rattle.std.specs.Prelude.{◌≡◌, length};
 
-use ivy_moves::ivy_link::{Link, MOST_AHEAD};
+use ivy_link::{Link, MOST_AHEAD};
 use ivy_wire::{Bytes, Frame};
 use std::alloc::Global;
 use std::process::Abort;

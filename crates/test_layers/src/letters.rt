@@ -1,7 +1,7 @@
 //! Messages about one page or of the heap, as rows of tables.
 ghost use Rattle.std.specs.Prelude.{◌≢◌, ◌<◌, IfOk, OnOk};
 ghost use Rattle.ivy_wire.specs.Lent.{owned_message};
-ghost use Rattle.ivy_wire.specs.Spelling.{FitsMessage};
+ghost use Rattle.ivy_wire.specs.stated.Spelling.{FitsMessage};
 
 use ivy_model::Config;
 use ivy_wire::{Content, Frame, Message};

@@ -1,11 +1,10 @@
-//! Tests of the crates below the nodes, by their public calls alone: calls, bytes, tables, the heap, the program
-//! language, and the layers that messages go through, up to the memory of one node.
+//! Tests of the layers below a whole node, through their public calls.
 //!
-//! What the contracts say is proved, so these tests hold what no contract says: values of the worked
-//! examples, that a call can succeed, and that a refused growth leaves all as it was.
+//! What the contracts say is proved, so these tests hold what no contract says: values of the worked examples, that a
+//! call can succeed, and that a refused growth leaves all as it was.
 //!
-//! A helper ends its test where memory runs out and gives no `Err` back, since each `?` is a way out of
-//! the test that has to be proved too.
+//! A helper ends its test where memory runs out and gives no `Err` back, since each `?` is a way out of the test that
+//! has to be proved too.
 #![tactic(auto)]
 
 #[cfg(test)]

@@ -1,11 +1,11 @@
 //! Messages between nodes: numbered, acknowledged, sent again, and told apart.
 ghost use Rattle.std.specs.Prelude.{◌≡◌, ◌<◌, length, map, IfOk};
 ghost use Rattle.ivy_wire.specs.Lent.{owned_parcel};
-ghost use Rattle.ivy_moves.specs.ivy_link.Holding.{AreToPeers};
+ghost use Rattle.ivy_link.specs.Holding.{AreToPeers};
 
 use crate::letters::{Bytes, Said, message};
-use ivy_moves::ivy_link::{Link, Verdict, delivers_in_order};
-use ivy_wire::{Frame, Message, Page, Parcel};
+use ivy_link::{Link, Verdict, delivers_in_order};
+use ivy_wire::{Frame, Message, OwnedPage, Parcel};
 use std::alloc::Global;
 use std::process::Abort;
 use std::test::Fail;
@@ -92,7 +92,7 @@ fn are(frames: &[Frame<&[u8]>], rows: &[Row]) -> bool {
     frames.len() == rows.len()
 }
 
-fn are_owned(frames: &[Frame<Page<Global>>], rows: &[Row]) -> bool {
+fn are_owned(frames: &[Frame<OwnedPage<Global>>], rows: &[Row]) -> bool {
     for (sent, row) in frames.iter().zip(rows) {
         if !is(&sent.lent(), *row) {
             return false;

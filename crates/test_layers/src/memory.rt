@@ -1,10 +1,10 @@
 //! Calls at one of two nodes, under managing nodes.
-ghost use Rattle.ivy_model.specs.Legal.{HasWidth};
+ghost use Rattle.ivy_model.specs.stated.Legal.{HasWidth};
 
 use crate::letters::{Bytes, Letter, Said, message, received};
 use crate::posted::Posted;
-use ivy_host::ivy_fixed::FixedManager;
-use ivy_host::ivy_memory::{Answer, Memory};
+use ivy_fixed::FixedManager;
+use ivy_memory::{CallProgress, Memory};
 use ivy_model::{Call, Config, Fault, Kind, Reply};
 use ivy_wire::Message;
 use std::alloc::Allocator;
@@ -30,13 +30,13 @@ pub(crate) struct Node<A: Allocator> {
 impl<A: Allocator> Model for Node<A> {
     ghost use Rattle.std.specs.Prelude.{◌≡◌, ℕ, List};
     ghost use Rattle.ivy_model.specs.declared.Config as declared;
-    ghost use Rattle.ivy_wire.specs.Data as wire;
-    ghost use Rattle.ivy_host.specs.ivy_fixed.Fixed.{Owners};
-    ghost use Rattle.ivy_host.specs.ivy_memory.Memories as memories;
+    ghost use Rattle.ivy_wire.specs.stated.Data as wire;
+    ghost use Rattle.ivy_fixed.specs.stated.Fixed.{Owners};
+    ghost use Rattle.ivy_memory.specs.stated.Memories as memories;
     ghost use Rattle.test_layers.specs.declared.memory.TheConstants.{PAIR};
     ghost use Rattle.std.specs.Coded.{codes};
-    ghost use Rattle.ivy_pagetable.specs.NodeSets.{nodes_code};
-    ghost use Rattle.ivy_host.specs.ivy_alloc.Heap.{heap_state_code};
+    ghost use Rattle.ivy_pagetable.specs.stated.NodeSets.{nodes_code};
+    ghost use Rattle.ivy_alloc.specs.Heap.{heap_state_code};
 
     ghost Value = { memories.NodeMemory Owners × (declared.Config × ℕ × List wire.Parcel) };
 
@@ -48,7 +48,7 @@ impl<A: Allocator> Model for Node<A> {
 }
 
 /// What a call comes to.
-pub(crate) type Outcome = Result<Answer, Fault>;
+pub(crate) type Outcome = Result<CallProgress, Fault>;
 
 /// What happens to a node, or what it shows.
 #[derive(Clone, Copy)]
@@ -202,9 +202,9 @@ pub(crate) fn check<R: Abort + AllocGlobal>(rt: &R, scene: &Scene) -> Result<(),
 }
 
 /// The reply of a count at 0, and of one at its greatest value.
-const ZERO: Outcome = Ok(Answer::Given(Reply::Value(0)));
+const ZERO: Outcome = Ok(CallProgress::Given(Reply::Value(0)));
 
-const MOST: Outcome = Ok(Answer::Given(Reply::Value(u64::MAX)));
+const MOST: Outcome = Ok(CallProgress::Given(Reply::Value(u64::MAX)));
 
 /// An awaited count comes too low. The word is tried again without an answer, and nothing is posted; once the
 /// copy is given up it faults again, under the same number; and the next copy has the count.
@@ -216,25 +216,25 @@ fn an_await_without_a_copy(rt: HostRuntime) -> Result<(), Fail> {
 static WITHOUT_A_COPY: Scene<'static> = Scene {
     me: 1,
     steps: &[
-        Step::Awaits(1, 3, Ok(Answer::Awaited)),
-        Step::Polls(Ok(Answer::Unserved)),
+        Step::Awaits(1, 3, Ok(CallProgress::Awaited)),
+        Step::Polls(Ok(CallProgress::Unserved)),
         Step::Posted(1),
         Step::Comes(0, (Said::Copy(Bytes::Zeros), 1, 3)),
-        Step::Polls(Ok(Answer::Unserved)),
-        Step::Polls(Ok(Answer::Unserved)),
+        Step::Polls(Ok(CallProgress::Unserved)),
+        Step::Polls(Ok(CallProgress::Unserved)),
         Step::Posted(1),
         Step::Asked(Some(Call::Await { k: 0, least: 1 })),
         Step::Comes(0, (Said::Order, 0, 9)),
         Step::IsFull(true),
         Step::Polls(Err(Fault::Memory)),
         Step::IsFull(false),
-        Step::Polls(Ok(Answer::Awaited)),
-        Step::Polls(Ok(Answer::Unserved)),
+        Step::Polls(Ok(CallProgress::Awaited)),
+        Step::Polls(Ok(CallProgress::Unserved)),
         Step::Posted(3),
         Step::Comes(0, (Said::Copy(Bytes::Ones), 1, 3)),
         Step::Polls(MOST),
         Step::Asked(None),
-        Step::Polls(Ok(Answer::Unserved)),
+        Step::Polls(Ok(CallProgress::Unserved)),
         Step::Awaits(u64::MAX, 4, MOST),
     ],
     posted: &[
@@ -254,11 +254,11 @@ static OWNER_AWAITS: Scene<'static> = Scene {
     me: 0,
     steps: &[
         Step::Awaits(0, 1, ZERO),
-        Step::Awaits(5, 2, Ok(Answer::Awaited)),
-        Step::Polls(Ok(Answer::Unserved)),
+        Step::Awaits(5, 2, Ok(CallProgress::Awaited)),
+        Step::Polls(Ok(CallProgress::Unserved)),
         Step::Posted(0),
         Step::Comes(1, (Said::WriteRequest, 1, 7)),
-        Step::Polls(Ok(Answer::Awaited)),
+        Step::Polls(Ok(CallProgress::Awaited)),
         Step::Posted(2),
         Step::Comes(1, (Said::Copy(Bytes::Ones), 0, 2)),
         Step::Polls(MOST),
@@ -279,7 +279,7 @@ fn a_call_beside_another(rt: HostRuntime) -> Result<(), Fail> {
 static BESIDE_ANOTHER: Scene<'static> = Scene {
     me: 0,
     steps: &[
-        Step::Awaits(1, 1, Ok(Answer::Awaited)),
+        Step::Awaits(1, 1, Ok(CallProgress::Awaited)),
         Step::Reads(0, 1, Err(Fault::Busy)),
         Step::Reads(8, 2, Err(Fault::Busy)),
         Step::Allocates(8, 2, Err(Fault::Busy)),
@@ -287,11 +287,11 @@ static BESIDE_ANOTHER: Scene<'static> = Scene {
         Step::Advances(0, 2, Err(Fault::Busy)),
         Step::Posted(1),
         Step::Asked(Some(Call::Await { k: 0, least: 1 })),
-        Step::Polls(Ok(Answer::Awaited)),
+        Step::Polls(Ok(CallProgress::Awaited)),
         Step::Reads(0, 2, Err(Fault::Busy)),
         Step::Comes(1, (Said::Copy(Bytes::Ones), 0, 1)),
         Step::Polls(MOST),
-        Step::Reads(8, 2, Ok(Answer::Given(Reply::Refused(6)))),
+        Step::Reads(8, 2, Ok(CallProgress::Given(Reply::Refused(6)))),
     ],
     posted: &[
         (1, (Said::Whole(0, Bytes::Zeros), 1, 7)),

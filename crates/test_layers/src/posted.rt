@@ -3,7 +3,7 @@ ghost use Rattle.std.specs.Prelude.{◌≡◌, []};
 
 use crate::letters::{Letter, message};
 use ivy_model::{Config, Fault};
-use ivy_wire::{Message, Page, Parcel, Post};
+use ivy_wire::{Message, OwnedPage, Parcel, Post};
 use std::alloc::Allocator;
 use std::marker::Model;
 
@@ -13,14 +13,14 @@ pub(crate) struct Posted<A: Allocator> {
     alloc: A,
     config: Config,
     node: u8,
-    parcels: Vec<Parcel<Page<A>>, A>,
+    parcels: Vec<Parcel<OwnedPage<A>>, A>,
     is_full: bool,
 }
 
 impl<A: Allocator> Model for Posted<A> {
     ghost use Rattle.std.specs.Prelude.{ℕ, List};
     ghost use Rattle.ivy_model.specs.declared.Config as declared;
-    ghost use Rattle.ivy_wire.specs.Data as wire;
+    ghost use Rattle.ivy_wire.specs.stated.Data as wire;
 
     ghost Value = { declared.Config × ℕ × List wire.Parcel };
 
@@ -47,7 +47,7 @@ impl<A: Allocator + Copy> Posted<A> {
         self.node
     }
 
-    pub(crate) fn parcels(&self) -> &[Parcel<Page<A>>]
+    pub(crate) fn parcels(&self) -> &[Parcel<OwnedPage<A>>]
         ensures { result.now ≡ self.now.2 }
     {
         &self.parcels
@@ -61,7 +61,7 @@ impl<A: Allocator + Copy> Posted<A> {
     }
 
     /// The message that was posted last, where it is this one, about page 0 or of the heap, and went to this node.
-    pub(crate) fn last_to(&self, dest: u8, letter: Letter) -> Option<&Parcel<Page<A>>> {
+    pub(crate) fn last_to(&self, dest: u8, letter: Letter) -> Option<&Parcel<OwnedPage<A>>> {
         let parcel = self.parcels.last()?;
         if is_parcel(parcel, self.node, dest, message(0, letter)) {
             Some(parcel)
@@ -126,7 +126,7 @@ impl<A: Allocator + Copy> Post for Posted<A> {
 
 /// Whether a parcel is this message of a node to another.
 fn is_parcel<A: Allocator + Copy>(
-    parcel: &Parcel<Page<A>>,
+    parcel: &Parcel<OwnedPage<A>>,
     source: u8,
     dest: u8,
     wanted: Message<&[u8]>,

@@ -2,13 +2,13 @@
 ghost use Rattle.ivy_program.specs.Programs.{IsWritten};
 
 use crate::common::{expect_items, expect_same, expect_same_at};
-use failing_alloc::Failing;
 use ivy_model::{Call, Fault, Reply};
 use ivy_program::{
     Instruction, Machine, Next, Operation, Program, Register, Width, parse, parse_number, words_of,
 };
 use std::alloc::{Allocator, Global};
 use std::process::Abort;
+use test_support::Failing;
 
 /// The programs of a text, or its fault. Of all that is promised of them, callers need nothing.
 fn read<A: Allocator + Copy>(alloc: A, text: &str) -> Result<Vec<Program<A>, A>, Fault> {
@@ -369,7 +369,7 @@ fn machine_of(rt: &(impl Abort + AllocGlobal), text: &str) -> Machine<Global>
 }
 
 /// That the next turn of a machine gives this call, which is then answered so.
-#[tactic(auto, using(ivy_program::proofs::Placed::written_alone))]
+#[tactic(auto, using(ivy_program::proofs::running::Placed::written_alone))]
 fn answers(rt: &impl Abort, machine: &mut Machine<Global>, wanted: Call, reply: Reply)
     requires { IsWritten machine.old.program }
     ensures { IsWritten machine.new.program }
@@ -383,7 +383,7 @@ fn answers(rt: &impl Abort, machine: &mut Machine<Global>, wanted: Call, reply: 
 
 /// The program of the first load: its call is given until it is answered, and what came is printed.
 #[test]
-#[tactic(auto, using(ivy_program::proofs::Placed::written_alone))]
+#[tactic(auto, using(ivy_program::proofs::running::Placed::written_alone))]
 fn first_load(rt: HostRuntime) {
     let mut machine = machine_of(&rt, "node 0\nnode 1\nset r1 64\nload 8 r2 r1\nprint r2\n");
     let call = Call::Load { width: 8, addr: 64 };
@@ -399,7 +399,7 @@ fn first_load(rt: HostRuntime) {
 
 /// Whether a machine has ended within 40 turns, in which it makes these calls and no others, each
 /// with its reply.
-#[tactic(auto, using(ivy_program::proofs::Placed::written_alone))]
+#[tactic(auto, using(ivy_program::proofs::running::Placed::written_alone))]
 fn answers_all(rt: &impl Abort, machine: &mut Machine<Global>, calls: &[(Call, Reply)]) -> bool
     requires { IsWritten machine.old.program }
 {
@@ -530,7 +530,7 @@ fn blocks(rt: HostRuntime) {
 }
 
 /// That a program which makes no call prints these numbers within so many turns. Whether it has ended then.
-#[tactic(auto, using(ivy_program::proofs::Placed::written_alone))]
+#[tactic(auto, using(ivy_program::proofs::running::Placed::written_alone))]
 fn ends_within(rt: &(impl Abort + AllocGlobal), text: &str, turns: u64, printed: &[u64]) -> bool {
     let mut machine = machine_of(rt, text);
     for _ in 0..turns {

@@ -1,14 +1,14 @@
 //! Tables of many pages, each of which is made when it is first written.
 ghost use Rattle.std.specs.Prelude.{◌≡◌, length};
-ghost use Rattle.ivy_pagetable.specs.Words.{IsWord};
+ghost use Rattle.ivy_pagetable.specs.stated.Words.{IsWord};
 
 use crate::common::expect_same;
-use failing_alloc::Failing;
 use ivy_model::{Config, Kind};
 use ivy_pagetable::{NodeTable, Out, Word};
 use std::alloc::{Allocator, Global};
 use std::process::Abort;
 use std::test::Fail;
+use test_support::Failing;
 
 /// More pages than a node makes as it begins.
 const WIDE: Config = Config {

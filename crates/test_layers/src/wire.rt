@@ -2,8 +2,8 @@
 use crate::common::{expect_items, expect_same, expect_same_at};
 use ivy_model::{Config, Fault, Kind};
 use ivy_wire::{
-    Bytes, Content, Frame, FrameKind, Message, Page, decode, destination, encode,
-    grammar_is_prefix_free, read,
+    Bytes, Content, Frame, FrameKind, Message, OwnedPage, decode, destination, encode,
+    grammar_is_prefix_free, read_frame,
 };
 use std::alloc::Global;
 use std::process::Abort;
@@ -46,12 +46,16 @@ fn add_word(rt: &(impl Abort + AllocGlobal), string: &mut Vec<u8>, word: &str) {
 /// That the string is read as this frame, its page lent.
 fn expect_read(rt: &impl Abort, config: &Config, string: &[u8], frame: &Frame<&[u8]>) {
     config.check().expect(rt, "a configuration");
-    let lent = read(config, string).expect(rt, "a frame");
+    let lent = read_frame(config, string).expect(rt, "a frame");
     assert!(rt; lent == *frame);
 }
 
 /// The frame that the string is read as, its page copied.
-fn decoded(rt: &(impl Abort + AllocGlobal), config: &Config, string: &[u8]) -> Frame<Page<Global>> {
+fn decoded(
+    rt: &(impl Abort + AllocGlobal),
+    config: &Config,
+    string: &[u8],
+) -> Frame<OwnedPage<Global>> {
     config.check().expect(rt, "a configuration");
     decode(rt.alloc(), config, string).expect(rt, "a frame")
 }
@@ -445,11 +449,11 @@ fn lent_and_owned(rt: HostRuntime) {
 
 #[test]
 fn pages(rt: HostRuntime) {
-    let page = Page::new(rt.alloc(), ONES).expect(&rt, "memory");
+    let page = OwnedPage::new(rt.alloc(), ONES).expect(&rt, "memory");
     expect_items(&rt, page.bytes(), ONES);
     let copied = page.clone().expect(&rt, "memory");
     assert!(rt; copied == page);
-    let other = Page::new(rt.alloc(), ZEROS).expect(&rt, "memory");
+    let other = OwnedPage::new(rt.alloc(), ZEROS).expect(&rt, "memory");
     assert!(rt; page != other);
 }
 

@@ -1,4 +1,4 @@
-//! Tests of nodes: of one (`sites`), and of several that strings go between (`worlds`).
+//! Tests of one node and the frames that reach it, and of worlds of several nodes.
 //!
 //! That every run is coherent is proved, so these tests hold no property of all runs. They hold what no contract says:
 //! the bytes of the worked examples, and that a call can succeed, and go on after a refusal.

@@ -1,18 +1,11 @@
-//! Tests of sessions of own code, under threads. What a report says is proved, so these tests hold that sessions end well, and
-//! why they end where they do not.
+//! Tests of own code: calls, locks, sessions, plays and the example programs.
 #![tactic(auto)]
 
 #[cfg(test)]
-mod blocks;
+mod plays;
 #[cfg(test)]
-mod common;
+mod sessions;
 #[cfg(test)]
-mod library;
+mod sync;
 #[cfg(test)]
-mod programs;
-#[cfg(test)]
-mod refusals;
-#[cfg(test)]
-mod rows;
-#[cfg(test)]
-mod wide;
+mod works;

@@ -3,10 +3,10 @@
 //! Each call stands in a function that asks what the call asks, and no test makes an ether here: sites that are seated at one
 //! are tested in `test_programs` (`sessions::wire_turns`), and all of it by each session.
 ghost use Rattle.std.specs.Prelude.{◌≡◌, ◌<◌, length, slice_get, Some, Contains, true};
-ghost use Rattle.ivy_model.specs.Config.{IsConfig};
-ghost use Rattle.ivy_node.specs.ivy_session.ivy_ether.Programs.{MayGive, SendsFrom};
-ghost use Rattle.ivy_node.specs.ivy_session.ivy_ether.Rule.{times};
-ghost use Rattle.ivy_node.specs.ivy_session.ivy_ether.Words.{IsNewcomer};
+ghost use Rattle.ivy_model.specs.stated.Config.{IsConfig};
+ghost use Rattle.ivy_ether.specs.Programs.{MayGive, SendsFrom};
+ghost use Rattle.ivy_ether.specs.Rule.{times};
+ghost use Rattle.ivy_ether.specs.EtherViews.{IsNewcomer};
 
 use crate::common::expect_same;
 use ivy_model::{Config, Fault};

@@ -1,14 +1,14 @@
 //! `ivy_pagetable`, `ivy_coherence`, `ivy_event` and `ivy_alloc`: a node's pages, its faults, and the heap.
 ghost use Rattle.std.specs.Prelude.{◌≡◌};
-ghost use Rattle.ivy_pagetable.specs.Words.{IsWord};
+ghost use Rattle.ivy_pagetable.specs.stated.Words.{IsWord};
 
 use crate::common::{PAIR, expect_same};
 use crate::managers::Watched;
 use crate::posts::Counting;
 use crate::wire::ASKS;
-use ivy_memory::ivy_alloc::Heap;
-use ivy_memory::ivy_coherence::{Coherence, Need};
-use ivy_memory::ivy_event::{advance, await_at_least, read};
+use ivy_alloc::Heap;
+use ivy_coherence::{Coherence, Need};
+use ivy_event::{advance, await_at_least, read};
 use ivy_model::Fault;
 use ivy_pagetable::{Access, Entry, Out, PageTable, Word};
 use std::alloc::Global;

@@ -1,7 +1,7 @@
 //! Managers: those of `ivy_fixed` and `ivy_dynamic`, and one of one's own (`ivy_pagetable`).
 ghost use Rattle.std.specs.Prelude.{◌≡◌, IfOk};
-ghost use Rattle.ivy_model.specs.Config.{IsConfig};
-ghost use Rattle.ivy_fixed.specs.Fixed.{first_owners};
+ghost use Rattle.ivy_model.specs.stated.Config.{IsConfig};
+ghost use Rattle.ivy_fixed.specs.stated.Fixed.{first_owners};
 
 use crate::common::{PAIR, expect_same};
 use ivy_dynamic::DynamicManager;
@@ -20,7 +20,7 @@ pub(crate) struct Watched<A: Allocator> {
 }
 
 impl<A: Allocator> Model for Watched<A> {
-    ghost use Rattle.ivy_fixed.specs.Fixed.{Owners};
+    ghost use Rattle.ivy_fixed.specs.stated.Fixed.{Owners};
 
     ghost Value = { Owners };
 
@@ -40,7 +40,7 @@ impl<A: Allocator> Watched<A> {
 }
 
 impl<A: Allocator> Manager for Watched<A> {
-    ghost use Rattle.ivy_fixed.specs.Fixed.{fixed_ops};
+    ghost use Rattle.ivy_fixed.specs.stated.Fixed.{fixed_ops};
     ghost use Rattle.ivy_fixed.specs.FixedLaws.{fixed_laws};
 
     ghost ops = { fixed_ops };

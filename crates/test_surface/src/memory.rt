@@ -5,16 +5,16 @@ use crate::common::{PAIR, expect_same};
 use crate::managers::Watched;
 use crate::posts::Counting;
 use crate::wire::ASKS;
-use ivy_memory::{Answer, Memory};
+use ivy_memory::{CallProgress, Memory};
 use ivy_model::{Call, Reply};
 use std::alloc::Global;
 use std::process::Abort;
 
 /// The reply, where there is one.
-fn reply_in(answer: Answer) -> Option<Reply> {
+fn reply_in(answer: CallProgress) -> Option<Reply> {
     match answer {
-        Answer::Given(reply) => Some(reply),
-        Answer::Awaited | Answer::Unserved => None,
+        CallProgress::Given(reply) => Some(reply),
+        CallProgress::Awaited | CallProgress::Unserved => None,
     }
 }
 

@@ -1,5 +1,5 @@
 //! `ivy_node`: a site, and a world.
-ghost use Rattle.ivy_model.specs.Legal.{HasWidth};
+ghost use Rattle.ivy_model.specs.stated.Legal.{HasWidth};
 
 use crate::common::{LOADS, PAIR, expect_same};
 use ivy_model::{Call, Fault, Reply, Row};

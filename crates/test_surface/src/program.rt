@@ -8,7 +8,7 @@ use std::alloc::Global;
 use std::process::Abort;
 
 /// The call that a machine waits for, which is refused then.
-#[tactic(auto, using(ivy_program::proofs::Placed::written_alone))]
+#[tactic(auto, using(ivy_program::proofs::running::Placed::written_alone))]
 fn refused(rt: &impl Abort, machine: &mut Machine<Global>) -> Call
     requires { IsWritten machine.old.program }
     ensures { IsWritten machine.new.program }
@@ -40,7 +40,7 @@ fn no_programs(rt: HostRuntime) {
 
 /// Own code makes calls together, and takes their replies.
 #[test]
-#[tactic(auto, using(ivy_program::proofs::Handing::handed_called))]
+#[tactic(auto, using(ivy_program::proofs::running::Handing::handed_called))]
 fn own_code(rt: HostRuntime) {
     let mut machine = Machine::<Global>::open();
     assert!(rt; machine.is_free());

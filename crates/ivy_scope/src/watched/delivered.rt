@@ -1,9 +1,9 @@
 //! Whether all that the nodes of a session sent to each other was delivered.
 ghost use Rattle.std.specs.Prelude.{◌≡◌, ◌≢◌, ◌<◌, IsTrue, length};
-ghost use Rattle.ivy_moves.specs.ivy_link.Linked.{peer_at};
+ghost use Rattle.ivy_link.specs.stated.Linked.{peer_at};
 ghost use Rattle.ivy_scope.specs.Delivered.{AreSitesDelivered, IsSiteDelivered};
 
-use ivy_session::ivy_seating::Site;
+use ivy_seating::Site;
 use std::alloc::Allocator;
 
 /// Whether all that the one node sent to the other, if it is another one, was delivered there.

@@ -9,7 +9,7 @@ ghost use Rattle.ivy_workers.specs.Stops.{IsStop};
 
 use crate::watched::watch::End;
 use ivy_model::{Fault, MOST_NODES};
-use ivy_session::ivy_seating::Site;
+use ivy_seating::Site;
 use std::alloc::{AllocError, Allocator};
 use std::sync::{Mutex, Wait};
 

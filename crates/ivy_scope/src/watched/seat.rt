@@ -2,9 +2,9 @@
 
 use crate::watched::notes::Notes;
 use crate::watched::watch::Watch;
+use ivy_ether::Setup;
 use ivy_model::{Fault, Record};
-use ivy_session::ivy_seating::ivy_ether::Setup;
-use ivy_session::ivy_seating::{Home, Homed, ProgramSeat, Turn};
+use ivy_seating::{Home, Homed, ProgramSeat, Turn};
 use ivy_workers::{Pulses, Seat, Traffic};
 use std::alloc::Allocator;
 use std::sync::Wait;

@@ -1,23 +1,23 @@
 //! Watched sessions.
 ghost use Rattle.std.specs.Prelude.{◌≡◌, ◌↔◌, ◌<◌, ◌+◌, All, IsErrOf, IfOk, IfErr, OnOk, length, vec_len};
-ghost use Rattle.ivy_model.specs.Config.{IsConfig, IsNarrow};
+ghost use Rattle.ivy_model.specs.stated.Config.{IsConfig, IsNarrow};
 ghost use Rattle.ivy_session.specs.Faults.{IsSessionFault};
-ghost use Rattle.ivy_workers.specs.Limits.{AreLimits};
+ghost use Rattle.ivy_workers.specs.SessionLimits.{AreLimits};
 ghost use Rattle.ivy_workers.specs.Stops.{IsStop};
-ghost use Rattle.ivy_session.specs.ivy_seating.ivy_ether.Views.{beginner};
-ghost use Rattle.ivy_session.specs.ivy_seating.ivy_ether.Words.{IsNewcomer};
+ghost use Rattle.ivy_ether.specs.Views.{beginner};
+ghost use Rattle.ivy_ether.specs.EtherViews.{IsNewcomer};
 ghost use Rattle.ivy_scope.specs.Played.{IsPlayed};
 ghost use Rattle.ivy_scope.specs.SoFar.{AllKeepSoFar, AreDelivered, AreUnblockedSoFar, IsReportSoFar};
 
-use crate::watched::closing::collect;
+use crate::watched::close::collect;
 use crate::watched::notes::Notes;
 use crate::watched::seat::Watched;
 use crate::watched::so_far::ReportSoFar;
 use crate::watched::watch::{End, Watch};
-use ivy_model::{Config, Fault};
+use ivy_ether::{Ether, Pass, Setup, Wired};
+use ivy_model::{CANNOT_HAPPEN, Config, Fault};
 use ivy_program::Program;
-use ivy_session::ivy_seating::ivy_ether::{Ether, Pass, Setup, Wired};
-use ivy_session::ivy_seating::{Home, Homed, Keep, seat_all};
+use ivy_seating::{Home, Homed, Keep, seat_all};
 use ivy_session::{are_written, lay, run_workers};
 use ivy_workers::Limits;
 use std::alloc::{AllocError, Allocator};
@@ -57,7 +57,7 @@ fn look_again<A: Allocator + Copy>(report: &ReportSoFar<A>, end: End) -> Result<
     match end {
         End::Programs | End::Watch | End::Turns => Ok(()),
         End::Standstill if report.is_delivered() => Ok(()),
-        End::Standstill => Err(Fault::TurnLimit),
+        End::Standstill => Err(CANNOT_HAPPEN),
     }
 }
 
@@ -205,6 +205,7 @@ where
     if programs.len() != usize::from(config.nodes) || !limits.are_valid() {
         return Err(Fault::BadConfig);
     }
+    // for the proof: each program is written down
     are_written(&programs);
     play::<Brand, A, R, W>(rt, alloc, &config, programs, limits, watch, keep)
 }

@@ -2,13 +2,13 @@
 ghost use Rattle.std.specs.Prelude.{◌≡◌, ◌↔◌, ◌<◌, IsTrue, IfSome, Some, length, map, slice_get};
 ghost use Rattle.ivy_moves.specs.Keeping.{keeps_history, keeps_events, read_of};
 ghost use Rattle.ivy_moves.specs.Marks.{marks};
-ghost use Rattle.ivy_program.specs.Steps.{HasEnded};
+ghost use Rattle.ivy_program.specs.InstructionSteps.{HasEnded};
 ghost use Rattle.ivy_scope.specs.SoFar.{so_far_of, AreDelivered};
 
 use crate::watched::delivered::is_delivered;
 use ivy_model::{Call, Record};
 use ivy_moves::Event;
-use ivy_session::ivy_seating::Site;
+use ivy_seating::Site;
 use ivy_wire::Bytes;
 use std::alloc::Allocator;
 use std::marker::Model;
@@ -26,8 +26,8 @@ impl<A: Allocator> Model for ReportSoFar<A> {
     ghost Value = { List NodeSoFar };
 
     ghost use Rattle.std.specs.Coded.{codes};
-    ghost use Rattle.ivy_pagetable.specs.NodeSets.{nodes_code};
-    ghost use Rattle.ivy_session.specs.ivy_seating.ivy_ether.ivy_alloc.Heap.{heap_state_code};
+    ghost use Rattle.ivy_pagetable.specs.stated.NodeSets.{nodes_code};
+    ghost use Rattle.ivy_alloc.specs.Heap.{heap_state_code};
 
     ghost coded = { Prim.hlevel (codes, nodes_code, heap_state_code) };
 

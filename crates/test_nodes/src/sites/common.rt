@@ -1,11 +1,11 @@
 //! What the tests share: configurations, nodes, and the strings that come to them and that they send.
-use failing_alloc::Failing;
 use ivy_model::{Config, Fault, Kind};
-use ivy_wire::{Bytes, FrameKind, read};
-use ivy_world::ivy_site::{Program, Site, Turn, Verdict, parse};
+use ivy_site::{Program, Site, Turn, Verdict, parse};
+use ivy_wire::{Bytes, FrameKind, read_frame};
 use std::alloc::{Allocator, Global};
 use std::fmt::{Debug, Display};
 use std::process::Abort;
+use test_support::Failing;
 
 /// Two nodes, and two pages of 64 bytes.
 pub(crate) const PAIR: Config = Config {
@@ -163,7 +163,7 @@ fn add_word<A: Allocator + Copy>(rt: &impl Abort, alloc: A, string: &mut Vec<u8,
 /// What a string is about, its source and its destination.
 pub(crate) fn ends_of(config: &Config, bytes: &[u8]) -> Result<(FrameKind, u8, u8), Fault> {
     config.check()?;
-    let frame = read(config, bytes)?;
+    let frame = read_frame(config, bytes)?;
     Ok((frame.kind(), frame.source, frame.dest))
 }
 

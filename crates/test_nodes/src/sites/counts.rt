@@ -2,7 +2,7 @@
 use crate::sites::common::{COUNT_ASKS, COUNT_GETS, RETRY_ASKS, RETRY_GETS};
 use crate::sites::steps::{Step, play};
 use ivy_model::{Call, Record, Reply};
-use ivy_world::ivy_site::Verdict;
+use ivy_site::Verdict;
 
 /// A node stores and then advances count 0.
 const NOTICE: &str = "node 0

@@ -2,7 +2,7 @@
 use crate::sites::common::{LOADS, REPLY, Written, receive};
 use crate::sites::steps::{Step, play};
 use ivy_model::Fault;
-use ivy_world::ivy_site::{Site, Verdict};
+use ivy_site::{Site, Verdict};
 use rand_core::SeedableRng;
 use rand_core::utils::NextWord;
 use rand_pcg::Lcg64Xsh32;

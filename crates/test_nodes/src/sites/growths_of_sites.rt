@@ -8,11 +8,11 @@ use crate::sites::common::{
     take_turn, take_turns,
 };
 use crate::sites::steps::{Step, expect_silent, make_all};
-use failing_alloc::Failing;
 use ivy_model::{Call, Fault, Record, Reply};
-use ivy_world::ivy_site::{Site, Verdict};
+use ivy_site::{Site, Verdict};
 use std::alloc::{Allocator, Global};
 use std::process::Abort;
+use test_support::Failing;
 
 const EMPTY: &str = "node 0\n";
 

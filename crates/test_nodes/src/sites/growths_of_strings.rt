@@ -1,13 +1,13 @@
 //! Each growth refused in turn where frames are written, read, sent and sent again, in the order checker
 //! and in a page table.
 use crate::sites::common::{MANY, PAIR, REPLY, is_met, string};
-use failing_alloc::Failing;
+use ivy_link::Link;
 use ivy_model::{Call, Fault, Record, Reply, check_order};
 use ivy_pagetable::PageTable;
 use ivy_wire::{Content, Frame, Message, Parcel, decode, encode};
-use ivy_world::ivy_link::Link;
 use std::alloc::Global;
 use std::process::Abort;
+use test_support::Failing;
 
 const PAGE: [u8; 64] = [7; 64];
 

@@ -2,8 +2,8 @@
 use crate::sites::common::{LOADS, PAIR, REPLY, REQUEST};
 use crate::sites::steps::{Step, make_all};
 use ivy_model::{Call, Record, Reply};
+use ivy_site::{Site, Verdict, parse};
 use ivy_world::Keep;
-use ivy_world::ivy_site::{Site, Verdict, parse};
 use std::process::Abort;
 
 /// Node 1 loads a word that nobody wrote, and prints it.

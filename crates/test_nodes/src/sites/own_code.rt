@@ -1,7 +1,7 @@
 //! Calls of own code at one node, handed in and begun in one, or handed in and begun by the next turn.
 use crate::sites::common::PAIR;
 use ivy_model::{Call, Fault, Record, Reply};
-use ivy_world::ivy_site::{Site, Turn};
+use ivy_site::{Site, Turn};
 use std::process::Abort;
 
 /// Node 0 has all pages, so a call has its reply in the turn in which it begins.

@@ -4,8 +4,8 @@ ghost use Rattle.std.specs.Prelude.{◌<◌};
 use crate::sites::common::{ALLOC_ASKS, ALLOC_GETS, LOADS, PAIR, REPLY, REQUEST, TRIO, string};
 use crate::sites::steps::{Step, play, play_owner};
 use ivy_model::Fault;
+use ivy_site::{Turn, Verdict};
 use ivy_wire::FrameKind;
-use ivy_world::ivy_site::{Turn, Verdict};
 use std::alloc::Allocator;
 use std::process::Abort;
 

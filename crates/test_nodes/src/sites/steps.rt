@@ -6,8 +6,8 @@ use crate::sites::common::{
 };
 use crate::sites::forged::{expect_judged, hand_drawn};
 use ivy_model::{Config, Fault, Record};
+use ivy_site::{Site, Turn, Verdict};
 use ivy_wire::FrameKind;
-use ivy_world::ivy_site::{Site, Turn, Verdict};
 use std::alloc::Allocator;
 use std::process::Abort;
 

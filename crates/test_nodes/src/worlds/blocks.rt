@@ -1,10 +1,10 @@
 //! Calls of own code at a node of a world that are made together: which begin and wait, and where none does.
 use crate::worlds::common::{LOADS, MANY, PAIR, expect_same, expect_same_at, world};
-use failing_alloc::Failing;
 use ivy_model::{Call, Fault, Record, Row};
 use ivy_world::{Rest, World};
 use std::alloc::{Allocator, Global};
 use std::process::Abort;
+use test_support::Failing;
 
 /// What a node is asked to do with words in a row.
 #[derive(Clone, Copy)]

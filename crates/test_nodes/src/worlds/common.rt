@@ -2,7 +2,7 @@
 ghost use Rattle.std.specs.Prelude.{◌<◌, length, IfErr};
 
 use ivy_model::{Call, Config, Fault, Kind, Record, Reply};
-use ivy_wire::{Bytes, FrameKind, read};
+use ivy_wire::{Bytes, FrameKind, read_frame};
 use ivy_world::{Move, World, parse};
 use std::alloc::Allocator;
 use std::fmt::{Debug, Display};
@@ -251,7 +251,7 @@ fn is_string<A: Allocator>(sent: &[Bytes<A>], index: usize, wanted: &[u8]) -> bo
 /// What a string is about, its source and its destination.
 pub(crate) fn ends_of(config: &Config, bytes: &[u8]) -> Result<(FrameKind, u8, u8), Fault> {
     config.check()?;
-    let frame = read(config, bytes)?;
+    let frame = read_frame(config, bytes)?;
     Ok((frame.kind(), frame.source, frame.dest))
 }
 

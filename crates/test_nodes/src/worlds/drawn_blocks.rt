@@ -3,7 +3,7 @@
 //! That the replies are those of one flat memory is proved. No clause says that the calls of a block, which begin together,
 //! are answered together; so it is tested that a block is never torn, against an array and against another block.
 ghost use Rattle.std.specs.Prelude.{◌≤◌};
-ghost use Rattle.ivy_model.specs.Legal.{HasWidth};
+ghost use Rattle.ivy_model.specs.stated.Legal.{HasWidth};
 
 use crate::worlds::common::{PAIR, expect_same, expect_same_at};
 use ivy_model::{Call, Config, Kind, Record, Reply, Row};

@@ -18,13 +18,13 @@ use crate::worlds::stores::{
     LATE, LATE_MOVES, UPGRADE_OF_THREE, UPGRADE_OF_THREE_MOVES, UPGRADE_OF_TWO,
     UPGRADE_OF_TWO_MOVES,
 };
-use failing_alloc::Failing;
 use ivy_model::{Config, Fault};
 use ivy_wire::FrameKind;
 use ivy_world::{Move, World};
 use std::alloc::{Allocator, Global};
 use std::process::Abort;
 use std::test::Fail;
+use test_support::Failing;
 
 /// More growths than any run here asks for.
 const MANY_IN_A_RUN: u64 = 1000;

@@ -5,12 +5,12 @@ use crate::worlds::common::{
 };
 use crate::worlds::counts::{GIVEN_NOTICE, NOTICE, NOTICED};
 use crate::worlds::growths_of_worlds::same_worlds;
-use failing_alloc::Failing;
 use ivy_model::{Config, Fault, Kind};
 use ivy_world::{Move, Rest, World};
 use std::alloc::{Allocator, Global};
 use std::process::Abort;
 use std::test::Fail;
+use test_support::Failing;
 
 /// More moves than any run here needs.
 const ENOUGH: u64 = 200;

@@ -1,14 +1,14 @@
 //! Command lines: what is printed on both streams, and the status.
 
 use crate::commands::common::{check_each, expect_same, printed_by, words_of};
-use example_texts::{EMPTY, File, LOADS, NOTICE, WAITS, scheduled};
-use ivy_commands::ivy_arguments::Request;
-use ivy_commands::ivy_texts::Settings;
+use ivy_arguments::IvyCommand;
 use ivy_model::Kind;
+use ivy_texts::Settings;
 use std::process::Abort;
 use std::sync::Wait;
 use std::test::Fail;
 use std::thread::Threads;
+use test_support::{EMPTY, File, LOADS, NOTICE, WAITS, programs};
 
 /// The files of every test.
 const FILES: [File; 20] = [
@@ -44,7 +44,7 @@ const FILES: [File; 20] = [
         name: "waiting",
         text: WAITS,
     },
-    scheduled::STORE_BUFFERING,
+    programs::STORE_BUFFERING,
     File {
         name: "notice",
         text: NOTICE,
@@ -342,29 +342,29 @@ fn defaults(rt: HostRuntime) -> Result<(), Fail> {
         manager: Kind::Dynamic,
     };
     let run = words_of(rt.alloc(), "run load")?;
-    let wanted = Request::Run {
+    let wanted = IvyCommand::Run {
         file: "load",
         turns: 100_000_000,
         capacity: 256,
         pulse: 1024,
         settings,
     };
-    expect_same(&rt, Request::read(rt.alloc(), &run).ok(), Some(wanted));
+    expect_same(&rt, IvyCommand::read(rt.alloc(), &run).ok(), Some(wanted));
     let step = words_of(rt.alloc(), "step load moves")?;
-    let wanted = Request::Step {
+    let wanted = IvyCommand::Step {
         file: "load",
         schedule: "moves",
         settings,
     };
-    expect_same(&rt, Request::read(rt.alloc(), &step).ok(), Some(wanted));
+    expect_same(&rt, IvyCommand::read(rt.alloc(), &step).ok(), Some(wanted));
     let sim = words_of(rt.alloc(), "sim load")?;
-    let wanted = Request::Sim {
+    let wanted = IvyCommand::Sim {
         file: "load",
         seed: 1,
         moves: 10_000,
         settings,
     };
-    expect_same(&rt, Request::read(rt.alloc(), &sim).ok(), Some(wanted));
+    expect_same(&rt, IvyCommand::read(rt.alloc(), &sim).ok(), Some(wanted));
     Ok(())
 }
 

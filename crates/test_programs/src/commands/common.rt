@@ -1,6 +1,5 @@
 //! What the tests share: files that lie in memory, and the check of a command over them.
 
-use example_texts::File;
 use ivy_commands::{Texts, perform};
 use ivy_model::Fault;
 use std::alloc::{AllocError, Global};
@@ -10,6 +9,7 @@ use std::process::Abort;
 use std::sync::Wait;
 use std::test::Fail;
 use std::thread::Threads;
+use test_support::File;
 
 /// Files that lie in memory.
 #[derive(Drop)]

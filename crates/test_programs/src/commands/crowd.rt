@@ -1,12 +1,13 @@
 //! Sessions of as many programs as there can be, and the example for as many.
 
 use crate::commands::common::{check_managers, check_over, with_nodes};
-use example_texts::{File, SUM_OF_THIRTY_TWO};
 use std::alloc::{AllocError, Allocator};
 use std::process::Abort;
 use std::sync::Wait;
 use std::test::Fail;
 use std::thread::Threads;
+use test_support::File;
+use test_support::outputs::SUM_OF_THIRTY_TWO;
 
 /// Each of 32 programs advances count 0 once, and node 0 then awaits 32 and prints it.
 fn crowd<A: Allocator + Copy>(alloc: A) -> Result<String<A>, AllocError> {

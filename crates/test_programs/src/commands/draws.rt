@@ -3,8 +3,8 @@
 ghost use Rattle.std.specs.Prelude.{◌≤◌, All, length};
 
 use crate::commands::common::expect_same;
-use ivy_commands::ivy_texts::{draw, generator_of};
 use ivy_moves::Move;
+use ivy_texts::{draw, generator_of};
 use ivy_wire::Bytes;
 use std::alloc::Global;
 use std::process::Abort;

@@ -1,14 +1,15 @@
 //! What the programs of the folder `examples` print, and the traces of its schedules.
 
 use crate::commands::common::{check_managers, check_over, check_seeds, with_nodes};
-use example_texts::{
-    BARRIER, DOT_PRODUCT, Example, FOUR_ADVANCES, HISTOGRAM, JACOBI, LIST, MATRIX, MERGE_SPLIT,
-    PARALLEL_SUM, PRODUCER_CONSUMER, RING, SUM_OF_EIGHT, Schedule, schedules,
-};
 use std::process::Abort;
 use std::sync::Wait;
 use std::test::Fail;
 use std::thread::Threads;
+use test_support::outputs::{
+    BARRIER, DOT_PRODUCT, FOUR_ADVANCES, HISTOGRAM, JACOBI, LIST, MATRIX, MERGE_SPLIT,
+    PARALLEL_SUM, PRODUCER_CONSUMER, RING, SUM_OF_EIGHT,
+};
+use test_support::{Example, Schedule, schedules};
 
 /// The schedules whose moves are all made.
 const MADE: [&Schedule; 12] = [

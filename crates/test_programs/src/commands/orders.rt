@@ -1,11 +1,11 @@
 //! Orders, and whether they are legal.
 use crate::commands::common::{check_each, check_over};
-use example_texts::{File, Order, orders};
 use std::alloc::{AllocError, Global};
 use std::process::Abort;
 use std::sync::Wait;
 use std::test::Fail;
 use std::thread::Threads;
+use test_support::{File, Order, orders};
 
 const LOADED_LATER: &str = "\
 ivy order 2 2 64

@@ -1,12 +1,12 @@
 //! Streams that take no more, or fail where they are flushed.
 
 use crate::commands::common::{expect_same, expect_same_at, told_by};
-use example_texts::{EMPTY, File, schedules};
 use std::io::{self, ErrorKind, Write};
 use std::process::Abort;
 use std::sync::Wait;
 use std::test::Fail;
 use std::thread::Threads;
+use test_support::{EMPTY, File, schedules};
 
 /// A stream that takes so many bytes and no more.
 #[derive(Drop)]

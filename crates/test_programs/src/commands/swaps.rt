@@ -3,9 +3,10 @@
 use crate::commands::common::{
     check_managers, check_over, check_seeds, expect_same_at, printed_by,
 };
-use example_texts::{CAS_LOCK, File, SPIN_LOCK, TICKET_FADD, TICKET_LOCK};
 use std::process::Abort;
 use std::test::Fail;
+use test_support::File;
+use test_support::outputs::{CAS_LOCK, SPIN_LOCK, TICKET_FADD, TICKET_LOCK};
 
 const TWICE: [File; 2] = [
     File {

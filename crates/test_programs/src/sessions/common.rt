@@ -1,8 +1,8 @@
 //! What the tests share: configurations, programs, and sessions of them.
 
-use ivy_commands::ivy_session::{Gate, Limits, OpenGate, Report, Session};
 use ivy_model::{Config, Fault, Kind, Record};
 use ivy_program::parse;
+use ivy_session::{Gate, Limits, OpenGate, Report, Session};
 use std::alloc::Allocator;
 use std::fmt::{Debug, Display};
 use std::process::Abort;

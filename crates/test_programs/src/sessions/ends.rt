@@ -2,8 +2,8 @@
 use crate::sessions::common::{
     LIMITS, NOTICE, PAIR, WAITS, expect_same_at, run, run_behind, shown_of,
 };
-use ivy_commands::ivy_session::{Gate, Limits, Role};
 use ivy_model::{Config, Fault};
+use ivy_session::{Gate, Limits, Role};
 use std::process::Abort;
 use std::sync::Wait;
 use std::sync::atomic::{AtomicU64, Ordering};

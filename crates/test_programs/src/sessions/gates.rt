@@ -1,6 +1,6 @@
 //! Gates that hold workers until others were seen at work: no lock stands round two nodes, or round a session.
 use crate::sessions::common::{LIMITS, LOADS, PAIR, expect_same_at, run_behind, shown_of};
-use ivy_commands::ivy_session::{Gate, Role};
+use ivy_session::{Gate, Role};
 use std::process::Abort;
 use std::sync::Wait;
 use std::sync::atomic::{AtomicBool, Ordering};

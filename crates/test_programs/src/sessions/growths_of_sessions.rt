@@ -1,14 +1,14 @@
 //! Each growth of a session refused in turn: every worker ends, and no report is given. One exception: where a string
 //! that came early could not be gone on with for that growth, it is gone on with later, and the report may be given.
 use crate::sessions::common::{LIMITS, LOADS, NOTICE, PAIR, expect_same, expect_same_at, shown_of};
-use failing_alloc::Failing;
-use ivy_commands::ivy_session::{OpenGate, Session};
 use ivy_model::Fault;
 use ivy_program::parse;
+use ivy_session::{OpenGate, Session};
 use std::alloc::Global;
 use std::process::Abort;
 use std::sync::Wait;
 use std::thread::Threads;
+use test_support::Failing;
 
 /// More growths than any session here asks for.
 const MANY: u64 = 20_000;

@@ -1,7 +1,7 @@
 //! The report of a session has the lists that its nodes kept, and the outputs whatever they kept.
 use crate::sessions::common::{LIMITS, NOTICE, PAIR, expect_same, shown_of};
-use ivy_commands::ivy_session::{Keep, OpenGate, Report, Session};
 use ivy_program::parse;
+use ivy_session::{Keep, OpenGate, Report, Session};
 use std::alloc::Allocator;
 use std::process::Abort;
 use std::sync::Wait;

@@ -1,7 +1,7 @@
 //! Sessions whose pulses are frequent, and whose ethers hold little, come to an end.
 use crate::sessions::common::{LIMITS, expect_same_at, run, shown_of};
-use ivy_commands::ivy_session::Limits;
 use ivy_model::{Config, Kind};
+use ivy_session::Limits;
 use std::process::Abort;
 use std::sync::Wait;
 use std::thread::Threads;

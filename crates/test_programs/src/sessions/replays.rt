@@ -4,12 +4,12 @@ use crate::sessions::common::{
     EIGHT, FOUR_ADVANCES, LIMITS, LOADS, NARROW, NOTICE, PAIR, PULSING, TRIO, expect_same,
     expect_same_at, run,
 };
-use ivy_commands::ivy_session::{Limits, Report};
-use ivy_commands::ivy_world::{Move, World};
 use ivy_model::{Config, Kind};
 use ivy_moves::Event;
 use ivy_program::parse;
+use ivy_session::{Limits, Report};
 use ivy_wire::Bytes;
+use ivy_world::{Move, World};
 use std::alloc::{Allocator, Global};
 use std::process::Abort;
 use std::sync::Wait;

@@ -3,8 +3,8 @@ use crate::sessions::common::{
     EMPTY, FOUR_ADVANCES, LIMITS, LOADS, NARROW, NOTICE, PAIR, TRIO, expect_same, expect_same_at,
     run, shown_of,
 };
-use ivy_commands::ivy_session::Limits;
 use ivy_model::{Config, Kind, Record};
+use ivy_session::Limits;
 use std::process::Abort;
 use std::sync::Wait;
 use std::thread::Threads;

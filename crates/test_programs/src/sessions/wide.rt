@@ -1,8 +1,8 @@
 //! Sessions of more than 256 pages.
 use crate::sessions::common::{LIMITS, PAIR, expect_same, shown_of};
-use ivy_commands::ivy_session::{Keep, OpenGate, Session};
 use ivy_model::{Config, Fault};
 use ivy_program::parse;
+use ivy_session::{Keep, OpenGate, Session};
 use std::alloc::Allocator;
 use std::sync::Wait;
 use std::thread::Threads;

@@ -1,23 +1,23 @@
 //! Turns on the wire of two sites, one after the other, at an ether that holds one item.
 ghost use Rattle.std.specs.Prelude.{◌≡◌, ◌<◌, length, slice_get, Some, true};
-ghost use Rattle.ivy_model.specs.Config.{IsConfig};
-ghost use Rattle.ivy_commands.specs.ivy_ether.Rule.{times};
-ghost use Rattle.ivy_commands.specs.ivy_ether.Views.{with_issued};
-ghost use Rattle.ivy_commands.specs.ivy_ether.Words.{IsNewcomer};
+ghost use Rattle.ivy_model.specs.stated.Config.{IsConfig};
+ghost use Rattle.ivy_ether.specs.Rule.{times};
+ghost use Rattle.ivy_ether.specs.Views.{with_issued};
+ghost use Rattle.ivy_ether.specs.EtherViews.{IsNewcomer};
 
 use crate::sessions::common::{TRIO, expect_same};
-use failing_alloc::Failing;
-use ivy_commands::ivy_ether::{Ether, Pass, Setup, Wired};
-use ivy_commands::ivy_session::{Seated, WireTurn};
-use ivy_commands::ivy_site::{Site, Turn};
+use ivy_ether::{Ether, Pass, Setup, Wired};
+use ivy_link::Verdict;
 use ivy_model::{Config, Fault, Kind};
-use ivy_moves::ivy_link::Verdict;
 use ivy_program::{Program, parse};
+use ivy_session::{Seated, WireTurn};
+use ivy_site::{Site, Turn};
 use std::alloc::{Allocator, Global};
 use std::marker::Brand;
 use std::process::Abort;
 use std::sync::Wait;
 use std::test::Fail;
+use test_support::Failing;
 
 /// Three nodes under managing nodes.
 const FIXED_TRIO: Config = Config {

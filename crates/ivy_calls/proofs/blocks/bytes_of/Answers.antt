@@ -2,7 +2,7 @@ use Rattle.std.proofs.Common.{◌≡◌, ℕ, ◌+◌, ◌-◌, ◌*◌, ◌≤�
 use Rattle.std.proofs.lemmas.List.{places, replicate_more}
 use Rattle.ivy_model.specs.Rows.{numbers_in}
 use borrow.Rule.Slice.PartMut.{put_mid}
-use Rattle.ivy_calls.proofs.Rows.{numbers_in-append, put_before, put_there}
+use Rattle.ivy_calls.proofs.BlockAnswers.{numbers_in-append, put_before, put_there}
 use Rattle.ivy_calls.proofs.blocks.bytes_of.Goals as goal
 
 pub loop-word-preserved : goal.loop-word-preserved

@@ -7,9 +7,9 @@ use Rattle.ivy_model.specs.Rows.{numbers_in}
 use Rattle.ivy_calls.specs.declared.answer.Answer.{Answer}
 use Rattle.ivy_calls.specs.declared.error.CallError.{CallError}
 use Rattle.ivy_calls.specs.Fails.{Fails}
-use Rattle.ivy_calls.specs.Rows.{StopsInRow, first_number, in_row}
+use Rattle.ivy_calls.specs.BlockAnswers.{StopsInRow, first_number, in_row}
 use Rattle.ivy_model.proofs.Rows.{numbers_in-take}
-use Rattle.ivy_calls.proofs.Rows.{fails_as, first_number-take, same_go_on, same_stop, some_of_same}
+use Rattle.ivy_calls.proofs.BlockAnswers.{fails_as, first_number-take, same_go_on, same_stop, some_of_same}
 use Rattle.ivy_calls.proofs.blocks.fill.Goals as goal
 
 pub returns-in_err-some-clause-fails : goal.returns-in_err-some-clause-fails

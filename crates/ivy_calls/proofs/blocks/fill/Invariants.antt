@@ -1,6 +1,6 @@
 use Rattle.std.proofs.Common.{◌≡◌, ◌-◌, ◌≤◌, ◌++◌, replicate}
 use Rattle.ivy_model.specs.declared.row.Row.TheVariants.{Stores}
-use Rattle.ivy_calls.specs.Rows.{in_row}
+use Rattle.ivy_calls.specs.BlockAnswers.{in_row}
 use Rattle.ivy_calls.proofs.blocks.fill.Given as goal
 
 abbrev pub invariant-loop-done : goal.invariant-loop-done

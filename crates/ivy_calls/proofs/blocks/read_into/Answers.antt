@@ -7,8 +7,8 @@ use Rattle.ivy_model.specs.declared.row.Row.TheVariants.{Loads}
 use Rattle.ivy_model.specs.Rows.{numbers_in}
 use Rattle.ivy_calls.specs.declared.answer.Answer.{Answer}
 use Rattle.ivy_calls.specs.declared.error.CallError.{CallError}
-use Rattle.ivy_calls.specs.Rows.{StopsInRow, in_row, block_numbers, block_words}
-use Rattle.ivy_calls.proofs.Rows.{fails_as, put_before, put_there, words_go_on, words_stop}
+use Rattle.ivy_calls.specs.BlockAnswers.{StopsInRow, in_row, block_numbers, block_words}
+use Rattle.ivy_calls.proofs.BlockAnswers.{fails_as, put_before, put_there, words_go_on, words_stop}
 use Rattle.ivy_calls.proofs.blocks.read_into.Goals as goal
 
 pub returns-in_err-some-clause-fails : goal.returns-in_err-some-clause-fails

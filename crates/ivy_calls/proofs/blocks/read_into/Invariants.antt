@@ -1,7 +1,7 @@
 use Rattle.std.proofs.Common.{◌≡◌, ◌-◌, ◌*◌, ◌≤◌, ◌++◌, drop}
 use Rattle.ivy_model.specs.declared.row.Row.TheVariants.{Loads}
 use Rattle.ivy_model.specs.Rows.{numbers_in}
-use Rattle.ivy_calls.specs.Rows.{in_row}
+use Rattle.ivy_calls.specs.BlockAnswers.{in_row}
 use Rattle.ivy_calls.proofs.blocks.read_into.Given as goal
 
 abbrev pub invariant-loop-words : goal.invariant-loop-words

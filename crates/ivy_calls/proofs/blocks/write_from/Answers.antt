@@ -6,9 +6,9 @@ use Rattle.ivy_model.specs.declared.row.Row.TheVariants.{Stores}
 use Rattle.ivy_calls.specs.declared.answer.Answer.{Answer}
 use Rattle.ivy_calls.specs.declared.error.CallError.{CallError}
 use Rattle.ivy_calls.specs.Fails.{Fails}
-use Rattle.ivy_calls.specs.Rows.{StopsInRow, first_number, in_row, block_numbers, block_words}
+use Rattle.ivy_calls.specs.BlockAnswers.{StopsInRow, first_number, in_row, block_numbers, block_words}
 use Rattle.ivy_model.proofs.Rows.{numbers_in-take}
-use Rattle.ivy_calls.proofs.Rows.{fails_as, first_number-take, words_go_on, words_stop}
+use Rattle.ivy_calls.proofs.BlockAnswers.{fails_as, first_number-take, words_go_on, words_stop}
 use Rattle.ivy_calls.proofs.blocks.write_from.Goals as goal
 
 pub returns-in_err-some-clause-fails : goal.returns-in_err-some-clause-fails

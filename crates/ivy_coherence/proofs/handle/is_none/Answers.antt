@@ -1,4 +1,4 @@
-use Rattle.ivy_coherence.proofs.Opened.{none_is, some_is}
+use Rattle.ivy_coherence.proofs.keeping.Opened.{none_is, some_is}
 use Rattle.ivy_coherence.proofs.handle.is_none.Goals as goal
 
 pub returns-clause-none : goal.returns-clause-none

@@ -1,10 +1,10 @@
 use Rattle.std.proofs.Common.{◌≡◌, ◌+◌, ◌-◌, ◌*◌, ◌∙◌, ℕ, List, take, drop, arith, ap, sym, refl}
 use Rattle.ivy_model.specs.declared.Row.TheVariants.{Stores}
 use Rattle.ivy_model.specs.Rows.{numbers_in}
-use Rattle.ivy_model.specs.Serves.{overwrite}
-use Rattle.ivy_coherence.specs.Several.{AllCarried, all_carried}
+use Rattle.ivy_model.specs.stated.Serves.{overwrite}
+use Rattle.ivy_coherence.specs.stated.Several.{AllCarried, all_carried}
 use Rattle.ivy_coherence.specs.Rests.{row_words, outs_of}
-use Rattle.ivy_coherence.proofs.Rests.{loads_same, loads_carried, stores_kept, stores_carried}
+use Rattle.ivy_coherence.proofs.batches.Rests.{loads_same, loads_carried, stores_kept, stores_carried}
 use Rattle.ivy_coherence.proofs.rest.carry_row.Goals as goal
 
 pub returns-in-Loads-clause-words : goal.returns-in-Loads-clause-words

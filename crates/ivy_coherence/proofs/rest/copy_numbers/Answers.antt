@@ -1,7 +1,7 @@
 use Rattle.std.proofs.Common.{◌≡◌, ℕ, ◌+◌, ◌-◌, ◌*◌, ◌∙◌, take, drop, ap, arith}
-use Rattle.ivy_model.specs.Serves.{overwrite}
+use Rattle.ivy_model.specs.stated.Serves.{overwrite}
 use Rattle.ivy_coherence.specs.Rests.{outs_of}
-use Rattle.ivy_coherence.proofs.Takes.{copied_behind, stores_give}
+use Rattle.ivy_coherence.proofs.batches.Takes.{copied_behind, stores_give}
 use Rattle.ivy_coherence.proofs.rest.copy_numbers.Goals as goal
 
 pub returns-in-Loads-clause-outs : goal.returns-in-Loads-clause-outs

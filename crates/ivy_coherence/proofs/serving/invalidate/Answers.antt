@@ -1,7 +1,7 @@
 use Rattle.std.proofs.Common.{◌≡◌, map, arith}
 use Rattle.std.proofs.lemmas.Grind.{common_steps}
 use Rattle.ivy_wire.specs.Lent.{owned_parcel}
-use Rattle.ivy_coherence.specs.Serving.{invalidations}
+use Rattle.ivy_coherence.specs.stated.Serving.{invalidations}
 use Rattle.ivy_coherence.proofs.serving.invalidate.Goals as goal
 
 pub post-requires : goal.post-requires

@@ -1,7 +1,7 @@
 use Rattle.std.proofs.Common.{◌≡◌, length, map, take}
 use Rattle.ivy_wire.specs.declared.Content.TheVariants as content
 use Rattle.ivy_wire.specs.Lent.{owned_parcel}
-use Rattle.ivy_wire.specs.Posts.{parcel_to}
+use Rattle.ivy_wire.specs.stated.Posts.{parcel_to}
 use Rattle.ivy_coherence.proofs.serving.invalidate.Given as goal
 
 -- the nodes so far are told

@@ -1,6 +1,6 @@
 use Rattle.std.proofs.Common.{◌≡◌, ◌≤◌, [], length, map, drop}
 use Rattle.ivy_wire.specs.Lent.{owned_parcel}
-use Rattle.ivy_coherence.specs.Serving.{serving, all_served}
+use Rattle.ivy_coherence.specs.stated.Serving.{serving, all_served}
 use Rattle.ivy_coherence.proofs.serving.serve_all.Given as goal
 
 -- what is left to serve, from here, gives what all messages give from the beginning

@@ -2,10 +2,10 @@ use Rattle.std.proofs.Common.{◌≡◌, ℕ, List, Option, [], ap, ◌∙◌, s
 use Rattle.ivy_wire.specs.Lent.{owned_parcel}
 use Rattle.ivy_pagetable.specs.declared.PutOff.{PutOff}
 use Rattle.ivy_pagetable.specs.declared.Request.{Request}
-use Rattle.ivy_pagetable.specs.States.{IdleState}
-use Rattle.ivy_pagetable.specs.Manager.{Ops}
-use Rattle.ivy_coherence.specs.Serving.{Serving, serving, all_served, told, put_off_served}
-use Rattle.ivy_coherence.proofs.Undoing.{IsMadeBy, put_off_served-follows, me-follows, undone}
+use Rattle.ivy_pagetable.specs.stated.States.{IdleState}
+use Rattle.ivy_pagetable.specs.stated.Manager.{Ops}
+use Rattle.ivy_coherence.specs.stated.Serving.{Serving, serving, all_served, told, put_off_served}
+use Rattle.ivy_coherence.proofs.keeping.Undoing.{IsMadeBy, put_off_served-follows, me-follows, undone}
 use Rattle.ivy_coherence.proofs.serving.serve_put_off.Goals as goal
 
 -- the manager learns of the reply first, then all messages are served

@@ -1,5 +1,5 @@
 use Rattle.std.proofs.Common.{rules, ◌<◌, length, ◌+◌, ◌^◌, ap, ◌∙◌, arith}
-use Rattle.ivy_link.specs.Linked.{with_message}
+use Rattle.ivy_link.specs.stated.Linked.{with_message}
 use Rattle.ivy_link.specs.Sides.{held_of}
 use Rattle.ivy_link.proofs.Peers.{stays_same}
 use Rattle.ivy_link.proofs.Sending.{kept-inside, kept-here, kept_more, copy-here}

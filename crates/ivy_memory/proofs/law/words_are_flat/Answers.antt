@@ -1,4 +1,4 @@
-use Rattle.ivy_memory.proofs.CallsServed.{words_are_flat, refusals_are_flat}
+use Rattle.ivy_memory.proofs.serving.CallsServed.{words_are_flat, refusals_are_flat}
 use Rattle.ivy_memory.proofs.law.words_are_flat.Goals as goal
 
 pub returns-clause-words : goal.returns-clause-words

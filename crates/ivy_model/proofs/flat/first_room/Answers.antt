@@ -6,7 +6,7 @@ use Rattle.std.specs.FinMap.{from_entries}
 use Rattle.std.proofs.lemmas.Bool.Decides.{nat_tests}
 use Rattle.std.proofs.lemmas.List.Elements.{All-nil}
 use Rattle.ivy_model.specs.declared.config.Config.{Config}
-use Rattle.ivy_model.specs.Serves.{IsLeast, IsRoom}
+use Rattle.ivy_model.specs.stated.Serves.{IsLeast, IsRoom}
 use Rattle.ivy_model.proofs.Blocks.{Misses}
 use Rattle.ivy_model.proofs.Walk.{IsWalkedTo, gap_misses, is_least, next_block, none_lower, walk_begins, walks_on}
 use Rattle.ivy_model.proofs.flat.first_room.Goals as goal

@@ -1,5 +1,5 @@
 use Rattle.std.proofs.Common.{rules, ◌≡◌, ◌≢◌, length, sym, subst}
-use Rattle.ivy_own.specs.Owned.{TurnsOwn, last_reply_in}
+use Rattle.ivy_own.specs.OwnSeats.{TurnsOwn, last_reply_in}
 use Rattle.ivy_own.proofs.Owning.{none_came, one_came}
 use Rattle.ivy_own.proofs.owned.turn_once.Goals as goal
 

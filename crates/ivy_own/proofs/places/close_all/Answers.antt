@@ -5,7 +5,7 @@ use Rattle.std.proofs.lemmas.Option.{none-some}
 use Rattle.std.specs.Vec.Iter.{into_iter_len}
 use Rattle.ivy_calls.specs.Answers.{answers}
 use Rattle.ivy_seating.specs.Reports.{NodeReport, report_of, AllKeep}
-use Rattle.ivy_seating.proofs.Told.{told_more, told_none}
+use Rattle.ivy_seating.proofs.Collected.{told_more, told_none}
 use Rattle.ivy_own.specs.Ended.{HasEnded, AreClosed}
 use Rattle.ivy_own.proofs.Each.{left_all, left_first, left_more, closed_more}
 use Rattle.ivy_own.proofs.places.close_all.Goals as goal

@@ -1,7 +1,7 @@
 use Rattle.std.proofs.Common.{◌≡◌, ◌+◌, ◌≤◌, ℕ, Some, map, slice_get, vec_len, vec_capacity}
 use Rattle.std.specs.Vec.Iter.{into_iter_items, into_iter_len}
 use Rattle.ivy_seating.specs.Reports.{report_of, AllKeep}
-use Rattle.ivy_seating.specs.Told.{AreTold}
+use Rattle.ivy_seating.specs.Collected.{AreTold}
 use Rattle.ivy_own.specs.Ended.{HasEnded, AreClosed}
 use Rattle.ivy_own.proofs.places.close_all.Given as goal
 

@@ -1,11 +1,11 @@
 use Rattle.std.proofs.Common.{rules, arith, ◌≡◌, length, Some, [], ◌∷◌, ◌++◌, ap, ◌∙◌}
 use Rattle.std.proofs.lemmas.List.Elements.{All-pop}
 use Rattle.ivy_calls.specs.declared.answer.Answer.{Answer}
-use Rattle.ivy_twin.specs.Known.{Listed, listed}
-use Rattle.ivy_seating.specs.ivy_ether.Rule.{times}
-use Rattle.ivy_seating.specs.ivy_ether.Views.{View}
-use Rattle.ivy_seating.specs.ivy_ether.Words.{IsNewcomer}
-use Rattle.ivy_seating.proofs.Told.{issued_more}
+use Rattle.ivy_own.specs.Known.{Listed, listed}
+use Rattle.ivy_ether.specs.Rule.{times}
+use Rattle.ivy_ether.specs.Views.{View}
+use Rattle.ivy_ether.specs.EtherViews.{IsNewcomer}
+use Rattle.ivy_seating.proofs.Collected.{issued_more}
 use Rattle.ivy_own.proofs.Each.{none_got, got_more}
 use Rattle.ivy_own.proofs.places.seat_all.Goals as goal
 

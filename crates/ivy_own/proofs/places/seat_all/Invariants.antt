@@ -1,6 +1,6 @@
 use Rattle.std.proofs.Common.{◌≡◌, ◌+◌, ◌≤◌, ℕ, true, vec_len, All}
-use Rattle.ivy_seating.specs.ivy_ether.Rule.{times}
-use Rattle.ivy_seating.specs.ivy_ether.Words.{IsNewcomer}
+use Rattle.ivy_ether.specs.Rule.{times}
+use Rattle.ivy_ether.specs.EtherViews.{IsNewcomer}
 use Rattle.ivy_own.specs.Ended.{AreFresh}
 use Rattle.ivy_own.proofs.places.seat_all.Given as goal
 

@@ -1,12 +1,12 @@
 use Rattle.std.proofs.Common.{rules, ◌≡◌, ◌<◌, [], length, slice_get, sym, ap, subst, ◌∙◌, arith}
 use Rattle.std.proofs.lemmas.List.{length-replicate}
 use Rattle.ivy_model.specs.declared.Config.{Config}
-use Rattle.ivy_model.specs.Config.{IsConfig}
-use Rattle.ivy_program.specs.Programs.{Called}
-use Rattle.ivy_seating.specs.ivy_ether.Held.{Held}
-use Rattle.ivy_seating.specs.ivy_ether.Views.{newcomer, with_seat}
-use Rattle.ivy_seating.specs.ivy_site.SiteView.{SiteView}
-use Rattle.ivy_seating.specs.ivy_site.Sites.{first_keeping}
+use Rattle.ivy_model.specs.stated.Config.{IsConfig}
+use Rattle.ivy_program.specs.stated.Programs.{Called}
+use Rattle.ivy_ether.specs.Held.{Held}
+use Rattle.ivy_ether.specs.Views.{newcomer, with_seat}
+use Rattle.ivy_site.specs.SiteView.{SiteView}
+use Rattle.ivy_site.specs.Sites.{first_keeping}
 use Rattle.ivy_own.proofs.Each.{get_replicate}
 use Rattle.ivy_own.proofs.places.seat_one.Goals as goal
 

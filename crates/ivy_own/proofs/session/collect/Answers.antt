@@ -1,8 +1,8 @@
 use Rattle.std.proofs.Common.{◌≡◌, length, map, sym, ap, subst, ◌∙◌, arith}
 use Rattle.std.proofs.lemmas.List.{length-map}
-use Rattle.ivy_seating.specs.ivy_ether.Held.{Held}
+use Rattle.ivy_ether.specs.Held.{Held}
 use Rattle.ivy_seating.specs.Reports.{report_of, AllKeep}
-use Rattle.ivy_seating.specs.Told.{AreTold}
+use Rattle.ivy_seating.specs.Collected.{AreTold}
 use Rattle.ivy_own.specs.Ended.{AreClosed}
 use Rattle.ivy_own.proofs.Reported.{own_report}
 use Rattle.ivy_own.proofs.session.collect.Goals as goal

@@ -1,5 +1,5 @@
 use Rattle.std.proofs.Common.{◌≡◌, replicate}
-use Rattle.ivy_pagetable.specs.Tables.{first_entry}
+use Rattle.ivy_pagetable.specs.stated.Tables.{first_entry}
 use Rattle.ivy_pagetable.proofs.table.first_entries.Given as goal
 
 abbrev pub invariant-loop : goal.invariant-loop

@@ -1,7 +1,7 @@
 use Rattle.std.proofs.Common.{rules, arith}
-use Rattle.ivy_join.specs.ivy_site.declared.turn.Turn.TheVariants.{Moved}
-use Rattle.ivy_join.specs.ivy_site.Sites.{AfterTurn}
-use Rattle.ivy_join.proofs.Steps.{one_more}
+use Rattle.ivy_site.specs.declared.turn.Turn.TheVariants.{Moved}
+use Rattle.ivy_site.specs.Sites.{AfterTurn}
+use Rattle.ivy_join.proofs.EventSteps.{one_more}
 use Rattle.ivy_process.proofs.sites.make_turns.Goals as goal
 
 pub loop-made-preserved : goal.loop-made-preserved

@@ -1,5 +1,5 @@
 use Rattle.std.proofs.Common.{◌∙◌, ap, []}
-use Rattle.ivy_join.specs.ivy_site.SiteView.{SiteView}
+use Rattle.ivy_site.specs.SiteView.{SiteView}
 use Rattle.ivy_process.proofs.sites.push_frames.Goals as goal
 
 pub loop-string-preserved : goal.loop-string-preserved

@@ -1,5 +1,5 @@
 -- The fault and the programs of the lines are those of the text that they were read of.
-use Rattle.ivy_program.proofs.Whole.{fault_of, spelled_of}
+use Rattle.ivy_program.proofs.reading.Whole.{fault_of, spelled_of}
 use Rattle.ivy_program.proofs.parser.parse.Goals as goal
 
 pub returns-clause-fault : goal.returns-clause-fault

@@ -1,8 +1,8 @@
 use Rattle.std.proofs.Common.{rules, ◌≡◌, ◌∙◌, ℕ, ◌+◌, ◌-◌, ◌<◌, true, List, [], ◌∷◌, ◌++◌, subst, append-nil, get_or, length, take, drop, refl, sym, ap, arith}
 use Rattle.std.proofs.lemmas.Str.{IsCharBoundary-start, IsCharBoundary-after_ascii}
-use Rattle.ivy_program.specs.Words.{is_blank, parted_words}
-use Rattle.ivy_program.proofs.Cuts.{blanks_low}
-use Rattle.ivy_program.proofs.Wording.{IsBare, texts_to, one_more, parted_blank, parted_word, parted_last}
+use Rattle.ivy_program.specs.texts.TextWords.{is_blank, parted_words}
+use Rattle.ivy_program.proofs.reading.Cuts.{blanks_low}
+use Rattle.ivy_program.proofs.reading.Wording.{IsBare, texts_to, one_more, parted_blank, parted_word, parted_last}
 use Rattle.ivy_program.proofs.words.part.Goals as goal
 use Rattle.ivy_program.proofs.words.part.Goals.{then-start-at+else-not-put, else-start-at}
 

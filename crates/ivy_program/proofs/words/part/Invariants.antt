@@ -1,8 +1,8 @@
 -- The words so far, and those of what follows the last blank, are the words of the text.
 use Rattle.std.proofs.Common.{◌≡◌, ◌≤◌, ◌++◌, length, drop}
 use Rattle.std.specs.Str.{IsCharBoundary}
-use Rattle.ivy_program.specs.Words.{parted_words}
-use Rattle.ivy_program.proofs.Wording.{IsBare, texts_to}
+use Rattle.ivy_program.specs.texts.TextWords.{parted_words}
+use Rattle.ivy_program.proofs.reading.Wording.{IsBare, texts_to}
 use Rattle.ivy_program.proofs.words.part.Given as goal
 
 abbrev pub invariant-loop-at : goal.invariant-loop-at

@@ -1,7 +1,7 @@
 -- Where there is an LF, a CR before it goes too.
 use Rattle.std.proofs.Common.{◌∙◌, Some, None, sym, ap, lit<}
 use Rattle.std.proofs.lemmas.Str.Pattern.{strip_suffix_char}
-use Rattle.ivy_program.proofs.Ends.{return_stripped, without_end-ended, without_end-other}
+use Rattle.ivy_program.proofs.reading.Ends.{return_stripped, without_end-ended, without_end-other}
 use Rattle.ivy_program.proofs.words.without_end.Goals as goal
 
 pub returns-in-Some : goal.returns-in-Some

@@ -3,8 +3,8 @@ use Rattle.std.proofs.Common.{◌≡◌, ◌∙◌, ℕ, [], ◌∷◌, ap, leng
 use Rattle.std.specs.Char.{char_set_contains}
 use Rattle.std.specs.Str.Iter.{split_pattern}
 use Rattle.std.proofs.lemmas.Iterator.Consumers.{map_from_collect, YieldsList-from_filter}
-use Rattle.ivy_program.specs.Words.{is_blank, without_comment, without_end}
-use Rattle.ivy_program.proofs.Cuts.{YieldsList-from_cuts, blanks_low, blanks_matched}
+use Rattle.ivy_program.specs.texts.TextWords.{is_blank, without_comment, without_end}
+use Rattle.ivy_program.proofs.reading.Cuts.{YieldsList-from_cuts, blanks_low, blanks_matched}
 use Rattle.ivy_program.proofs.words.words_of.Goals as goal
 
 pub returns : goal.returns

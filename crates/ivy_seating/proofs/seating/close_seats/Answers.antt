@@ -3,8 +3,8 @@ use Rattle.std.proofs.lemmas.List.{length-map, map-append}
 use Rattle.std.proofs.lemmas.List.Elements.{All-nil, All-push}
 use Rattle.std.specs.Vec.Iter.{into_iter_items}
 use Rattle.ivy_seating.specs.Reports.{NodeReport, report_of, AllKeep}
-use Rattle.ivy_seating.specs.Told.{AreTold}
-use Rattle.ivy_seating.proofs.Told.{told_more, told_none}
+use Rattle.ivy_seating.specs.Collected.{AreTold}
+use Rattle.ivy_seating.proofs.Collected.{told_more, told_none}
 use Rattle.ivy_seating.proofs.seating.close_seats.Goals as goal
 
 pub loop-seat-init : goal.loop-seat-init

@@ -1,7 +1,7 @@
 use Rattle.std.proofs.Common.{◌≡◌, ◌+◌, ◌≤◌, length, map, vec_len, vec_capacity}
 use Rattle.std.specs.Vec.Iter.{into_iter_items, into_iter_len}
 use Rattle.ivy_seating.specs.Reports.{report_of, AllKeep}
-use Rattle.ivy_seating.specs.Told.{AreTold}
+use Rattle.ivy_seating.specs.Collected.{AreTold}
 use Rattle.ivy_seating.proofs.seating.close_seats.Given as goal
 
 -- the starter was told of the sites so far

@@ -3,8 +3,8 @@ use Rattle.std.proofs.lemmas.List.Elements.{All-pop}
 use Rattle.std.specs.Vec.Iter.{into_iter_items}
 use Rattle.ivy_ether.specs.Rule.{times}
 use Rattle.ivy_ether.specs.Views.{View}
-use Rattle.ivy_ether.specs.Words.{IsNewcomer}
-use Rattle.ivy_seating.proofs.Told.{issued_more}
+use Rattle.ivy_ether.specs.EtherViews.{IsNewcomer}
+use Rattle.ivy_seating.proofs.Collected.{issued_more}
 use Rattle.ivy_seating.proofs.seating.seat_all.Goals as goal
 
 pub loop-program-init : goal.loop-program-init

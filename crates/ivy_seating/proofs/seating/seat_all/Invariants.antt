@@ -1,8 +1,8 @@
 use Rattle.std.proofs.Common.{◌≡◌, ◌+◌, ◌≤◌, ℕ, true, length, vec_len, All, slice_get, Some}
 use Rattle.std.specs.Vec.Iter.{into_iter_items, into_iter_len}
-use Rattle.ivy_program.specs.Programs.{Program}
+use Rattle.ivy_program.specs.stated.Programs.{Program}
 use Rattle.ivy_ether.specs.Rule.{times}
-use Rattle.ivy_ether.specs.Words.{IsNewcomer}
+use Rattle.ivy_ether.specs.EtherViews.{IsNewcomer}
 use Rattle.ivy_seating.proofs.seating.seat_all.Given as goal
 
 -- the programs left are those from this node on, for which no seat was issued yet

@@ -1,6 +1,6 @@
 use Rattle.std.proofs.Common.{rules, ◌≡◌, Some, slice_get, sym, ap, subst, ◌∙◌}
 use Rattle.ivy_model.specs.declared.Config.{Config}
-use Rattle.ivy_model.specs.Config.{IsConfig}
+use Rattle.ivy_model.specs.stated.Config.{IsConfig}
 use Rattle.ivy_ether.specs.Held.{Held}
 use Rattle.ivy_ether.specs.Views.{newcomer, with_seat}
 use Rattle.ivy_site.specs.SiteView.{SiteView}

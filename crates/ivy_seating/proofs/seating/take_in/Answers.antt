@@ -1,7 +1,7 @@
 use Rattle.std.proofs.Common.{rules, ◌≡◌, Some, ap, ◌∙◌}
-use Rattle.ivy_program.specs.Steps.{HasEnded}
+use Rattle.ivy_program.specs.InstructionSteps.{HasEnded}
 use Rattle.ivy_seating.proofs.Seats.{may_give, is_done}
-use Rattle.ivy_seating.proofs.Told.{tells_of}
+use Rattle.ivy_seating.proofs.Collected.{tells_of}
 use Rattle.ivy_seating.proofs.seating.take_in.Goals as goal
 
 pub close-requires-clause-events : goal.close-requires-clause-events

@@ -1,6 +1,6 @@
 use Rattle.std.proofs.Common.{rules, ◌≡◌, length, sym, subst}
-use Rattle.ivy_seating.specs.ivy_ether.Held.{Held}
-use Rattle.ivy_seating.specs.Told.{AreTold}
+use Rattle.ivy_ether.specs.Held.{Held}
+use Rattle.ivy_seating.specs.Collected.{AreTold}
 use Rattle.ivy_session.proofs.Reported.{reported}
 use Rattle.ivy_session.proofs.report.collect.Goals as goal
 

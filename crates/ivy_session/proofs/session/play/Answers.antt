@@ -1,6 +1,6 @@
 use Rattle.std.proofs.Common.{ap}
-use Rattle.ivy_seating.specs.ivy_ether.Held.{Held}
-use Rattle.ivy_seating.proofs.Told.{fresh_pop}
+use Rattle.ivy_ether.specs.Held.{Held}
+use Rattle.ivy_seating.proofs.Collected.{fresh_pop}
 use Rattle.ivy_session.proofs.session.play.Goals as goal
 
 pub play_at-requires-clause-passes : goal.play_at-requires-clause-passes

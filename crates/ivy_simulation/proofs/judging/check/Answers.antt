@@ -1,6 +1,6 @@
 -- The verdict is that of the order that the text says, under the configuration of its sizes.
 use Rattle.std.proofs.Common.{◌↔◌, IfOk, IsTrue, subst}
-use Rattle.ivy_model.specs.Legal.{Legal}
+use Rattle.ivy_model.specs.stated.Legal.{Legal}
 use Rattle.ivy_simulation.proofs.Verdicts.{verdict-printed}
 use Rattle.ivy_simulation.proofs.judging.check.Goals as goal
 

@@ -1,5 +1,5 @@
 use Rattle.std.proofs.Common.{arith}
-use Rattle.ivy_program.specs.Steps.{step_of}
+use Rattle.ivy_program.specs.stated.InstructionSteps.{step_of}
 use Rattle.ivy_texts.specs.Lines.{end_line}
 use Rattle.ivy_simulation.specs.Nodes.{has_ended}
 use Rattle.ivy_texts.proofs.Printing.{appends-more}

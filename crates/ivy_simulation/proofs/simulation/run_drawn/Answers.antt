@@ -1,6 +1,6 @@
 use Rattle.std.proofs.Common.{◌≡◌, ◌+◌, ◌≤◌, All, List, ℕ, [], ◌∷◌, length, subst, sym, ◌∙◌, refl, arith}
-use Rattle.ivy_world.specs.ivy_host.Holding.{AllSpell}
-use Rattle.ivy_world.specs.proof_headline.Reached.{IsLedTo}
+use Rattle.ivy_host.specs.stated.Holding.{AllSpell}
+use Rattle.proof_worlds.specs.stated.Reached.{IsLedTo}
 use Rattle.ivy_texts.specs.Drawn.{seeded, drawn}
 use Rattle.ivy_simulation.specs.Simulated.{DrawnTo}
 use Rattle.ivy_texts.proofs.Drawing.{long_strings}

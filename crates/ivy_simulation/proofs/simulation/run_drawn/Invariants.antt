@@ -1,5 +1,5 @@
 use Rattle.std.proofs.Common.{◌≡◌}
-use Rattle.ivy_world.specs.ivy_host.Holding.{AllSpell}
+use Rattle.ivy_host.specs.stated.Holding.{AllSpell}
 use Rattle.ivy_texts.specs.Drawn.{seeded}
 use Rattle.ivy_simulation.proofs.Simulating.{IsDrawnSince}
 use Rattle.ivy_simulation.proofs.simulation.run_drawn.Given as goal

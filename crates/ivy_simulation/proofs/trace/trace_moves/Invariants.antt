@@ -1,5 +1,5 @@
 use Rattle.std.proofs.Common.{◌≡◌, take}
-use Rattle.ivy_world.specs.proof_headline.Reached.{IsLedTo}
+use Rattle.proof_worlds.specs.stated.Reached.{IsLedTo}
 use Rattle.ivy_simulation.specs.Played.{Adds}
 use Rattle.ivy_simulation.proofs.trace.trace_moves.Given as goal
 

@@ -1,4 +1,4 @@
-use Rattle.ivy_sync.proofs.TicketLocks.{ticket_locks-exclude}
+use Rattle.ivy_sync.proofs.excluding.TicketLocks.{ticket_locks-exclude}
 use Rattle.ivy_sync.proofs.law.ticket_locks_exclude.Goals as goal
 
 pub returns : goal.returns

@@ -3,7 +3,7 @@ use Rattle.std.proofs.Common.{rules, ◌≡◌, ◌<◌, [], ◌∷◌, ◌++◌
 use Rattle.std.specs.Str.Lines.{lines}
 use Rattle.std.proofs.lemmas.Iterator.Splits.{YieldsList-from_lines}
 use Rattle.std.proofs.lemmas.Iterator.Consumers.{YieldsList-from_enumerate, YieldsList-end}
-use Rattle.ivy_program.proofs.Reading.{texts_of}
+use Rattle.ivy_program.proofs.reading.Reading.{texts_of}
 use Rattle.ivy_texts.specs.Spelled.{SpellsRecord, SpellsSizes, worded}
 use Rattle.ivy_texts.proofs.Worded.{IsOrderSoFar, order-begun, order-more, order-whole, texts-all, texts-blank, texts-more}
 use Rattle.ivy_texts.proofs.order.parse_order.Goals as goal

@@ -1,5 +1,5 @@
 -- The lines so far say the sizes, once they are known, and the records so far.
-use Rattle.ivy_program.proofs.Reading.{texts_of}
+use Rattle.ivy_program.proofs.reading.Reading.{texts_of}
 use Rattle.ivy_texts.specs.Spelled.{worded}
 use Rattle.ivy_texts.proofs.Worded.{IsOrderSoFar}
 use Rattle.ivy_texts.proofs.order.parse_order.Given as goal

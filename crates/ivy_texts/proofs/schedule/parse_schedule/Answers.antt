@@ -4,8 +4,8 @@ use Rattle.std.specs.List.{AllZip}
 use Rattle.std.specs.Str.Lines.{lines}
 use Rattle.std.proofs.lemmas.Iterator.Splits.{YieldsList-from_lines}
 use Rattle.std.proofs.lemmas.Iterator.Consumers.{YieldsList-from_enumerate, YieldsList-end}
-use Rattle.ivy_program.proofs.Reading.{texts_of}
-use Rattle.ivy_program.proofs.Zips.{zip_push}
+use Rattle.ivy_program.proofs.reading.Reading.{texts_of}
+use Rattle.ivy_program.proofs.reading.Zips.{zip_push}
 use Rattle.ivy_texts.specs.Spelled.{SpellsMove, worded}
 use Rattle.ivy_texts.proofs.Worded.{texts-all, texts-blank, texts-more}
 use Rattle.ivy_texts.proofs.schedule.parse_schedule.Goals as goal

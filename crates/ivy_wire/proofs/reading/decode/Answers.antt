@@ -1,7 +1,7 @@
 use Rattle.std.proofs.Common.{◌≡◌, sym, ap, ◌∙◌, IsOk, MatchResult, Result, Ok, Err}
 use Rattle.ivy_model.specs.declared.Fault.{Fault}
 use Rattle.ivy_wire.specs.declared.frame.FrameKind.{FrameKind}
-use Rattle.ivy_wire.specs.DecodeErrors.{checked}
+use Rattle.ivy_wire.specs.stated.DecodeErrors.{checked}
 use Rattle.ivy_wire.proofs.Frames.{never_memory}
 use Rattle.ivy_wire.proofs.reading.decode.Goals as goal
 

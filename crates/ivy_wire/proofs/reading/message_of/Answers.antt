@@ -1,9 +1,9 @@
 use Rattle.std.proofs.Common.{◌≡◌, ◌∙◌, None, Some, Option, ap, sym, refl, arith}
 use Rattle.ivy_wire.specs.declared.frame.FrameKind.{FrameKind}
-use Rattle.ivy_wire.specs.Reading.{message_at}
-use Rattle.ivy_wire.specs.DecodeErrors.{text_at}
-use Rattle.ivy_wire.specs.Data.{Frame}
-use Rattle.ivy_wire.specs.Spelling.{frame_kind, text_len, Spells}
+use Rattle.ivy_wire.specs.stated.Reading.{message_at}
+use Rattle.ivy_wire.specs.stated.DecodeErrors.{text_at}
+use Rattle.ivy_wire.specs.stated.Data.{Frame}
+use Rattle.ivy_wire.specs.stated.Spelling.{frame_kind, text_len, Spells}
 use Rattle.ivy_wire.proofs.Frames.{spelled_long, spelled_read, kind_spelled, message_spelled_in}
 use Rattle.ivy_wire.proofs.reading.message_of.Goals as goal
 

@@ -1,7 +1,7 @@
 use Rattle.std.proofs.Common.{rules, ◌≡◌, ◌∙◌, ◌∷◌, ◌++◌, [], List, ℕ, drop, ap, refl}
 use Rattle.std.proofs.lemmas.List.{drop-drop}
 use Rattle.byteorder.specs.Endian.{big_bytes}
-use Rattle.ivy_wire.specs.Spelling.{code_of}
+use Rattle.ivy_wire.specs.stated.Spelling.{code_of}
 use Rattle.ivy_wire.proofs.Writes.{one_write}
 use Rattle.ivy_wire.proofs.writing.write_header.Goals as goal
 

@@ -1,6 +1,6 @@
 use Rattle.std.proofs.Common.{length, refl, arith}
 use Rattle.std.proofs.lemmas.Option.{slice_get_read}
-use Rattle.ivy_world.proofs.Rounds.{none_here}
+use Rattle.ivy_world.proofs.WorldRounds.{none_here}
 use Rattle.ivy_world.proofs.round.first_under_way.Goals as goal
 
 pub returns-in-Some-clause-found : goal.returns-in-Some-clause-found

@@ -1,4 +1,4 @@
-use Rattle.ivy_world.specs.Rounds.{HasNoneUnderWay}
+use Rattle.ivy_world.specs.WorldRounds.{HasNoneUnderWay}
 use Rattle.ivy_world.proofs.round.first_under_way.Given as goal
 
 abbrev pub invariant-loop-index : goal.invariant-loop-index

@@ -1,7 +1,7 @@
 use Rattle.std.proofs.Common.{refl, sym, ◌∙◌, arith, inl, inr}
 use Rattle.std.proofs.lemmas.Bool.{cases_eq}
 use Rattle.std.proofs.lemmas.Option.{slice_get_within}
-use Rattle.ivy_world.specs.Rounds.{IsDeliveredFrom}
+use Rattle.ivy_world.specs.WorldRounds.{IsDeliveredFrom}
 use Rattle.ivy_world.proofs.round.is_delivered.Goals as goal
 
 pub returns-then-not-is_delivered_from : goal.returns-then-not-is_delivered_from

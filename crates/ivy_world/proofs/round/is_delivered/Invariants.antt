@@ -1,5 +1,5 @@
 use Rattle.std.proofs.Common.{◌<◌, ℕ}
-use Rattle.ivy_world.specs.Rounds.{IsDeliveredFrom}
+use Rattle.ivy_world.specs.WorldRounds.{IsDeliveredFrom}
 use Rattle.ivy_world.proofs.round.is_delivered.Given as goal
 
 abbrev pub invariant-loop-from : goal.invariant-loop-from

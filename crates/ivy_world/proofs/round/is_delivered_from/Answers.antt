@@ -1,7 +1,7 @@
 use Rattle.std.proofs.Common.{rules, ◌≡◌, length, slice_get, Some, refl, sym, arith}
 use Rattle.std.proofs.lemmas.Option.{slice_get_read, slice_get_within}
-use Rattle.ivy_moves.specs.ivy_link.Linked.{peer_at}
-use Rattle.ivy_world.proofs.Rounds.{knows, not_delivered, delivered_there, one_more}
+use Rattle.ivy_link.specs.stated.Linked.{peer_at}
+use Rattle.ivy_world.proofs.WorldRounds.{knows, not_delivered, delivered_there, one_more}
 use Rattle.ivy_world.proofs.round.is_delivered_from.Goals as goal
 use Rattle.ivy_world.proofs.round.is_delivered_from.Goals.{else-to-from-via-then-to-from+else-delivered_from-sent_to, else-to-from-via-else-to-from}
 

@@ -1,5 +1,5 @@
 use Rattle.std.proofs.Common.{◌≡◌, ◌≢◌, ◌<◌, ℕ, slice_get, Some}
-use Rattle.ivy_moves.specs.ivy_link.Linked.{peer_at}
+use Rattle.ivy_link.specs.stated.Linked.{peer_at}
 use Rattle.ivy_site.specs.SiteView.{SiteView}
 use Rattle.ivy_world.proofs.round.is_delivered_from.Given as goal
 

@@ -2,7 +2,7 @@ use Rattle.std.proofs.Common.{rules, ◌≡◌, Some, None, false, true, length,
 use Rattle.std.proofs.lemmas.Option.{slice_get_read}
 use Rattle.std.proofs.lemmas.Bool.{ltb-true}
 use Rattle.ivy_wire.specs.Destinations.{dest_of}
-use Rattle.ivy_world.proofs.Rounds.{nowhere, for_nobody, for_none_there, not_awaited}
+use Rattle.ivy_world.proofs.WorldRounds.{nowhere, for_nobody, for_none_there, not_awaited}
 use Rattle.ivy_world.proofs.round.under_way_to.Goals as goal
 
 pub returns-in_err-destination : goal.returns-in_err-destination

@@ -3,9 +3,9 @@ use Rattle.std.proofs.lemmas.Option.{slice_get_read}
 use Rattle.ivy_model.specs.declared.Fault.TheVariants as fault
 use Rattle.ivy_model.specs.Rows.{calls_of, numbers_in, row}
 use Rattle.ivy_site.specs.Calls.{row_together}
-use Rattle.ivy_site.proofs.of_ivy_memory.Beginning.{err_there}
+use Rattle.ivy_memory.proofs.keeping.Beginning.{err_there}
 use Rattle.ivy_world.specs.WorldSites.{IsRefusedRow}
-use Rattle.ivy_world.proofs.Together.{place_says, row_refused, row_wants}
+use Rattle.ivy_world.proofs.BatchedWorlds.{place_says, row_refused, row_wants}
 use Rattle.ivy_world.proofs.world.begin_block.Goals as goal
 
 pub collect-requires : goal.collect-requires

@@ -1,7 +1,7 @@
 use Rattle.std.proofs.Common.{rules, refl, ◌≡◌, slice_get, Some, sym, ◌<◌, ◌≢◌, ◌++◌, length, ap, ◌∙◌, arith}
 use Rattle.std.proofs.lemmas.Option.{slice_get_read}
 use Rattle.ivy_model.specs.declared.Config.{Config}
-use Rattle.ivy_site.proofs.of_ivy_memory.Beginning.{err_there}
+use Rattle.ivy_memory.proofs.keeping.Beginning.{err_there}
 use Rattle.ivy_world.proofs.Idling.{idle_turn}
 use Rattle.ivy_world.proofs.Making.{turn_went, turn_refused, pulse_went, delivery_refused, delivery_spelled}
 use Rattle.ivy_world.proofs.GoingOn.{went_there, delivery_went}

@@ -1,6 +1,6 @@
 use Rattle.std.proofs.Common.{◌≡◌, ◌∙◌, ◌++◌, [], ◌+◌, ◌-◌, suc, ap, sym, append-nil, arith}
-use Rattle.ivy_program.specs.Programs.{Called}
-use Rattle.ivy_world.specs.Handed.{own_code}
+use Rattle.ivy_program.specs.stated.Programs.{Called}
+use Rattle.ivy_world.specs.HandedWorlds.{own_code}
 use Rattle.ivy_world.specs.WorldSites.{first_sites_from}
 use Rattle.ivy_world.proofs.Worlds.{one_more_site}
 use Rattle.ivy_world.proofs.world.open_sites.Goals as goal

@@ -1,5 +1,5 @@
 use Rattle.std.proofs.Common.{◌≡◌, ◌++◌, ◌-◌}
-use Rattle.ivy_world.specs.Handed.{own_code}
+use Rattle.ivy_world.specs.HandedWorlds.{own_code}
 use Rattle.ivy_world.specs.WorldSites.{first_sites_from}
 use Rattle.ivy_world.proofs.world.open_sites.Given as goal
 

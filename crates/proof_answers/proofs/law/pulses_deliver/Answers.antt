@@ -1,4 +1,4 @@
-use Rattle.proof_answers.proofs.Pulsed.{pulses_deliver}
+use Rattle.proof_answers.proofs.answers.Pulsed.{pulses_deliver}
 use Rattle.proof_answers.proofs.law.pulses_deliver.Goals as goal
 
 pub returns : goal.returns

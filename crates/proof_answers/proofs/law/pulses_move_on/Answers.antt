@@ -1,4 +1,4 @@
-use Rattle.proof_answers.proofs.Pulsed.{pulses_move_on}
+use Rattle.proof_answers.proofs.answers.Pulsed.{pulses_move_on}
 use Rattle.proof_answers.proofs.law.pulses_move_on.Goals as goal
 
 pub returns : goal.returns

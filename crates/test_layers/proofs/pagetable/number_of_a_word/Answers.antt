@@ -1,5 +1,5 @@
 use Rattle.std.proofs.Common.{◌≡◌, ◌∙◌, refl, ap, sym, subst, arith}
-use Rattle.ivy_pagetable.specs.Words.{IsWord}
+use Rattle.ivy_pagetable.specs.stated.Words.{IsWord}
 use Rattle.test_layers.proofs.pagetable.number_of_a_word.Goals as goal
 
 pub number-requires-clause-word : goal.number-requires-clause-word

@@ -1,5 +1,5 @@
 use Rattle.std.proofs.Common.{◌≡◌, ◌∙◌, refl, ap, sym, subst, arith}
-use Rattle.ivy_pagetable.specs.Words.{IsWord}
+use Rattle.ivy_pagetable.specs.stated.Words.{IsWord}
 use Rattle.test_layers.proofs.pagetable.numbers_have_their_highest_byte_first.Goals as goal
 
 pub carry_out-requires-2-clause-word : goal.carry_out-requires-2-clause-word

@@ -1,9 +1,10 @@
 -- A row has so many calls.
 use Rattle.std.proofs.Common.{replicate, rules, subst, sym}
 use Rattle.ivy_model.specs.declared.Row.TheVariants.{Loads}
-use Rattle.ivy_program.specs.Owned.{Rests}
-use Rattle.ivy_program.specs.Steps.{Process, AsksMany}
-use Rattle.ivy_program.proofs.Awaited.{together_words}
+use Rattle.ivy_program.specs.OwnCode.{Rests}
+use Rattle.ivy_program.specs.stated.InstructionSteps.{Process}
+use Rattle.ivy_program.specs.InstructionSteps.{AsksMany}
+use Rattle.ivy_program.proofs.running.Awaited.{together_words}
 use Rattle.test_surface.proofs.program.own_code.Goals as goal
 
 pub answer_row-requires-clause-asks : goal.answer_row-requires-clause-asks

@@ -1,12 +1,12 @@
 use Rattle.std.proofs.Common.{ap, refl, sym, inr, ◌∙◌, arith}
 use Rattle.std.proofs.lemmas.Result.{err_from_is_err_and}
-use Rattle.ivy_model.specs.Serves.{rounded}
+use Rattle.ivy_model.specs.stated.Serves.{rounded}
 use Rattle.ivy_model.proofs.Blocks.{block_added}
 use Rattle.std.specs.FinMap.{insert, from_entries}
 use Rattle.ivy_model.specs.declared.call.Reply.TheVariants.{Value}
-use Rattle.ivy_alloc.specs.Told.{gives}
+use Rattle.ivy_alloc.specs.stated.HeapAnswers.{gives}
 use Rattle.ivy_alloc.proofs.Answered.{told_empty, told_full, told_found}
-use Rattle.ivy_alloc.proofs.Limits.{grown, rounded_some}
+use Rattle.ivy_alloc.proofs.HeapBounds.{grown, rounded_some}
 use Rattle.ivy_alloc.proofs.Room.{least_room, no_room}
 use Rattle.ivy_alloc.proofs.Tied.{fresh_room, tied_taken}
 use Rattle.ivy_alloc.proofs.heap.Heap.alloc.Goals as goal

@@ -2,10 +2,10 @@ use Rattle.std.proofs.Common.{ap, sym, refl, ◌∙◌, arith}
 use Rattle.ivy_model.proofs.Blocks.{get_block, block_removed}
 use Rattle.ivy_model.specs.declared.call.Reply.TheVariants.{Done, Refused}
 use Rattle.std.specs.FinMap.{from_entries}
-use Rattle.ivy_alloc.specs.Told.{gives}
+use Rattle.ivy_alloc.specs.stated.HeapAnswers.{gives}
 use Rattle.ivy_alloc.proofs.Answered.{told_freed, told_not_freed}
 use Rattle.ivy_alloc.proofs.Changed.{not_added, added_back}
-use Rattle.ivy_alloc.proofs.Limits.{heap_small}
+use Rattle.ivy_alloc.proofs.HeapBounds.{heap_small}
 use Rattle.ivy_alloc.proofs.Tied.{block_extent, block_not_free, tied_given}
 use Rattle.ivy_alloc.proofs.heap.Heap.free.Goals as goal
 

@@ -1,5 +1,5 @@
 use Rattle.std.proofs.Common.{arith}
-use Rattle.ivy_alloc.proofs.Limits.{tied_first}
+use Rattle.ivy_alloc.proofs.HeapBounds.{tied_first}
 use Rattle.ivy_alloc.proofs.heap.Heap.new.Goals as goal
 
 pub invariant_of-result : goal.invariant_of-result

@@ -30,7 +30,7 @@ use Rattle.std.proofs.impls.GlobalAllocator.TheImpl.Met.{passed as heap_met}
 use Rattle.std.specs.contracts.boxed.Box.into_raw as callee
 use Rattle.std.proofs.boxed.Box.into_raw.Met.{met}
 use Rattle.ivy_c.proofs.Boxes.{item, item_laws, giver, giver_laws, undropped, boxed, one_box}
-use Rattle.ivy_c.specs.Owned.{handle_owns}
+use Rattle.ivy_c.specs.Ownership.{handle_owns}
 use Rattle.ivy_c.specs.declared.handle.Handle.{Handle}
 use Rattle.ivy_c.specs.contracts.handle.Handle.{the_row}
 use Rattle.ivy_c.proofs.Handles.{cell, made, typed, cell_typed}

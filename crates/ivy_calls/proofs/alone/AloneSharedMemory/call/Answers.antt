@@ -1,5 +1,5 @@
 use Rattle.std.proofs.Common.{List, rules, subst, sym}
-use Rattle.ivy_model.specs.Serves.{Serves}
+use Rattle.ivy_model.specs.stated.Serves.{Serves}
 use Rattle.ivy_calls.specs.declared.answer.Answer.{Answer}
 use Rattle.ivy_calls.specs.Alone.{AreFlat}
 use Rattle.ivy_calls.proofs.Flat.{flat_push}

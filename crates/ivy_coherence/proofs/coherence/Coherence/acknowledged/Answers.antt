@@ -1,6 +1,6 @@
 use Rattle.std.proofs.Common.{sym, ap, ◌∙◌}
 use Rattle.ivy_pagetable.specs.Lent.{lent_entry}
-use Rattle.ivy_coherence.proofs.Opened.{fewer_missing}
+use Rattle.ivy_coherence.proofs.keeping.Opened.{fewer_missing}
 use Rattle.ivy_coherence.proofs.coherence.Coherence.acknowledged.Goals as goal
 
 pub left_with-requires-clause-left : goal.left_with-requires-clause-left

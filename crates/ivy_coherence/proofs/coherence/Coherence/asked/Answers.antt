@@ -1,7 +1,7 @@
 use Rattle.std.proofs.Common.{List, rules, sym, ap, ◌∙◌, subst}
-use Rattle.ivy_wire.specs.Data.{Parcel}
+use Rattle.ivy_wire.specs.stated.Data.{Parcel}
 use Rattle.ivy_pagetable.specs.Lent.{lent_entry}
-use Rattle.ivy_coherence.proofs.Opened.{asked_fits, asked_sound, asked_then, asked_posts}
+use Rattle.ivy_coherence.proofs.keeping.Opened.{asked_fits, asked_sound, asked_then, asked_posts}
 use Rattle.ivy_coherence.proofs.coherence.Coherence.asked.Goals as goal
 
 pub serve_put_off-requires-clause-fits : goal.serve_put_off-requires-clause-fits

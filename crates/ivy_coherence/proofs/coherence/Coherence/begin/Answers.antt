@@ -1,8 +1,8 @@
 use Rattle.std.proofs.Common.{◌≡◌, true, false, None, List, sym, ap, ◌∙◌, subst}
-use Rattle.ivy_wire.specs.Data.{Parcel}
+use Rattle.ivy_wire.specs.stated.Data.{Parcel}
 use Rattle.ivy_pagetable.specs.Lent.{lent_entry}
-use Rattle.ivy_pagetable.specs.Accesses.{suffices}
-use Rattle.ivy_coherence.proofs.Opened.{asks, hit_posts, hit_sound}
+use Rattle.ivy_pagetable.specs.stated.Accesses.{suffices}
+use Rattle.ivy_coherence.proofs.keeping.Opened.{asks, hit_posts, hit_sound}
 use Rattle.ivy_coherence.proofs.coherence.Coherence.begin.Goals as goal
 
 pub invariant_of-self-then-suffices : goal.invariant_of-self-then-suffices

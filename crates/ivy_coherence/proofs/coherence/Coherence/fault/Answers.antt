@@ -1,4 +1,4 @@
-use Rattle.ivy_coherence.proofs.Opened.{told_few, told_fit}
+use Rattle.ivy_coherence.proofs.keeping.Opened.{told_few, told_fit}
 use Rattle.ivy_coherence.proofs.coherence.Coherence.fault.Goals as goal
 
 pub invalidate-requires-clause-few : goal.invalidate-requires-clause-few

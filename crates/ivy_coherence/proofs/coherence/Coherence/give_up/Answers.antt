@@ -1,5 +1,5 @@
 use Rattle.ivy_pagetable.specs.declared.Request.TheVariants as request
-use Rattle.ivy_coherence.proofs.Opened.{alone_waiting, giving_sound}
+use Rattle.ivy_coherence.proofs.keeping.Opened.{alone_waiting, giving_sound}
 use Rattle.ivy_coherence.proofs.coherence.Coherence.give_up.Goals as goal
 
 pub set_entry-requires-clause-alone : goal.set_entry-requires-clause-alone

@@ -1,8 +1,8 @@
 use Rattle.std.proofs.Common.{ap, subst}
 use Rattle.ivy_wire.specs.Lent.{owned_content, owned_message}
-use Rattle.ivy_wire.specs.Spelling.{FitsContent}
+use Rattle.ivy_wire.specs.stated.Spelling.{FitsContent}
 use Rattle.ivy_pagetable.proofs.Bits.{with_below}
-use Rattle.ivy_coherence.proofs.Few.{handled-few}
+use Rattle.ivy_coherence.proofs.posting.Few.{handled-few}
 use Rattle.ivy_coherence.proofs.coherence.Coherence.handle.Goals as goal
 
 pub page_came-requires-clause-copies : goal.page_came-requires-clause-copies

@@ -1,5 +1,5 @@
 use Rattle.std.proofs.Common.{refl}
-use Rattle.ivy_coherence.proofs.Opened.{hit_sound}
+use Rattle.ivy_coherence.proofs.keeping.Opened.{hit_sound}
 use Rattle.ivy_coherence.proofs.coherence.Coherence.need.Goals as goal
 
 pub invariant_of-self : goal.invariant_of-self

@@ -3,7 +3,7 @@ use Rattle.byteorder.specs.Endian.{big_number}
 use Rattle.ivy_model.specs.declared.Config.{Config}
 use Rattle.ivy_model.specs.Rows.{numbers_in}
 use Rattle.ivy_model.proofs.Rows.{numbers_in-take}
-use Rattle.ivy_coherence.proofs.RowWaits.{one_fits, row_config, row_after, row_sound}
+use Rattle.ivy_coherence.proofs.batches.RowWaits.{one_fits, row_config, row_after, row_sound}
 use Rattle.ivy_coherence.proofs.coherence.Coherence.need_row.Goals as goal
 
 pub need-requires-clause-word : goal.need-requires-clause-word

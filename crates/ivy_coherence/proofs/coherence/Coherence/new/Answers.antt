@@ -1,7 +1,7 @@
 use Rattle.std.proofs.Common.{◌∙◌, ap, length}
 use Rattle.std.proofs.lemmas.List.{length-replicate}
 use Rattle.ivy_coherence.specs.Rests.{Behind}
-use Rattle.ivy_coherence.proofs.SoundEntries.{first-sound}
+use Rattle.ivy_coherence.proofs.keeping.SoundEntries.{first-sound}
 use Rattle.ivy_coherence.proofs.coherence.Coherence.new.Goals as goal
 
 pub invariant_of-result : goal.invariant_of-result

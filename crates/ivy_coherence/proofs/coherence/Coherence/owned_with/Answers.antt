@@ -1,6 +1,6 @@
 use Rattle.std.proofs.Common.{◌∙◌}
 use Rattle.ivy_pagetable.specs.declared.Request.TheVariants as request
-use Rattle.ivy_coherence.proofs.Opened.{alone_waiting, others_few, others_fit, collect_sound, spare_after, entries_then}
+use Rattle.ivy_coherence.proofs.keeping.Opened.{alone_waiting, others_few, others_fit, collect_sound, spare_after, entries_then}
 use Rattle.ivy_coherence.proofs.coherence.Coherence.owned_with.Goals as goal
 
 pub invalidate-requires-clause-few : goal.invalidate-requires-clause-few

@@ -1,7 +1,7 @@
 use Rattle.std.proofs.Common.{◌≡◌, true}
-use Rattle.ivy_pagetable.specs.Entries.{can_put_off}
-use Rattle.ivy_pagetable.specs.Tables.{entry_at}
-use Rattle.ivy_coherence.proofs.Opened.{put_off_sound}
+use Rattle.ivy_pagetable.specs.stated.Entries.{can_put_off}
+use Rattle.ivy_pagetable.specs.stated.Tables.{entry_at}
+use Rattle.ivy_coherence.proofs.keeping.Opened.{put_off_sound}
 use Rattle.ivy_coherence.proofs.coherence.Coherence.put_aside.Goals as goal
 
 pub invariant_of-self-else-not-put_off : goal.invariant_of-self-else-not-put_off

@@ -1,6 +1,6 @@
 use Rattle.std.proofs.Common.{ap}
 use Rattle.ivy_coherence.specs.Rests.{Behind}
-use Rattle.ivy_coherence.proofs.Takes.{taken_together}
+use Rattle.ivy_coherence.proofs.batches.Takes.{taken_together}
 use Rattle.ivy_coherence.proofs.coherence.Coherence.returned_row.Goals as goal
 
 pub returns-clause-taken : goal.returns-clause-taken

@@ -1,4 +1,4 @@
-use Rattle.ivy_coherence.proofs.Opened.{alone_free, fault_sound}
+use Rattle.ivy_coherence.proofs.keeping.Opened.{alone_free, fault_sound}
 use Rattle.ivy_coherence.proofs.coherence.Coherence.start.Goals as goal
 
 pub set_entry-requires-clause-alone : goal.set_entry-requires-clause-alone

@@ -1,5 +1,5 @@
 use Rattle.std.proofs.Common.{◌≡◌, true, rules}
-use Rattle.ivy_coherence.proofs.Hits.{stores_hit}
+use Rattle.ivy_coherence.proofs.batches.Hits.{stores_hit}
 use Rattle.ivy_coherence.proofs.coherence.Coherence.store_row.Goals as goal
 
 pub returns-clause-hits : goal.returns-clause-hits

@@ -1,6 +1,6 @@
 use Rattle.std.proofs.Common.{◌≡◌, length, ap, sym, ◌∙◌}
-use Rattle.ivy_coherence.specs.Coherent.{Coherent}
-use Rattle.ivy_coherence.proofs.Opened.{spare_after, entries_then, unlock_word, unlock_fits, unlock_sound}
+use Rattle.ivy_coherence.specs.stated.Coherent.{Coherent}
+use Rattle.ivy_coherence.proofs.keeping.Opened.{spare_after, entries_then, unlock_word, unlock_fits, unlock_sound}
 use Rattle.ivy_coherence.proofs.coherence.Coherence.unlock.Goals as goal
 
 pub carry_out-out-requires : goal.carry_out-out-requires

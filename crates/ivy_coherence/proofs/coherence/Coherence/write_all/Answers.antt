@@ -1,9 +1,9 @@
 use Rattle.std.proofs.Common.{◌≡◌, ◌∙◌, ap, length, List, ℕ}
-use Rattle.ivy_pagetable.specs.Words.{carried_out}
-use Rattle.ivy_pagetable.specs.Tables.{page_at}
-use Rattle.ivy_coherence.specs.Coherent.{Coherent}
-use Rattle.ivy_coherence.specs.Several.{all_carried}
-use Rattle.ivy_coherence.proofs.Opened.{last_word_at, all_fits, all_sound, spare_after, entries_then}
+use Rattle.ivy_pagetable.specs.stated.Words.{carried_out}
+use Rattle.ivy_pagetable.specs.stated.Tables.{page_at}
+use Rattle.ivy_coherence.specs.stated.Coherent.{Coherent}
+use Rattle.ivy_coherence.specs.stated.Several.{all_carried}
+use Rattle.ivy_coherence.proofs.keeping.Opened.{last_word_at, all_fits, all_sound, spare_after, entries_then}
 use Rattle.ivy_coherence.proofs.coherence.Coherence.write_all.Goals as goal
 
 pub carry_out-first-requires : goal.carry_out-first-requires

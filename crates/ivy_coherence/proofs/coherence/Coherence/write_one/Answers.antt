@@ -1,10 +1,10 @@
 use Rattle.std.proofs.Common.{rules, ◌≡◌, ◌∙◌, sym, ap, length}
-use Rattle.ivy_pagetable.specs.Words.{IsWord, carried_out}
+use Rattle.ivy_pagetable.specs.stated.Words.{IsWord, carried_out}
 use Rattle.ivy_pagetable.specs.declared.Entry.TheVariants as entry
-use Rattle.ivy_pagetable.specs.TableState.{Table}
-use Rattle.ivy_pagetable.specs.Tables.{page_at, with_entry, with_page}
-use Rattle.ivy_coherence.specs.Coherent.{Coherent}
-use Rattle.ivy_coherence.proofs.Opened.{restored, page_then, pages_inside, last_word_at, last_fits, last_sound, spare_after}
+use Rattle.ivy_pagetable.specs.stated.TableState.{Table}
+use Rattle.ivy_pagetable.specs.stated.Tables.{page_at, with_entry, with_page}
+use Rattle.ivy_coherence.specs.stated.Coherent.{Coherent}
+use Rattle.ivy_coherence.proofs.keeping.Opened.{restored, page_then, pages_inside, last_word_at, last_fits, last_sound, spare_after}
 use Rattle.ivy_coherence.proofs.coherence.Coherence.write_one.Goals as goal
 
 pub serve_put_off-requires-clause-fits : goal.serve_put_off-requires-clause-fits

@@ -1,5 +1,5 @@
 use Rattle.std.proofs.Common.{sym}
-use Rattle.ivy_coherence.proofs.Takes.{all_given}
+use Rattle.ivy_coherence.proofs.batches.Takes.{all_given}
 use Rattle.ivy_coherence.proofs.rest.Rest.given.Goals as goal
 
 pub returns-then-is_same : goal.returns-then-is_same

@@ -1,4 +1,4 @@
-use Rattle.ivy_coherence.proofs.Takes.{many_left}
+use Rattle.ivy_coherence.proofs.batches.Takes.{many_left}
 use Rattle.ivy_coherence.proofs.rest.Rest.left.Goals as goal
 
 pub returns : goal.returns

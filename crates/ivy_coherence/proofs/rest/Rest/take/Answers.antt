@@ -1,5 +1,5 @@
 use Rattle.std.proofs.Common.{arith}
-use Rattle.ivy_coherence.proofs.Rests.{took}
+use Rattle.ivy_coherence.proofs.batches.Rests.{took}
 use Rattle.ivy_coherence.proofs.rest.Rest.take.Goals as goal
 
 pub returns-clause-rest : goal.returns-clause-rest

@@ -3,7 +3,7 @@ use Rattle.ivy_model.specs.declared.Row.{Row}
 use Rattle.ivy_model.specs.Rows.{numbers_in}
 use Rattle.ivy_pagetable.specs.declared.Out.{Out}
 use Rattle.ivy_coherence.specs.Rests.{Behind, outs_of}
-use Rattle.ivy_coherence.proofs.Takes.{all_given, row_left}
+use Rattle.ivy_coherence.proofs.batches.Takes.{all_given, row_left}
 use Rattle.ivy_coherence.proofs.rest.Rest.take_row.Goals as goal
 
 pub returns-clause-outs : goal.returns-clause-outs

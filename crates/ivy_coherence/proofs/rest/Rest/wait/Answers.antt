@@ -2,7 +2,7 @@ use Rattle.std.proofs.Common.{◌≡◌, ◌∙◌, sym, ap, length, List, ℕ, 
 use Rattle.std.specs.Vec.{with_items}
 use Rattle.std.proofs.lemmas.List.{with_items_is}
 use Rattle.ivy_coherence.specs.Rests.{Behind, behind}
-use Rattle.ivy_coherence.proofs.Rests.{waits_now}
+use Rattle.ivy_coherence.proofs.batches.Rests.{waits_now}
 use Rattle.ivy_coherence.proofs.rest.Rest.wait.Goals as goal
 
 pub returns : goal.returns

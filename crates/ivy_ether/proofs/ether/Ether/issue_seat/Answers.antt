@@ -1,8 +1,8 @@
 use Rattle.std.proofs.Common.{sym, subst}
 use Rattle.crossbeam_queue.specs.Passes.{view}
 use Rattle.ivy_host.specs.Handing.{handing}
-use Rattle.ivy_host.specs.Hosts.{host_rules}
-use Rattle.ivy_host.specs.Managers.{managed_ops}
+use Rattle.ivy_host.specs.stated.Hosts.{host_rules}
+use Rattle.ivy_host.specs.stated.Managers.{managed_ops}
 use Rattle.ivy_ether.specs.Held.{Held}
 use Rattle.ivy_ether.specs.Programs.{beginning}
 use Rattle.std.proofs.Common.{true, ◌≡◌, ◌<◌}

@@ -1,6 +1,6 @@
 use Rattle.ivy_host.specs.Handing.{handing}
-use Rattle.ivy_host.specs.Hosts.{host_rules}
-use Rattle.ivy_host.specs.Managers.{managed_ops}
+use Rattle.ivy_host.specs.stated.Hosts.{host_rules}
+use Rattle.ivy_host.specs.stated.Managers.{managed_ops}
 use Rattle.ivy_ether.specs.Programs.{beginning}
 use Rattle.ivy_ether.proofs.Hosts.{is_handing}
 use Rattle.ivy_ether.proofs.Keeps.{begins, forks}

@@ -1,7 +1,7 @@
 use Rattle.std.proofs.Common.{◌≡◌, ◌+◌, ◌≤◌, vec_len, All}
 use Rattle.crossbeam_queue.specs.Passes.{view, IsPassOf}
 use Rattle.ivy_ether.specs.Views.{beginner}
-use Rattle.ivy_ether.specs.Words.{IsNewcomer}
+use Rattle.ivy_ether.specs.EtherViews.{IsNewcomer}
 use Rattle.ivy_ether.proofs.ether.Ether.laid.Given as goal
 
 abbrev pub invariant-loop : goal.invariant-loop

@@ -1,7 +1,7 @@
 use Rattle.crossbeam_queue.specs.Passes.{view}
 use Rattle.ivy_host.specs.Handing.{handing}
-use Rattle.ivy_host.specs.Hosts.{host_rules}
-use Rattle.ivy_host.specs.Managers.{managed_ops}
+use Rattle.ivy_host.specs.stated.Hosts.{host_rules}
+use Rattle.ivy_host.specs.stated.Managers.{managed_ops}
 use Rattle.ivy_ether.specs.Programs.{beginning}
 use Rattle.ivy_ether.proofs.Keeps.{learns}
 use Rattle.ivy_ether.proofs.ether.Ether.learn.Goals as goal

@@ -1,5 +1,5 @@
 use Rattle.std.proofs.lemmas.List.{get_or-replicate}
-use Rattle.ivy_model.specs.Limits.{most_nodes}
+use Rattle.ivy_model.specs.stated.Limits.{most_nodes}
 use Rattle.ivy_link.proofs.counts.Counts.none.Goals as goal
 
 pub returns : goal.returns

@@ -1,7 +1,7 @@
 use Rattle.std.proofs.Common.{◌≡◌, ◌≢◌, ◌<◌, length, sym, ap, ◌∙◌, arith}
 use Rattle.std.proofs.Math.ListN.{set}
-use Rattle.ivy_link.specs.Linked.{Linked}
-use Rattle.ivy_link.specs.Accepted.{verdict_on, heard}
+use Rattle.ivy_link.specs.stated.Linked.{Linked}
+use Rattle.ivy_link.specs.stated.Accepted.{verdict_on, heard}
 use Rattle.ivy_link.specs.Holding.{Holding, link_of, holding, window_at, offered_at}
 use Rattle.ivy_link.specs.Windows.{moved_by}
 use Rattle.ivy_link.proofs.Peers.{view-read, seen-write, seen-window, accepted-mine, accepted-here, accepted-away}

@@ -1,5 +1,5 @@
 use Rattle.std.proofs.Common.{rules, ◌≡◌, ◌<◌, ◌+◌, ◌^◌, length, sym, ap, ◌∙◌, arith}
-use Rattle.ivy_link.specs.Linked.{Linked, Peer, peer_at}
+use Rattle.ivy_link.specs.stated.Linked.{Linked, Peer, peer_at}
 use Rattle.ivy_link.specs.Holding.{link_of}
 use Rattle.ivy_link.proofs.Peers.{view-length, view-read}
 use Rattle.ivy_link.proofs.Sending.{here-within, here-number, here-frame}

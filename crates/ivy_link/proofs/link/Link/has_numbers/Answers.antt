@@ -2,7 +2,7 @@ use Rattle.std.proofs.Common.{rules, refl, ℕ, ◌≡◌, ◌<◌, ◌≤◌, �
 use Rattle.std.proofs.lemmas.Bool.{cases_eq, cases_lt}
 use Rattle.std.proofs.lemmas.List.{get_or-map, length-map}
 use Rattle.ivy_wire.specs.Lent.{owned_parcel}
-use Rattle.ivy_link.specs.Linked.{Peer, peer_at}
+use Rattle.ivy_link.specs.stated.Linked.{Peer, peer_at}
 use Rattle.ivy_link.specs.Sides.{count_to}
 use Rattle.ivy_link.specs.Holding.{link_of}
 use Rattle.ivy_link.proofs.Peers.{view-length, view-read}

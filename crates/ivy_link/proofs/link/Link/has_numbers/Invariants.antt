@@ -1,6 +1,6 @@
 use Rattle.std.proofs.Common.{◌<◌, ◌+◌, ◌^◌, ℕ, map}
 use Rattle.ivy_wire.specs.Lent.{owned_parcel}
-use Rattle.ivy_link.specs.Linked.{peer_at}
+use Rattle.ivy_link.specs.stated.Linked.{peer_at}
 use Rattle.ivy_link.specs.Holding.{link_of}
 use Rattle.ivy_link.specs.Sides.{count_to}
 use Rattle.ivy_link.proofs.Sending.{parcel_at}

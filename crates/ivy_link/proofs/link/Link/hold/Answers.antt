@@ -1,5 +1,5 @@
 use Rattle.std.proofs.Common.{◌≡◌, ◌<◌, length, sym, ap, ◌∙◌, arith}
-use Rattle.ivy_link.specs.Linked.{Peer, peer_at}
+use Rattle.ivy_link.specs.stated.Linked.{Peer, peer_at}
 use Rattle.ivy_link.specs.Holding.{Holding, link_of, window_at}
 use Rattle.ivy_link.specs.Windows.{Window}
 use Rattle.ivy_link.proofs.Peers.{view-read, seen-held, seen-window, window_held, holds-here}

@@ -1,6 +1,6 @@
 use Rattle.std.proofs.Common.{◌≡◌, ℕ, List, length, map, sym, ap, ◌∙◌}
 use Rattle.ivy_wire.specs.Lent.{owned_parcel}
-use Rattle.ivy_link.specs.Linked.{Linked, after_sends}
+use Rattle.ivy_link.specs.stated.Linked.{Linked, after_sends}
 use Rattle.ivy_link.specs.Holding.{Holding, link_of}
 use Rattle.ivy_link.specs.Sides.{Sided, linked, seen}
 use Rattle.ivy_link.proofs.Peers.{holding-is}

@@ -1,5 +1,5 @@
 use Rattle.std.proofs.Common.{◌≡◌, map, replicate}
-use Rattle.ivy_link.specs.Linked.{fresh}
+use Rattle.ivy_link.specs.stated.Linked.{fresh}
 use Rattle.ivy_link.specs.Sides.{peer_of, held_of}
 use Rattle.ivy_link.specs.Windows.{first_window}
 use Rattle.ivy_link.proofs.link.Link.new.Given as goal

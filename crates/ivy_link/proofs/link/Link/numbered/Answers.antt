@@ -2,7 +2,7 @@ use Rattle.std.proofs.Common.{◌≡◌, ℕ, ◌+◌, ◌++◌, List, [], ◌�
 use Rattle.std.proofs.lemmas.List.{length-map, take_more, take_all}
 use Rattle.std.proofs.lemmas.Option.{slice_get_within, get_or_from_slice_get}
 use Rattle.std.specs.List.{slice_get}
-use Rattle.ivy_wire.specs.Data.{Frame}
+use Rattle.ivy_wire.specs.stated.Data.{Frame}
 use Rattle.ivy_wire.specs.Lent.{owned_parcel, owned_frame}
 use Rattle.ivy_link.specs.Holding.{link_of, frames_for}
 use Rattle.ivy_link.proofs.Sending.{length-frames_of}

@@ -1,5 +1,5 @@
 use Rattle.std.proofs.Common.{◌<◌, length, refl, ◌∙◌, arith}
-use Rattle.ivy_link.specs.Pulsed.{owing_nothing}
+use Rattle.ivy_link.specs.stated.Pulsed.{owing_nothing}
 use Rattle.ivy_link.proofs.Peers.{seen-peer}
 use Rattle.ivy_link.proofs.link.Link.pulsed.Goals as goal
 

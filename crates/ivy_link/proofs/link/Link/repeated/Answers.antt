@@ -1,7 +1,7 @@
 use Rattle.std.proofs.Common.{rules, ◌≡◌, ◌<◌, ◌≤◌, ◌+◌, ◌-◌, List, length, map, min, get_or, sym, ap, ◌∙◌, arith, subst}
-use Rattle.ivy_wire.specs.Data.{Message}
+use Rattle.ivy_wire.specs.stated.Data.{Message}
 use Rattle.ivy_wire.specs.Lent.{owned_message, owned_frame}
-use Rattle.ivy_link.specs.Linked.{Linked, Peer, peer_at}
+use Rattle.ivy_link.specs.stated.Linked.{Linked, Peer, peer_at}
 use Rattle.ivy_link.specs.Holding.{link_of}
 use Rattle.ivy_link.proofs.Peers.{view-read}
 use Rattle.ivy_link.proofs.Pulses.{repeated-more, repeated-all}

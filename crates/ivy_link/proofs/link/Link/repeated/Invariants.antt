@@ -1,7 +1,7 @@
 use Rattle.std.proofs.Common.{◌≡◌, ◌+◌, ◌-◌, length, map, take}
 use Rattle.ivy_wire.specs.Lent.{owned_frame}
-use Rattle.ivy_link.specs.Linked.{peer_at}
-use Rattle.ivy_link.specs.Pulsed.{numbered}
+use Rattle.ivy_link.specs.stated.Linked.{peer_at}
+use Rattle.ivy_link.specs.stated.Pulsed.{numbered}
 use Rattle.ivy_link.specs.Holding.{link_of}
 use Rattle.ivy_link.proofs.link.Link.repeated.Given as goal
 

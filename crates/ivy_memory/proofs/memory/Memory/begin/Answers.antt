@@ -1,14 +1,14 @@
 use Rattle.std.proofs.Common.{◌≡◌, Some, inr, rules, ◌∙◌, sym, ap, subst, arith}
 use Rattle.ivy_wire.specs.Posts.{HasRefused}
-use Rattle.ivy_memory.proofs.Beginning.{IsBeginning, no_call, can, wide, words_now, words_before, had_memory}
-use Rattle.ivy_memory.proofs.Beginning.{started_memory, not_busy, call_posts}
+use Rattle.ivy_memory.proofs.keeping.Beginning.{IsBeginning, no_call, can, wide, words_now, words_before, had_memory}
+use Rattle.ivy_memory.proofs.keeping.Beginning.{started_memory, not_busy, call_posts}
 use Rattle.ivy_coherence.specs.Outcomes.{IsWantOfPage}
 use Rattle.ivy_memory.specs.Asking.{MakesPages}
-use Rattle.ivy_memory.specs.Memories.{NodeMemory}
-use Rattle.ivy_memory.proofs.Beginning.{few_posted, err_refuses, call_asks, heap_memory}
-use Rattle.ivy_memory.specs.Memories.{asked_after, number_after}
-use Rattle.ivy_memory.proofs.WellBehaved.{below}
-use Rattle.ivy_memory.proofs.Same.{begun_size}
+use Rattle.ivy_memory.specs.stated.Memories.{NodeMemory}
+use Rattle.ivy_memory.proofs.keeping.Beginning.{few_posted, err_refuses, call_asks, heap_memory}
+use Rattle.ivy_memory.specs.stated.Memories.{asked_after, number_after}
+use Rattle.ivy_memory.proofs.keeping.WellBehaved.{below}
+use Rattle.ivy_memory.proofs.keeping.Same.{begun_size}
 use Rattle.ivy_memory.proofs.memory.Memory.begin.Goals as goal
 
 pub need-requires-clause-page : goal.need-requires-clause-page

@@ -1,11 +1,11 @@
 use Rattle.std.proofs.Common.{◌≡◌, List, subst}
-use Rattle.ivy_wire.specs.Data.{Parcel}
+use Rattle.ivy_wire.specs.stated.Data.{Parcel}
 use Rattle.ivy_wire.specs.Posts.{HasRefused}
 use Rattle.ivy_coherence.specs.Outcomes.{IsWantOfPage}
 use Rattle.ivy_memory.specs.Asking.{MakesPages}
-use Rattle.ivy_memory.specs.Memories.{NodeMemory}
-use Rattle.ivy_memory.proofs.Beginning.{err_refuses}
-use Rattle.ivy_memory.proofs.RowBegins.{IsRowBegun, row_few, row_awaited, row_posts, row_asks, row_after, row_memory}
+use Rattle.ivy_memory.specs.stated.Memories.{NodeMemory}
+use Rattle.ivy_memory.proofs.keeping.Beginning.{err_refuses}
+use Rattle.ivy_memory.proofs.batches.RowBegins.{IsRowBegun, row_few, row_awaited, row_posts, row_asks, row_after, row_memory}
 use Rattle.ivy_memory.proofs.memory.Memory.begin_row.Goals as goal
 
 pub returns-in_err-need_row-clause-few : goal.returns-in_err-need_row-clause-few

@@ -1,8 +1,8 @@
 use Rattle.std.proofs.Common.{rules}
 use Rattle.ivy_wire.specs.Lent.{owned_message}
 use Rattle.ivy_wire.specs.Posts.{HasRefused}
-use Rattle.ivy_memory.proofs.Beginning.{few_answers, side_memory, err_posts, left_memory}
-use Rattle.ivy_memory.proofs.Same.{handled_size}
+use Rattle.ivy_memory.proofs.keeping.Beginning.{few_answers, side_memory, err_posts, left_memory}
+use Rattle.ivy_memory.proofs.keeping.Same.{handled_size}
 use Rattle.ivy_memory.proofs.memory.Memory.handle.Goals as goal
 
 pub returns-in_err-handle-clause-few : goal.returns-in_err-handle-clause-few

@@ -1,4 +1,4 @@
-use Rattle.ivy_memory.proofs.AtOnce.{loads_answered}
+use Rattle.ivy_memory.proofs.batches.AtOnce.{loads_answered}
 use Rattle.ivy_memory.proofs.memory.Memory.load_row.Goals as goal
 
 pub returns-clause-hits : goal.returns-clause-hits

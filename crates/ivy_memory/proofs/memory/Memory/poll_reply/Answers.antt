@@ -2,11 +2,11 @@ use Rattle.std.proofs.Common.{◌≡◌, ◌∙◌, sym, ap, subst, arith, rules
 use Rattle.ivy_wire.specs.Posts.{HasRefused}
 use Rattle.ivy_coherence.specs.Outcomes.{IsWantOfPage}
 use Rattle.ivy_memory.specs.Asking.{MakesPages}
-use Rattle.ivy_memory.specs.Memories.{CallBegun, NodeMemory}
-use Rattle.ivy_memory.specs.Rows.{CallsAlong}
-use Rattle.ivy_memory.proofs.Beginning.{err_refuses}
-use Rattle.ivy_memory.proofs.Polling.{polled-waits, IsRetry, retry_can, given_is, quiet_is, starts_is, waits_is, poll_memory, poll_posts, retry_asks, polled-few}
-use Rattle.ivy_memory.proofs.Same.{begun_size, returned_size}
+use Rattle.ivy_memory.specs.stated.Memories.{CallBegun, NodeMemory}
+use Rattle.ivy_memory.specs.BatchedCalls.{CallsAlong}
+use Rattle.ivy_memory.proofs.keeping.Beginning.{err_refuses}
+use Rattle.ivy_memory.proofs.keeping.Polling.{polled-waits, IsRetry, retry_can, given_is, quiet_is, starts_is, waits_is, poll_memory, poll_posts, retry_asks, polled-few}
+use Rattle.ivy_memory.proofs.keeping.Same.{begun_size, returned_size}
 use Rattle.ivy_memory.proofs.memory.Memory.poll_reply.Goals as goal
 
 pub returns-then-is_some : goal.returns-then-is_some

@@ -1,4 +1,4 @@
-use Rattle.ivy_memory.proofs.AtOnce.{words_answered}
+use Rattle.ivy_memory.proofs.batches.AtOnce.{words_answered}
 use Rattle.ivy_model.specs.declared.Row.TheVariants.{Stores}
 use Rattle.ivy_memory.proofs.memory.Memory.store_row.Goals as goal
 

@@ -2,9 +2,9 @@ use Rattle.std.proofs.Common.{◌≡◌, suc, true, ◌∙◌, sym, ap, subst, a
 use Rattle.ivy_model.specs.declared.Config.{Config}
 use Rattle.ivy_model.specs.Rows.{numbers_in}
 use Rattle.ivy_coherence.specs.Takes.{AreOutsTaken}
-use Rattle.ivy_memory.specs.Memories.{NodeMemory}
-use Rattle.ivy_memory.specs.Rows.{CallsAlong}
-use Rattle.ivy_memory.proofs.Together.{all_sound, all_taken, given_so, taken_config, taken_me}
+use Rattle.ivy_memory.specs.stated.Memories.{NodeMemory}
+use Rattle.ivy_memory.specs.BatchedCalls.{CallsAlong}
+use Rattle.ivy_memory.proofs.batches.BatchedReplies.{all_sound, all_taken, given_so, taken_config, taken_me}
 use Rattle.ivy_memory.proofs.memory.Memory.take_all.Goals as goal
 
 pub invariant_of-self : goal.invariant_of-self

@@ -1,8 +1,8 @@
 use Rattle.std.proofs.Common.{◌∙◌, sym, ap, subst}
-use Rattle.ivy_coherence.specs.Coherent.{Coherent}
-use Rattle.ivy_memory.specs.Rows.{CallsAlong}
-use Rattle.ivy_memory.specs.Sound.{IsSoundMemory}
-use Rattle.ivy_memory.proofs.Polling.{taken_next, taken_keeps}
+use Rattle.ivy_coherence.specs.stated.Coherent.{Coherent}
+use Rattle.ivy_memory.specs.BatchedCalls.{CallsAlong}
+use Rattle.ivy_memory.specs.stated.Sound.{IsSoundMemory}
+use Rattle.ivy_memory.proofs.keeping.Polling.{taken_next, taken_keeps}
 use Rattle.ivy_memory.proofs.memory.Memory.take_out.Goals as goal
 
 pub invariant_of-self : goal.invariant_of-self

@@ -1,5 +1,5 @@
 use Rattle.std.proofs.Common.{◌≡◌, true, rules}
-use Rattle.ivy_memory.proofs.Together.{stores_taken}
+use Rattle.ivy_memory.proofs.batches.BatchedReplies.{stores_taken}
 use Rattle.ivy_memory.proofs.memory.Memory.take_stores.Goals as goal
 
 pub returns-clause-taken : goal.returns-clause-taken

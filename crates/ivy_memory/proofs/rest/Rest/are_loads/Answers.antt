@@ -1,6 +1,6 @@
 use Rattle.std.proofs.Common.{◌≡◌, ◌-◌, arith}
 use Rattle.std.proofs.lemmas.Bool.{eqb-true}
-use Rattle.ivy_memory.proofs.CallsLeft.{loads_left}
+use Rattle.ivy_memory.proofs.batches.CallsLeft.{loads_left}
 use Rattle.ivy_memory.proofs.rest.Rest.are_loads.Goals as goal
 
 pub returns-then-self-ge8 : goal.returns-then-self-ge8

@@ -2,7 +2,7 @@ use Rattle.std.proofs.Common.{◌≡◌, ◌+◌, ◌-◌, ◌*◌, take, drop, 
 use Rattle.std.proofs.lemmas.Bool.Decides.{Decides-eqb}
 use Rattle.std.proofs.lemmas.List.{length-take-le}
 use Rattle.std.proofs.lemmas.Slice.Eq.{slice_eq-Decides}
-use Rattle.ivy_memory.proofs.CallsLeft.{many_left, stores_left}
+use Rattle.ivy_memory.proofs.batches.CallsLeft.{many_left, stores_left}
 use Rattle.ivy_memory.proofs.rest.Rest.are_stores.Goals as goal
 
 pub slice_bounds-eq-end-in-Stores : goal.slice_bounds-eq-end-in-Stores

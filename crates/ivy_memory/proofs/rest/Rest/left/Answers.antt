@@ -1,4 +1,4 @@
-use Rattle.ivy_memory.proofs.CallsLeft.{many_left}
+use Rattle.ivy_memory.proofs.batches.CallsLeft.{many_left}
 use Rattle.ivy_memory.proofs.rest.Rest.left.Goals as goal
 
 pub returns : goal.returns

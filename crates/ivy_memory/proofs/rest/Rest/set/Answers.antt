@@ -1,8 +1,8 @@
 use Rattle.std.proofs.Common.{◌≡◌, ◌∙◌, sym, ap, length, List, ℕ, arith}
 use Rattle.std.specs.Vec.{with_items}
 use Rattle.std.proofs.lemmas.List.{with_items_is}
-use Rattle.ivy_memory.specs.Rows.{CallsAlong, calls_left}
-use Rattle.ivy_memory.proofs.CallsLeft.{left_now}
+use Rattle.ivy_memory.specs.BatchedCalls.{CallsAlong, calls_left}
+use Rattle.ivy_memory.proofs.batches.CallsLeft.{left_now}
 use Rattle.ivy_memory.proofs.rest.Rest.set.Goals as goal
 
 pub returns : goal.returns

@@ -1,6 +1,6 @@
 use Rattle.std.proofs.Common.{◌≡◌, ℕ, ◌-◌, List, length, drop, Some, arith, ap, ◌∙◌}
-use Rattle.ivy_memory.specs.Rows.{first_call}
-use Rattle.ivy_memory.proofs.CallsLeft.{first_taken, next_left, rest_left}
+use Rattle.ivy_memory.specs.BatchedCalls.{first_call}
+use Rattle.ivy_memory.proofs.batches.CallsLeft.{first_taken, next_left, rest_left}
 use Rattle.ivy_memory.proofs.rest.Rest.take.Goals as goal
 
 pub returns-clause-next : goal.returns-clause-next

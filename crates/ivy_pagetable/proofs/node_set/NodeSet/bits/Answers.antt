@@ -1,5 +1,5 @@
 use Rattle.std.proofs.Common.{sym, ap, ◌∙◌, arith}
-use Rattle.ivy_pagetable.specs.NodeSets.{bits_of}
+use Rattle.ivy_pagetable.specs.stated.NodeSets.{bits_of}
 use Rattle.ivy_pagetable.proofs.Bits.{bits_of_with}
 use Rattle.ivy_pagetable.proofs.node_set.NodeSet.bits.Goals as goal
 

@@ -1,8 +1,8 @@
 use Rattle.std.proofs.Common.{◌≡◌, ap, cond, sym, ◌∙◌, ◌++◌, ◌∷◌, [], length, arith}
 use Rattle.std.specs.FinSet as set
 use Rattle.std.proofs.lemmas.List.{append-nil}
-use Rattle.ivy_model.specs.Limits.{most_nodes}
-use Rattle.ivy_pagetable.specs.NodeSets.{nodes_of}
+use Rattle.ivy_model.specs.stated.Limits.{most_nodes}
+use Rattle.ivy_pagetable.specs.stated.NodeSets.{nodes_of}
 use Rattle.ivy_pagetable.proofs.Bits.{passing, passing_few, passing_more}
 use Rattle.ivy_pagetable.proofs.node_set.NodeSet.nodes.Goals as goal
 use Rattle.ivy_pagetable.proofs.node_set.NodeSet.nodes.Goals.{then-has, else-has}

@@ -1,8 +1,8 @@
 use Rattle.std.proofs.Common.{◌≡◌, ◌+◌, ◌-◌, ◌*◌, ◌≤◌, ◌∙◌, List, ℕ, length, take, drop, arith, ap, sym, subst}
 use Rattle.ivy_model.specs.declared.Row.TheVariants.{Loads}
 use Rattle.ivy_model.specs.Rows.{numbers_in}
-use Rattle.ivy_model.specs.Serves.{overwrite}
-use Rattle.ivy_pagetable.specs.Rows.{AreCarried}
+use Rattle.ivy_model.specs.stated.Serves.{overwrite}
+use Rattle.ivy_pagetable.specs.WordRows.{AreCarried}
 use Rattle.ivy_pagetable.proofs.RowsCarried.{loads, loaded}
 use Rattle.ivy_pagetable.proofs.node_table.NodeTable.load_row.Goals as goal
 

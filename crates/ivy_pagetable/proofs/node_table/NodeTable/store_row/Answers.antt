@@ -1,6 +1,6 @@
 use Rattle.std.proofs.Common.{◌≡◌, ◌<◌, ◌∙◌, All, length, arith, ap, rules, sym}
 use Rattle.std.proofs.lemmas.List.Elements.{All-from_get_or}
-use Rattle.ivy_pagetable.specs.Tables.{page_at}
+use Rattle.ivy_pagetable.specs.stated.Tables.{page_at}
 use Rattle.ivy_pagetable.proofs.RowsCarried.{no_row, no_words, stores}
 use Rattle.ivy_pagetable.proofs.node_table.NodeTable.store_row.Goals as goal
 

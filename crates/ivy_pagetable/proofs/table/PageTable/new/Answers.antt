@@ -1,5 +1,5 @@
 use Rattle.std.proofs.Common.{◌≡◌, ◌*◌, replicate, rules}
-use Rattle.ivy_pagetable.specs.Tables.{first_entry}
+use Rattle.ivy_pagetable.specs.stated.Tables.{first_entry}
 use Rattle.ivy_pagetable.proofs.Regions.{first_region}
 use Rattle.ivy_pagetable.proofs.table.PageTable.new.Goals as goal
 

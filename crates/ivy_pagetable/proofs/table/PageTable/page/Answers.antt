@@ -1,5 +1,5 @@
 use Rattle.std.proofs.Common.{◌<◌, length, take, drop, ◌-◌, ap, sym, ◌∙◌, subst}
-use Rattle.ivy_pagetable.specs.Tables.{page_at}
+use Rattle.ivy_pagetable.specs.stated.Tables.{page_at}
 use Rattle.ivy_pagetable.proofs.Regions.{page_lent}
 use Rattle.ivy_pagetable.proofs.table.PageTable.page.Goals as goal
 

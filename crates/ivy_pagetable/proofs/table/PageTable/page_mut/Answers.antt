@@ -1,5 +1,5 @@
 use Rattle.std.proofs.Common.{◌<◌, length, ap, sym, refl, ◌∙◌, subst}
-use Rattle.ivy_pagetable.specs.Tables.{page_at}
+use Rattle.ivy_pagetable.specs.stated.Tables.{page_at}
 use Rattle.ivy_pagetable.specs.Lending.{page_given_back}
 use Rattle.ivy_pagetable.proofs.Regions.{page_lent, page_sized, region_written}
 use Rattle.ivy_pagetable.proofs.table.PageTable.page_mut.Goals as goal

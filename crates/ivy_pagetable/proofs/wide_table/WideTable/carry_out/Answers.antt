@@ -1,5 +1,5 @@
 use Rattle.std.proofs.Common.{◌∙◌}
-use Rattle.ivy_pagetable.specs.Words.{carried_out}
+use Rattle.ivy_pagetable.specs.stated.Words.{carried_out}
 use Rattle.ivy_pagetable.proofs.WideTables.{OwnPage, shown, changed}
 use Rattle.ivy_pagetable.proofs.wide_table.WideTable.carry_out.Goals as goal
 

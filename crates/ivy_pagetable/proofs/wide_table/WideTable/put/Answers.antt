@@ -1,4 +1,4 @@
-use Rattle.ivy_model.specs.Serves.{overwrite}
+use Rattle.ivy_model.specs.stated.Serves.{overwrite}
 use Rattle.ivy_pagetable.proofs.WideTables.{OwnPage, has_own, changed}
 use Rattle.ivy_pagetable.proofs.wide_table.WideTable.put.Goals as goal
 

@@ -1,6 +1,6 @@
 use Rattle.std.proofs.Common.{◌≡◌, ℕ, length, replicate, ap, sym, ◌∙◌}
-use Rattle.ivy_pagetable.specs.Tables.{page_at}
-use Rattle.ivy_pagetable.specs.Words.{carried_out}
+use Rattle.ivy_pagetable.specs.stated.Tables.{page_at}
+use Rattle.ivy_pagetable.specs.stated.Words.{carried_out}
 use Rattle.ivy_pagetable.proofs.WideTables.{OwnPage, blank, has_own, changed}
 use Rattle.ivy_pagetable.proofs.wide_table.WideTable.put_back.Goals as goal
 use Rattle.ivy_pagetable.proofs.wide_table.WideTable.put_back.Goals.{then-is_none, else-is_none}

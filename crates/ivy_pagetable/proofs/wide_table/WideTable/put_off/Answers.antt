@@ -1,7 +1,7 @@
 use Rattle.std.proofs.Common.{◌≡◌, Some, None, Bool, ap, sym, ◌∙◌, if◌then◌else◌}
-use Rattle.ivy_pagetable.specs.Entries.{with_put_off}
-use Rattle.ivy_pagetable.specs.TableState.{Table}
-use Rattle.ivy_pagetable.specs.Tables.{entry_at, with_entry}
+use Rattle.ivy_pagetable.specs.stated.Entries.{with_put_off}
+use Rattle.ivy_pagetable.specs.stated.TableState.{Table}
+use Rattle.ivy_pagetable.specs.stated.Tables.{entry_at, with_entry}
 use Rattle.ivy_pagetable.proofs.WideTables.{seen_as, idle_cannot, locked_can, locked_kept, none_left}
 use Rattle.ivy_pagetable.proofs.wide_table.WideTable.put_off.Goals as goal
 

@@ -3,9 +3,9 @@ use mathlib.Core.Bool.{true≢false}
 use Rattle.ivy_model.specs.declared.Config.{Config}
 use Rattle.std.specs.Prelude.{string_bytes}
 use Rattle.ivy_moves.specs.declared.event.Event.TheVariants.{Delivered}
-use Rattle.ivy_moves.specs.ivy_link.declared.Verdict.TheVariants.{NotMine}
-use Rattle.ivy_join.proofs.Steps.{received-listed}
-use Rattle.ivy_process.specs.Logging.{Served, served, AddsEvents}
+use Rattle.ivy_link.specs.declared.Verdict.TheVariants.{NotMine}
+use Rattle.ivy_join.proofs.EventSteps.{received-listed}
+use Rattle.ivy_process.specs.NodeLogs.{Served, served, AddsEvents}
 use Rattle.ivy_process.proofs.Logged.{goes_further, noted-one}
 use Rattle.std.proofs.lemmas.Result.{IfOk-from_err}
 use Rattle.ivy_process.proofs.node.Node.deliver.Goals as goal

@@ -1,9 +1,9 @@
 use Rattle.std.proofs.Common.{◌≡◌, ◌∙◌, refl, sym, ap, subst, Some}
 use Rattle.std.specs.Prelude.{string_bytes}
 use Rattle.ivy_moves.specs.declared.event.Event.TheVariants.{Delivered}
-use Rattle.ivy_join.specs.ivy_site.Inside.{AfterOnce}
+use Rattle.ivy_site.specs.Inside.{AfterOnce}
 use Rattle.std.proofs.lemmas.Result.{IfOk-from_err}
-use Rattle.ivy_process.specs.Logging.{Served, served, AddsEvents}
+use Rattle.ivy_process.specs.NodeLogs.{Served, served, AddsEvents}
 use Rattle.ivy_process.proofs.Logged.{stays, goes_further, noted-one, once-listed}
 use Rattle.ivy_process.proofs.node.Node.go_on.Goals as goal
 

@@ -1,5 +1,5 @@
 use Rattle.std.proofs.Common.{◌≡◌}
-use Rattle.ivy_process.specs.Logging.{AddsEvents}
+use Rattle.ivy_process.specs.NodeLogs.{AddsEvents}
 use Rattle.ivy_process.proofs.node.Node.go_on.Given as goal
 
 abbrev pub invariant-loop : goal.invariant-loop

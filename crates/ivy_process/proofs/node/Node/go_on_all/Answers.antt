@@ -1,6 +1,6 @@
 use Rattle.std.proofs.Common.{refl, sym, subst}
 use Rattle.std.proofs.lemmas.Result.{IfOk-from_err}
-use Rattle.ivy_process.specs.Logging.{AddsEvents}
+use Rattle.ivy_process.specs.NodeLogs.{AddsEvents}
 use Rattle.ivy_process.proofs.Logged.{stays, goes_further}
 use Rattle.ivy_process.proofs.node.Node.go_on_all.Goals as goal
 use Rattle.ivy_process.proofs.node.Node.go_on_all.Goals.{then-from-config+in_ok-go_on, else-from-config}

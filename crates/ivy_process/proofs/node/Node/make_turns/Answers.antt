@@ -2,7 +2,7 @@ use Rattle.std.proofs.Common.{◌≡◌, sym}
 use Rattle.std.specs.Prelude.{string_bytes}
 use Rattle.ivy_moves.specs.declared.event.Event.TheVariants.{Turns}
 use Rattle.std.proofs.lemmas.Result.{IfOk-from_err}
-use Rattle.ivy_process.specs.Logging.{served}
+use Rattle.ivy_process.specs.NodeLogs.{served}
 use Rattle.ivy_process.proofs.Logged.{noted-one}
 use Rattle.ivy_process.proofs.node.Node.make_turns.Goals as goal
 

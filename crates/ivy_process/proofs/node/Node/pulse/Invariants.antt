@@ -1,4 +1,4 @@
-use Rattle.ivy_process.specs.Logging.{AddsEvents}
+use Rattle.ivy_process.specs.NodeLogs.{AddsEvents}
 use Rattle.ivy_process.proofs.node.Node.pulse.Given as goal
 
 abbrev pub invariant-loop-to : goal.invariant-loop-to

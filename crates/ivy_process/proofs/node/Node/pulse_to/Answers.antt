@@ -2,9 +2,9 @@ use Rattle.std.proofs.Common.{◌≡◌, ℕ, ◌<◌, [], ap, refl, sym, subst,
 use Rattle.std.specs.Prelude.{string_bytes}
 use Rattle.ivy_moves.specs.declared.event.Event.TheVariants.{Pulsed}
 use Rattle.ivy_model.specs.declared.Config.{Config}
-use Rattle.ivy_join.specs.ivy_site.SiteView.{SiteView}
-use Rattle.ivy_join.proofs.Steps.{pulsed-listed}
-use Rattle.ivy_process.specs.Logging.{Served, served, AddsEvents}
+use Rattle.ivy_site.specs.SiteView.{SiteView}
+use Rattle.ivy_join.proofs.EventSteps.{pulsed-listed}
+use Rattle.ivy_process.specs.NodeLogs.{Served, served, AddsEvents}
 use Rattle.ivy_process.proofs.Logged.{stays, goes_further, noted-one, emptied}
 use Rattle.std.proofs.lemmas.Result.{IfOk-from_err}
 use Rattle.ivy_process.proofs.node.Node.pulse_to.Goals as goal

@@ -1,6 +1,6 @@
 use Rattle.std.proofs.Common.{sym, subst}
 use Rattle.std.proofs.lemmas.Result.{IfOk-from_err}
-use Rattle.ivy_process.specs.Logging.{IsEmptied}
+use Rattle.ivy_process.specs.NodeLogs.{IsEmptied}
 use Rattle.ivy_process.proofs.node.Node.send.Goals as goal
 
 pub returns-in_err-take_frames : goal.returns-in_err-take_frames

@@ -5,7 +5,7 @@ use Rattle.std.specs.Io.KnownBytes.{Appends}
 use Rattle.std.specs.Prelude.{string_bytes}
 use Rattle.std.proofs.KnownBytes.{Appends-nil}
 use Rattle.std.proofs.lemmas.Result.{IfOk-from_err}
-use Rattle.ivy_process.specs.Logging.{Served}
+use Rattle.ivy_process.specs.NodeLogs.{Served}
 use Rattle.ivy_process.proofs.node.Node.write_log.Goals as goal
 
 pub returns-in_err-write_through : goal.returns-in_err-write_through

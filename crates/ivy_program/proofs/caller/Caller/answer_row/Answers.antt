@@ -1,8 +1,9 @@
 -- No more replies have come than calls had none.
 use Rattle.std.proofs.Common.{◌≡◌, ◌-◌, drop, subst, sym}
-use Rattle.ivy_program.specs.Owned.{awaiting}
-use Rattle.ivy_program.specs.Steps.{Process, AsksMany, along_of}
-use Rattle.ivy_program.proofs.Awaited.{along_fewer, asked_left}
+use Rattle.ivy_program.specs.OwnCode.{awaiting}
+use Rattle.ivy_program.specs.stated.InstructionSteps.{Process, along_of}
+use Rattle.ivy_program.specs.InstructionSteps.{AsksMany}
+use Rattle.ivy_program.proofs.running.Awaited.{along_fewer, asked_left}
 use Rattle.ivy_program.proofs.caller.Caller.answer_row.Goals as goal
 
 pub overflow_sub-self : goal.overflow_sub-self

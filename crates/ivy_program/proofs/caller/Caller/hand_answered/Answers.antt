@@ -1,9 +1,10 @@
 -- A call that was answered at once.
 use Rattle.std.proofs.Common.{◌≡◌, List, [], ◌∷◌, ◌++◌, subst, sym}
 use Rattle.ivy_model.specs.declared.Call.{Call}
-use Rattle.ivy_program.specs.Owned.{awaiting, process_handed}
-use Rattle.ivy_program.specs.Steps.{HasEnded, Process, answered_with}
-use Rattle.ivy_program.proofs.Awaited.{handed_answered, none_left}
+use Rattle.ivy_program.specs.OwnCode.{awaiting, process_handed}
+use Rattle.ivy_program.specs.InstructionSteps.{HasEnded}
+use Rattle.ivy_program.specs.stated.InstructionSteps.{Process, answered_with}
+use Rattle.ivy_program.proofs.running.Awaited.{handed_answered, none_left}
 use Rattle.ivy_program.proofs.caller.Caller.hand_answered.Goals as goal
 
 pub returns : goal.returns

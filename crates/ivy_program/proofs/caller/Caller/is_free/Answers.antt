@@ -1,8 +1,8 @@
 -- With no call in progress, whatever its owner makes next.
 use Rattle.std.proofs.Common.{subst}
 use Rattle.std.proofs.lemmas.Bool.{eqb-true}
-use Rattle.ivy_program.specs.Owned.{AsksNext}
-use Rattle.ivy_program.proofs.Awaited.{next_none}
+use Rattle.ivy_program.specs.OwnCode.{AsksNext}
+use Rattle.ivy_program.proofs.running.Awaited.{next_none}
 use Rattle.ivy_program.proofs.caller.Caller.is_free.Goals as goal
 
 pub returns-clause-next : goal.returns-clause-next

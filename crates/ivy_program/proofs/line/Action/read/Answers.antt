@@ -1,8 +1,8 @@
 use Rattle.std.proofs.Common.{rules, ◌≡◌, length, map, IfNone, arith, subst}
 use Rattle.std.proofs.lemmas.List.{length-map}
 use Rattle.ivy_program.specs.declared.line.Action.{Action}
-use Rattle.ivy_program.specs.Lines.{SpellsAction}
-use Rattle.ivy_program.proofs.Lengths.{action_counted, five_mapped, six_mapped}
+use Rattle.ivy_program.specs.texts.Lines.{SpellsAction}
+use Rattle.ivy_program.proofs.reading.Lengths.{action_counted, five_mapped, six_mapped}
 use Rattle.ivy_program.proofs.line.Action.read.Goals as goal
 
 pub returns-in_default-clause-none : goal.returns-in_default-clause-none

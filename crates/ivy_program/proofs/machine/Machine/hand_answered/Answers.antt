@@ -1,8 +1,8 @@
 -- Own code stays own code.
 use Rattle.std.proofs.Common.{[], ◌∷◌, ap, subst, sym}
 use Rattle.ivy_program.specs.Programs.{IsCalled}
-use Rattle.ivy_program.specs.Steps.{Process}
-use Rattle.ivy_program.proofs.Handing.{handed_called}
+use Rattle.ivy_program.specs.stated.InstructionSteps.{Process}
+use Rattle.ivy_program.proofs.running.Handing.{handed_called}
 use Rattle.ivy_program.proofs.machine.Machine.hand_answered.Goals as goal
 
 pub invariant_of-self : goal.invariant_of-self

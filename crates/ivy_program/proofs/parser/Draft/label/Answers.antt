@@ -1,6 +1,6 @@
 -- A new name goes behind the others.
 use Rattle.std.proofs.Common.{◌∙◌, sym, rules}
-use Rattle.ivy_program.proofs.Drafts.{label_added, label_inside, none_is}
+use Rattle.ivy_program.proofs.reading.Drafts.{label_added, label_inside, none_is}
 use Rattle.ivy_program.proofs.parser.Draft.label.Goals as goal
 
 pub invariant_of-self-2 : goal.invariant_of-self-2

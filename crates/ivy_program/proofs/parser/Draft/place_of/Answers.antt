@@ -1,8 +1,8 @@
 -- Each place that a name has is inside.
 use Rattle.std.proofs.Common.{◌≡◌, ◌≤◌, IfSome, length, ap, sym, subst, rules}
 use Rattle.std.proofs.lemmas.Map.Entries.{All-lookup}
-use Rattle.ivy_program.specs.Names.{same_name}
-use Rattle.ivy_program.specs.Parts.{Part, label_place}
+use Rattle.ivy_program.specs.texts.Names.{same_name}
+use Rattle.ivy_program.specs.texts.ProgramParts.{Part, label_place}
 use Rattle.ivy_program.proofs.parser.Draft.place_of.Goals as goal
 
 pub returns-clause-inside : goal.returns-clause-inside

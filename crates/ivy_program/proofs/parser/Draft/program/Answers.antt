@@ -1,8 +1,8 @@
 -- One line more is drawn, or loses its jump.
 use Rattle.std.proofs.Common.{◌≡◌, ◌∙◌, ◌<◌, ◌≤◌, Some, length, get_or, ap, sym, subst, arith}
 use Rattle.std.proofs.lemmas.List.{take_all}
-use Rattle.ivy_program.specs.Readings.{HasLost, IsLeastOrNone, LosesIn}
-use Rattle.ivy_program.proofs.Drawn.{drawn_found, drawn_lost}
+use Rattle.ivy_program.specs.texts.Readings.{HasLost, IsLeastOrNone, LosesIn}
+use Rattle.ivy_program.proofs.reading.Drawn.{drawn_found, drawn_lost}
 use Rattle.ivy_program.proofs.parser.Draft.program.Goals as goal
 use Rattle.ivy_program.proofs.parser.Draft.program.Goals.{in-Some+in_ok-push-in-Some, in-None}
 

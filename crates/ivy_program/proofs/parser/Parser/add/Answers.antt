@@ -1,6 +1,6 @@
 -- The last draft takes the instruction.
 use Rattle.std.proofs.Common.{arith}
-use Rattle.ivy_program.proofs.Lasts.{line_put}
+use Rattle.ivy_program.proofs.reading.Lasts.{line_put}
 use Rattle.ivy_program.proofs.parser.Parser.add.Goals as goal
 
 pub returns-clause-added : goal.returns-clause-added

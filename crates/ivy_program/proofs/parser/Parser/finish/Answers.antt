@@ -1,8 +1,8 @@
 -- One part more is made, or loses a jump.
 use Rattle.std.proofs.Common.{◌≡◌, ◌∙◌, ◌<◌, ◌≤◌, ℕ, Some, length, get_or, ap, sym, subst, arith}
 use Rattle.ivy_program.specs.Programs.{IsWritten}
-use Rattle.ivy_program.specs.Readings.{HasLost, IsLeastOrNone, program_of}
-use Rattle.ivy_program.proofs.Drawn.{IsMade, none_made, made_found, made_lost, all_made, fault_found}
+use Rattle.ivy_program.specs.texts.Readings.{HasLost, IsLeastOrNone, program_of}
+use Rattle.ivy_program.proofs.reading.Drawn.{IsMade, none_made, made_found, made_lost, all_made, fault_found}
 use Rattle.ivy_program.proofs.parser.Parser.finish.Goals as goal
 use Rattle.ivy_program.proofs.parser.Parser.finish.Goals.{in-Ok+in_ok-push-in-Ok, in-Err}
 

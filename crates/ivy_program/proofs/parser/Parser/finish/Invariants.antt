@@ -1,5 +1,5 @@
 -- The programs of the parts so far, or the least line at fault.
-use Rattle.ivy_program.proofs.Drawn.{IsMade}
+use Rattle.ivy_program.proofs.reading.Drawn.{IsMade}
 use Rattle.ivy_program.proofs.parser.Parser.finish.Given as goal
 
 abbrev pub invariant-loop-draft : goal.invariant-loop-draft

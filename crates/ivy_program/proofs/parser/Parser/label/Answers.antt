@@ -1,6 +1,6 @@
 -- The last draft takes the label.
 use Rattle.std.proofs.Common.{arith}
-use Rattle.ivy_program.proofs.Lasts.{label_put}
+use Rattle.ivy_program.proofs.reading.Lasts.{label_put}
 use Rattle.ivy_program.proofs.parser.Parser.label.Goals as goal
 
 pub returns-clause-labelled : goal.returns-clause-labelled

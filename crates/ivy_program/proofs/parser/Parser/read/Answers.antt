@@ -1,9 +1,9 @@
 -- A line that says something is taken in, and another is at fault.
 use Rattle.std.proofs.Common.{None, refl, subst, sym, arith}
-use Rattle.ivy_program.specs.Lines.{SpellsLine}
-use Rattle.ivy_program.specs.Words.{words_of}
-use Rattle.ivy_program.proofs.Lengths.{line_counted}
-use Rattle.ivy_program.proofs.Reading.{said}
+use Rattle.ivy_program.specs.texts.Lines.{SpellsLine}
+use Rattle.ivy_program.specs.texts.TextWords.{words_of}
+use Rattle.ivy_program.proofs.reading.Lengths.{line_counted}
+use Rattle.ivy_program.proofs.reading.Reading.{said}
 use Rattle.ivy_program.proofs.parser.Parser.read.Goals as goal
 
 pub returns-in-Some-read-clause-read : goal.returns-in-Some-read-clause-read

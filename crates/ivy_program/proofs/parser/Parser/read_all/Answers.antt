@@ -3,8 +3,8 @@ use Rattle.std.proofs.Common.{◌∙◌, Some, ap, sym}
 use Rattle.std.specs.Str.Lines.{lines}
 use Rattle.std.proofs.lemmas.Iterator.Splits.{YieldsList-from_lines}
 use Rattle.std.proofs.lemmas.Iterator.Consumers.{YieldsList-from_enumerate, YieldsList-so_far, YieldsList-turn, YieldsList-end}
-use Rattle.ivy_program.proofs.Orders.{known}
-use Rattle.ivy_program.proofs.Reading.{reads_all, reads_next, reads_settled}
+use Rattle.ivy_program.proofs.reading.Orders.{known}
+use Rattle.ivy_program.proofs.reading.Reading.{reads_all, reads_next, reads_settled}
 use Rattle.ivy_program.proofs.parser.Parser.read_all.Goals as goal
 
 pub loop-before-preserved-else-is_first : goal.loop-before-preserved-else-is_first

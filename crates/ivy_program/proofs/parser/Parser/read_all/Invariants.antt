@@ -1,5 +1,5 @@
 -- The lines so far are read.
-use Rattle.ivy_program.proofs.Reading.{IsReadSoFar, texts_of}
+use Rattle.ivy_program.proofs.reading.Reading.{IsReadSoFar, texts_of}
 use Rattle.ivy_program.proofs.parser.Parser.read_all.Given as goal
 
 abbrev pub invariant-loop-before : goal.invariant-loop-before

@@ -1,6 +1,6 @@
 use Rattle.std.proofs.Common.{◌≡◌, ◌≢◌, ◌<◌, ℕ, slice_get, Some}
-use Rattle.ivy_moves.specs.ivy_link.Linked.{peer_at}
-use Rattle.ivy_session.specs.ivy_seating.ivy_site.SiteView.{SiteView}
+use Rattle.ivy_link.specs.stated.Linked.{peer_at}
+use Rattle.ivy_site.specs.SiteView.{SiteView}
 use Rattle.ivy_scope.proofs.watched.delivered.is_delivered_from.Given as goal
 
 abbrev pub invariant-loop-to : goal.invariant-loop-to

@@ -1,7 +1,7 @@
 use Rattle.std.proofs.Common.{refl, ap, ◌∙◌}
 use Rattle.std.proofs.lemmas.Result.{IfOk-from_err, err_from_is_err_and}
-use Rattle.ivy_session.specs.ivy_seating.ivy_ether.Held.{Held}
-use Rattle.ivy_session.proofs.of_ivy_seating.Told.{fresh_pop}
+use Rattle.ivy_ether.specs.Held.{Held}
+use Rattle.ivy_seating.proofs.Collected.{fresh_pop}
 use Rattle.ivy_scope.proofs.watched.session.play.Goals as goal
 
 pub play_at-requires-clause-passes : goal.play_at-requires-clause-passes

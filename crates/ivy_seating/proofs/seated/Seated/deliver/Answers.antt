@@ -1,5 +1,5 @@
 use Rattle.std.proofs.Common.{sym, subst, Contains}
-use Rattle.ivy_model.specs.Config.{IsConfig}
+use Rattle.ivy_model.specs.stated.Config.{IsConfig}
 use Rattle.ivy_seating.proofs.Seats.{delivered}
 use Rattle.ivy_seating.proofs.WireTurns.{verdict_told}
 use Rattle.ivy_seating.proofs.seated.Seated.deliver.Goals as goal

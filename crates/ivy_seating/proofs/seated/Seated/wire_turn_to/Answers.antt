@@ -1,7 +1,7 @@
 use Rattle.std.proofs.Common.{◌≢◌, Contains, sym, ap, ◌∙◌, subst, rules, inl, inr, refl}
 use Rattle.ivy_model.specs.declared.Fault.TheVariants as fault
 use Rattle.ivy_wire.specs.Destinations.{dest_of}
-use Rattle.ivy_wire.specs.DecodeErrors.{checked}
+use Rattle.ivy_wire.specs.stated.DecodeErrors.{checked}
 use Rattle.ivy_ether.specs.Held.{Held}
 use Rattle.ivy_site.specs.Sites.{AfterDelivery}
 use Rattle.ivy_seating.proofs.WireTurns.{HasTaken, has_taken, took_string, drops_string, refused_as, returns_string, loses_string}

@@ -1,10 +1,10 @@
 use Rattle.std.proofs.Common.{true, ap, refl, sym}
-use Rattle.ivy_host.specs.ivy_heap.declared.Answer.TheVariants.{Awaited}
-use Rattle.ivy_host.specs.ivy_memory.Rows.{first_call}
-use Rattle.ivy_host.proofs.of_ivy_memory.Beginning.{err_there}
+use Rattle.ivy_alloc.specs.declared.CallProgress.TheVariants.{Awaited}
+use Rattle.ivy_memory.specs.BatchedCalls.{first_call}
+use Rattle.ivy_memory.proofs.keeping.Beginning.{err_there}
 use Rattle.ivy_site.specs.Inside.{host_in}
 use Rattle.ivy_site.proofs.Calling.{cannot_begin, called, called_few, on_err, unposted}
-use Rattle.ivy_site.proofs.Together.{row_begins}
+use Rattle.ivy_site.proofs.BatchedTurn.{row_begins}
 use Rattle.ivy_site.proofs.Turned.{has_turned}
 use Rattle.ivy_site.proofs.host.Host.begin_row.Goals as goal
 

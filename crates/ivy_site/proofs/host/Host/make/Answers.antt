@@ -1,6 +1,6 @@
 use Rattle.std.proofs.Common.{rules, ap, ◌∙◌}
-use Rattle.ivy_host.proofs.of_ivy_memory.Beginning.{err_there}
-use Rattle.ivy_program.proofs.Nexts.{alone_next}
+use Rattle.ivy_memory.proofs.keeping.Beginning.{err_there}
+use Rattle.ivy_program.proofs.running.Nexts.{alone_next}
 use Rattle.ivy_site.proofs.Calling.{begin_alone, cannot_begin, called, called_few, on_err, serves, unposted}
 use Rattle.ivy_site.proofs.Turned.{has_turned}
 use Rattle.ivy_site.proofs.host.Host.make.Goals as goal

@@ -1,5 +1,5 @@
 use Rattle.std.proofs.Common.{rules, ap, ◌∙◌}
-use Rattle.ivy_host.proofs.of_ivy_memory.Beginning.{err_there}
+use Rattle.ivy_memory.proofs.keeping.Beginning.{err_there}
 use Rattle.ivy_site.proofs.Calling.{poll_call, cannot_begin, called, called_few, on_err, unposted}
 use Rattle.ivy_site.proofs.host.Host.poll.Goals as goal
 
@@ -19,12 +19,12 @@ returns-in_err-answer-clause-spent g c =
 pub returns-clause-ok : goal.returns-clause-ok
 returns-clause-ok g c =
     called _ c.args.call _ (poll_call _ c.args.call c.requires.asked)
-    c.args.outbox.now c.poll_reply.new.post c.me.result c.keep.new.self.memory
-    c.keep.new.self.machine c.keep.new.self.history.records c.keep.result c.in_ok-answer.answer
+    c.args.outbox.now c.poll_reply.new.post c.me.result c.keep-changed.new.self.memory
+    c.keep-changed.new.self.machine c.keep-changed.new.self.history.records c.keep-changed.result c.in_ok-answer.answer
     (search rules) c.in_ok-answer.ensures.reply
-    (c.keep.ensures.memory ∙ c.in_ok-answer.ensures.ok) c.in_ok-answer.ensures.took
-    c.in_ok-answer.ensures.posted c.keep.ensures.served c.keep.ensures.history
-    c.keep.ensures.machine
+    (c.keep-changed.ensures.memory ∙ c.in_ok-answer.ensures.ok) c.in_ok-answer.ensures.took
+    c.in_ok-answer.ensures.posted c.keep-changed.ensures.served c.keep-changed.ensures.history
+    c.keep-changed.ensures.machine
 
 pub returns-clause-few : goal.returns-clause-few
 returns-clause-few g c =

@@ -1,9 +1,9 @@
 use Rattle.std.proofs.Common.{rules, ◌≡◌, ◌<◌, ◌↔◌, ℕ, List, ap, ◌∙◌}
 use Rattle.ivy_model.specs.declared.Config.{Config}
-use Rattle.ivy_wire.specs.Data.{Frame}
-use Rattle.ivy_wire.specs.Spelling.{Spells}
+use Rattle.ivy_wire.specs.stated.Data.{Frame}
+use Rattle.ivy_wire.specs.stated.Spelling.{Spells}
 use Rattle.ivy_wire.specs.Lent.{owned_frame}
-use Rattle.ivy_moves.specs.ivy_link.Linked.{peer_at}
+use Rattle.ivy_link.specs.stated.Linked.{peer_at}
 use Rattle.ivy_site.specs.SiteView.{SiteView}
 use Rattle.ivy_site.specs.Sites.{Awaits}
 use Rattle.ivy_site.proofs.site.Site.awaits.Goals as goal

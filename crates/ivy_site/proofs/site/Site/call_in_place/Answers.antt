@@ -1,5 +1,5 @@
 use Rattle.std.proofs.Common.{rules, ap, ◌∷◌, [], ◌∙◌}
-use Rattle.ivy_host.proofs.of_ivy_memory.Beginning.{err_there}
+use Rattle.ivy_memory.proofs.keeping.Beginning.{err_there}
 use Rattle.ivy_site.specs.Handed.{site_handed}
 use Rattle.ivy_site.specs.Inside.{host_of}
 use Rattle.ivy_site.proofs.Handed.{free_idle, handed_site}

@@ -1,13 +1,13 @@
 use Rattle.std.proofs.Common.{rules, ℕ, List, [], ◌∷◌, length, IfErr, sym, ap, subst, ◌∙◌, arith}
 use Rattle.ivy_model.specs.declared.Call.{Call}
 use Rattle.ivy_model.specs.Rows.{calls_of, numbers_in, row}
-use Rattle.ivy_host.proofs.of_ivy_memory.Beginning.{err_there}
+use Rattle.ivy_memory.proofs.keeping.Beginning.{err_there}
 use Rattle.ivy_site.specs.Handed.{site_handed}
 use Rattle.ivy_site.specs.Inside.{host_of}
 use Rattle.ivy_site.specs.SiteView.{SiteView}
 use Rattle.ivy_site.specs.Sites.{IsSpentTurn}
 use Rattle.ivy_site.proofs.Handed.{handed_site}
-use Rattle.ivy_site.proofs.Together.{begins_row, together_is}
+use Rattle.ivy_site.proofs.BatchedTurn.{begins_row, together_is}
 use Rattle.ivy_site.proofs.Turned.{spent_turn, called_turn, called_site}
 use Rattle.ivy_site.proofs.site.Site.call_row.Goals as goal
 

@@ -1,7 +1,7 @@
 use Rattle.std.proofs.Common.{ap, subst, ◌∙◌}
-use Rattle.ivy_model.specs.Config.{IsConfig}
+use Rattle.ivy_model.specs.stated.Config.{IsConfig}
 use Rattle.ivy_wire.specs.Lent.{owned_frame}
-use Rattle.ivy_host.proofs.of_ivy_memory.Beginning.{err_there}
+use Rattle.ivy_memory.proofs.keeping.Beginning.{err_there}
 use Rattle.ivy_site.specs.SiteView.{SiteView}
 use Rattle.ivy_site.specs.Sites.{IsSpentDelivery}
 use Rattle.ivy_site.proofs.Delivering.{spent_reading}
@@ -12,17 +12,17 @@ pub receive-requires : goal.receive-requires
 receive-requires g c = record {
   spelled =
       reads_frame c.args.self.now _ c.self.view_is c.config-config.result c.config-config.ensures.is
-      (owned_frame c.in_ok-read.field-0) c.args.string.now c.bytes.result.now c.bytes.ensures
-      c.in_ok-read.ensures.found;
+      (owned_frame c.in_ok-read_frame.field-0) c.args.string.now c.bytes.result.now c.bytes.ensures
+      c.in_ok-read_frame.ensures.found;
 }
 
-pub returns-in_err-read-clause-spent : goal.returns-in_err-read-clause-spent
-returns-in_err-read-clause-spent g c =
+pub returns-in_err-read_frame-clause-spent : goal.returns-in_err-read_frame-clause-spent
+returns-in_err-read_frame-clause-spent g c =
     err_there c.from_residual.result (IsSpentDelivery c.args.self.now c.args.string.now) _
     c.from_residual.ensures.1
-    (subst (λ b. IsSpentDelivery c.args.self.now b c.in_err-read.field-0.0) c.bytes.ensures
+    (subst (λ b. IsSpentDelivery c.args.self.now b c.in_err-read_frame.field-0.0) c.bytes.ensures
     (spent_reading _ _ c.self.view_is c.config-config.result c.bytes.result.now _ _
-    c.config-config.ensures.is c.in_err-read.ensures.fault))
+    c.config-config.ensures.is c.in_err-read_frame.ensures.fault))
 
 pub returns-clause-refused : goal.returns-clause-refused
 returns-clause-refused g c =
@@ -30,6 +30,6 @@ returns-clause-refused g c =
     refused_none c.args.self.now.config (subst IsConfig config c.config-config.ensures.limits)
     c.args.string.now
     (reads_frame c.args.self.now _ c.self.view_is c.config-config.result
-    c.config-config.ensures.is (owned_frame c.in_ok-read.field-0) c.args.string.now
-    c.bytes.result.now c.bytes.ensures c.in_ok-read.ensures.found)
+    c.config-config.ensures.is (owned_frame c.in_ok-read_frame.field-0) c.args.string.now
+    c.bytes.result.now c.bytes.ensures c.in_ok-read_frame.ensures.found)
     c.receive.result c.receive.ensures.want

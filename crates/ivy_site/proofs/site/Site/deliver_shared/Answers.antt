@@ -1,7 +1,35 @@
-use Rattle.ivy_site.proofs.Receiving.{whole_delivers}
+use Rattle.std.proofs.Common.{ap, subst, ◌∙◌}
+use Rattle.ivy_model.specs.stated.Config.{IsConfig}
+use Rattle.ivy_wire.specs.Lent.{owned_frame}
+use Rattle.ivy_memory.proofs.keeping.Beginning.{err_there}
+use Rattle.ivy_site.specs.SiteView.{SiteView}
+use Rattle.ivy_site.specs.Sites.{IsSpentDelivery}
+use Rattle.ivy_site.proofs.Delivering.{spent_reading}
+use Rattle.ivy_site.proofs.Heads.{reads_frame, refused_none}
 use Rattle.ivy_site.proofs.site.Site.deliver_shared.Goals as goal
 
-pub returns-clause-done : goal.returns-clause-done
-returns-clause-done g c =
-    whole_delivers c.args.string.now c.in_ok-verdict.verdict _ c.args.self.now
-    c.deliver_telling.new.self c.in_ok-verdict.ensures.done
+pub deliver_spelled-requires : goal.deliver_spelled-requires
+deliver_spelled-requires g c = record {
+  spelled =
+      reads_frame c.args.self.now _ c.self.view_is c.config-config.result c.config-config.ensures.is
+      (owned_frame c.in_ok-read_frame.field-0) c.args.string.now c.bytes.result.now c.bytes.ensures
+      c.in_ok-read_frame.ensures.found;
+}
+
+pub returns-in_err-read_frame-clause-spent : goal.returns-in_err-read_frame-clause-spent
+returns-in_err-read_frame-clause-spent g c =
+    err_there c.from_residual.result (IsSpentDelivery c.args.self.now c.args.string.now) _
+    c.from_residual.ensures.1
+    (subst (λ b. IsSpentDelivery c.args.self.now b c.in_err-read_frame.field-0.0) c.bytes.ensures
+    (spent_reading _ _ c.self.view_is c.config-config.result c.bytes.result.now _ _
+    c.config-config.ensures.is c.in_err-read_frame.ensures.fault))
+
+pub returns-clause-refused : goal.returns-clause-refused
+returns-clause-refused g c =
+    let config = c.config-config.ensures.is ∙ ap (λ (x : SiteView). x.config) c.self.view_is in
+    refused_none c.args.self.now.config (subst IsConfig config c.config-config.ensures.limits)
+    c.args.string.now
+    (reads_frame c.args.self.now _ c.self.view_is c.config-config.result
+    c.config-config.ensures.is (owned_frame c.in_ok-read_frame.field-0) c.args.string.now
+    c.bytes.result.now c.bytes.ensures c.in_ok-read_frame.ensures.found)
+    c.deliver_spelled.result c.deliver_spelled.ensures.want

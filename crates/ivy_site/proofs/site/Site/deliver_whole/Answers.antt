@@ -1,5 +1,5 @@
 use Rattle.std.proofs.Common.{rules, ◌≡◌, ◌≢◌}
-use Rattle.ivy_moves.specs.ivy_link.declared.Verdict.TheVariants as verdict
+use Rattle.ivy_link.specs.declared.Verdict.TheVariants as verdict
 use Rattle.ivy_site.proofs.Receiving.{whole_rest, whole_next}
 use Rattle.ivy_site.proofs.site.Site.deliver_whole.Goals as goal
 

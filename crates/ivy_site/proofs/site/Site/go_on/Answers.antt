@@ -1,5 +1,5 @@
 use Rattle.std.proofs.Common.{None, arith, subst, ◌≡◌, ◌∙◌}
-use Rattle.ivy_moves.specs.ivy_link.Limits.{most_ahead}
+use Rattle.ivy_link.specs.stated.LinkLimits.{most_ahead}
 use Rattle.ivy_site.specs.Inside.{AfterOnce}
 use Rattle.ivy_site.proofs.Receiving.{WentSoOften, went_more, went_to_end, went_all, went_to_refusal}
 use Rattle.ivy_site.proofs.site.Site.go_on.Goals as goal

@@ -1,5 +1,5 @@
 use Rattle.std.proofs.Common.{◌≤◌, ◌+◌, ◌*◌, length}
-use Rattle.ivy_host.specs.ivy_coherence.Limits.{most_posted}
+use Rattle.ivy_coherence.specs.EventLimits.{most_posted}
 use Rattle.ivy_site.specs.Sites.{IsSameNode}
 use Rattle.ivy_site.proofs.Receiving.{WentSoOften}
 use Rattle.ivy_site.proofs.site.Site.go_on.Given as goal

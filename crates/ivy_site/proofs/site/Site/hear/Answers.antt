@@ -1,20 +1,20 @@
 use denote.Enum.Bare.{sameb}
 use Rattle.std.proofs.Common.{rules, true, ◌≡◌, ◌≢◌, ℕ, List, ◌<◌, ◌++◌, ◌∷◌, [], None, sym, refl, ap, subst, ◌∙◌}
-use Rattle.ivy_model.specs.Config.{IsConfig}
-use Rattle.ivy_wire.specs.Spelling.{Spells}
+use Rattle.ivy_model.specs.stated.Config.{IsConfig}
+use Rattle.ivy_wire.specs.stated.Spelling.{Spells}
 use Rattle.ivy_model.specs.declared.Config.{Config}
 use Rattle.ivy_wire.specs.Lent.{owned_message, owned_body}
-use Rattle.ivy_moves.specs.ivy_link.contracts.verdict.Verdict.{the_type}
-use Rattle.ivy_moves.specs.ivy_link.declared.Verdict.{Verdict}
-use Rattle.ivy_moves.specs.ivy_link.declared.Verdict.TheVariants as verdict
-use Rattle.ivy_moves.specs.ivy_link.Holding.{accepted_at}
+use Rattle.ivy_link.specs.contracts.verdict.Verdict.{the_type}
+use Rattle.ivy_link.specs.declared.Verdict.{Verdict}
+use Rattle.ivy_link.specs.declared.Verdict.TheVariants as verdict
+use Rattle.ivy_link.specs.Holding.{accepted_at}
 use Rattle.ivy_moves.specs.Marks.{Mark, Delivery}
-use Rattle.ivy_outbox.specs.Outboxes.{Outbox, holding_of, with_holding}
+use Rattle.ivy_link.specs.Outboxes.{Outbox, holding_of, with_holding}
 use Rattle.ivy_site.specs.SiteView.{SiteView, shown_of}
 use Rattle.ivy_site.specs.Sites.{IsSite, IsSpentDelivery}
 use Rattle.ivy_moves.specs.Keeping.{keeps_history, keeps_events}
 use Rattle.ivy_site.specs.Inside.{CameEarlyAs, Hears, host_in}
-use Rattle.ivy_host.proofs.of_ivy_memory.Beginning.{err_there}
+use Rattle.ivy_memory.proofs.keeping.Beginning.{err_there}
 use Rattle.ivy_site.proofs.Heads.{head_is, source_is, source_there, number_small, read_head, message_fits, heard_from, spent_from, source_foreign}
 use Rattle.ivy_site.proofs.Delivering.{IsHeard, not_mine, heard_quietly, heard_delivers, heard_site, heard_early, heard_few}
 use Rattle.ivy_site.proofs.Receiving.{hears}

@@ -1,5 +1,5 @@
 use Rattle.std.proofs.Common.{◌≡◌, ap, rules}
-use Rattle.ivy_program.specs.States.{State, first_state}
+use Rattle.ivy_program.specs.stated.States.{State, first_state}
 use Rattle.ivy_site.proofs.Made.{first_site}
 use Rattle.ivy_site.proofs.site.Site.with_machine.Goals as goal
 

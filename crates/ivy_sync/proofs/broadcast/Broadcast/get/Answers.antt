@@ -5,7 +5,7 @@ use Rattle.ivy_calls.specs.declared.answer.Answer.{Answer}
 use Rattle.ivy_calls.specs.declared.error.CallError.{CallError}
 use Rattle.ivy_sync.specs.declared.error.SyncError.TheVariants as error
 use Rattle.ivy_sync.specs.Failing.{FailsToGet}
-use Rattle.ivy_sync.proofs.Failing.{fails_as, fails_weaker, get_stops}
+use Rattle.ivy_sync.proofs.answers.Failing.{fails_as, fails_weaker, get_stops}
 use Rattle.ivy_sync.proofs.broadcast.Broadcast.get.Goals as goal
 
 pub returns-in_err-load-clause-fails : goal.returns-in_err-load-clause-fails

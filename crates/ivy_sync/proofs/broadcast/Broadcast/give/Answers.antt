@@ -2,9 +2,9 @@ use Rattle.std.proofs.Common.{List}
 use Rattle.ivy_model.specs.declared.fault.Fault.{Fault}
 use Rattle.ivy_calls.specs.declared.answer.Answer.{Answer}
 use Rattle.ivy_sync.specs.declared.error.SyncError.{SyncError}
-use Rattle.ivy_sync.specs.Barriers.{least_of}
+use Rattle.ivy_sync.specs.meeting.Barriers.{least_of}
 use Rattle.ivy_sync.specs.Failing.{FailsToCross, FailsToGive}
-use Rattle.ivy_sync.proofs.Failing.{fails_so, give_stops}
+use Rattle.ivy_sync.proofs.answers.Failing.{fails_so, give_stops}
 use Rattle.ivy_sync.proofs.broadcast.Broadcast.give.Goals as goal
 
 pub returns-clause-fails : goal.returns-clause-fails

@@ -8,9 +8,9 @@ use Rattle.ivy_sync.specs.declared.barrier.Barrier.{Barrier}
 use Rattle.ivy_sync.specs.declared.error.SyncError.{SyncError}
 use Rattle.ivy_sync.specs.declared.error.SyncError.TheVariants as error
 use Rattle.ivy_sync.specs.Doing.{loads, stores}
-use Rattle.ivy_sync.specs.Folds.{FailsToGather}
-use Rattle.ivy_sync.proofs.Failing.{fails_as, fails_weaker, gather_stops}
-use Rattle.ivy_sync.proofs.Folded.{HasFolded, find_stops, folded_more, folded_none, folds_all}
+use Rattle.ivy_sync.specs.meeting.Folds.{FailsToGather}
+use Rattle.ivy_sync.proofs.answers.Failing.{fails_as, fails_weaker, gather_stops}
+use Rattle.ivy_sync.proofs.meeting.Folded.{HasFolded, find_stops, folded_more, folded_none, folds_all}
 use Rattle.ivy_sync.proofs.reduction.Reduction.fold.Given as given
 use Rattle.ivy_sync.proofs.reduction.Reduction.fold.Goals as goal
 

@@ -1,4 +1,4 @@
-use Rattle.ivy_sync.proofs.Folded.{HasFolded}
+use Rattle.ivy_sync.proofs.meeting.Folded.{HasFolded}
 use Rattle.ivy_sync.proofs.reduction.Reduction.fold.Given as goal
 
 abbrev pub invariant-loop-node : goal.invariant-loop-node

@@ -6,9 +6,9 @@ use Rattle.ivy_calls.specs.declared.error.CallError.{CallError}
 use Rattle.ivy_sync.specs.declared.error.SyncError.{SyncError}
 use Rattle.ivy_sync.specs.declared.error.SyncError.TheVariants as error
 use Rattle.ivy_sync.specs.Failing.{AtSome}
-use Rattle.ivy_sync.specs.SharedQueues.{FailsToShare}
-use Rattle.ivy_sync.proofs.Failing.{fails_as, fails_weaker}
-use Rattle.ivy_sync.proofs.SharedCalls.{send_stops, release_stops}
+use Rattle.ivy_sync.specs.queueing.SharedQueues.{FailsToShare}
+use Rattle.ivy_sync.proofs.answers.Failing.{fails_as, fails_weaker}
+use Rattle.ivy_sync.proofs.queueing.SharedCalls.{send_stops, release_stops}
 use Rattle.ivy_sync.proofs.shared_sender.SharedSender.send.Goals as goal
 
 pub returns-in_err-send-clause-fails : goal.returns-in_err-send-clause-fails
@@ -18,7 +18,7 @@ returns-in_err-send-clause-fails g c =
     let q = c.args.self.now.queue in
     let old : List Answer = g.M.SharedMemory.answers c.args.memory.now in
     let held : List Answer = g.M.SharedMemory.answers c.acquire.new.memory in
-    let mid : List Answer = g.M.SharedMemory.answers c.read.new.memory in
+    let mid : List Answer = g.M.SharedMemory.answers c.read_count.new.memory in
     let new : List Answer = g.M.SharedMemory.answers c.send.new.memory in
     let e : SyncError = c.in_err-send.field-0.0 in
     fails_as c.from_residual-in_err-send.result e (λ x. FailsToShare can a q c.args.value x old new)
@@ -34,7 +34,7 @@ returns-in_err-release-clause-fails g c =
     let q = c.args.self.now.queue in
     let old : List Answer = g.M.SharedMemory.answers c.args.memory.now in
     let held : List Answer = g.M.SharedMemory.answers c.acquire.new.memory in
-    let mid : List Answer = g.M.SharedMemory.answers c.read.new.memory in
+    let mid : List Answer = g.M.SharedMemory.answers c.read_count.new.memory in
     let sent : List Answer = g.M.SharedMemory.answers c.send.new.memory in
     let new : List Answer = g.M.SharedMemory.answers c.release.new.memory in
     let e : CallError = c.in_err-release.field-0.0 in

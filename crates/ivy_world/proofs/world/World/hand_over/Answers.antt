@@ -1,6 +1,6 @@
 use Rattle.std.proofs.Common.{◌<◌, ◌≡◌, ◌∷◌, [], length, ap, arith}
-use Rattle.proof_headline.specs.RunState.{Run}
-use Rattle.ivy_world.proofs.Handed.{after_refusal, after_run, after_running, free_site}
+use Rattle.proof_worlds.specs.stated.RunState.{Run}
+use Rattle.ivy_world.proofs.HandedWorlds.{after_refusal, after_run, after_running, free_site}
 use Rattle.ivy_world.proofs.world.World.hand_over.Goals as goal
 
 pub hand-requires-clause-free : goal.hand-requires-clause-free

@@ -1,12 +1,12 @@
 use Rattle.std.proofs.Common.{◌≡◌, [], ℕ, length, subst, ap, MatchResult}
 use Rattle.ivy_model.specs.Rows.{calls_of, numbers_in, row}
 use Rattle.ivy_model.specs.declared.Config.{Config}
-use Rattle.ivy_moves.specs.Nodes.{Node}
+use Rattle.ivy_moves.specs.stated.Nodes.{Node}
 use Rattle.ivy_site.specs.Calls.{MayCallTogether, row_together, words_together}
-use Rattle.ivy_site.specs.ivy_host.Hosts.{Host}
-use Rattle.ivy_site.specs.ivy_host.Managers.{Managed}
+use Rattle.ivy_host.specs.stated.Hosts.{Host}
+use Rattle.ivy_host.specs.stated.Managers.{Managed}
 use Rattle.ivy_world.specs.WorldSites.{IsMemory}
-use Rattle.ivy_world.proofs.Together.{block_begun, block_refused, block_running, count_says, node_says, place_says}
+use Rattle.ivy_world.proofs.BatchedWorlds.{block_begun, block_refused, block_running, count_says, node_says, place_says}
 use Rattle.ivy_world.proofs.world.World.hand_over_block.Goals as goal
 
 pub begin_block-requires-clause-waits : goal.begin_block-requires-clause-waits

@@ -1,5 +1,5 @@
 use Rattle.std.proofs.Common.{ℕ, sym, subst}
-use Rattle.ivy_world.specs.Rounds.{IsDeliveredFrom}
+use Rattle.ivy_world.specs.WorldRounds.{IsDeliveredFrom}
 use Rattle.ivy_world.proofs.Settled.{world_delivered, sites_delivered}
 use Rattle.ivy_world.proofs.world.World.is_delivered.Goals as goal
 

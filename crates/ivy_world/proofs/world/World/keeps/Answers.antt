@@ -1,4 +1,4 @@
-use Rattle.proof_headline.proofs.Headline.{keeps-reached}
+use Rattle.proof_worlds.proofs.headline.Headline.{keeps-reached}
 use Rattle.ivy_world.proofs.world.World.keeps.Goals as goal
 
 pub returns : goal.returns

@@ -1,5 +1,5 @@
 use Rattle.std.proofs.Common.{◌≡◌, Result, Ok, Err, IsErrAnd, ap, ◌∙◌}
-use Rattle.ivy_site.proofs.of_ivy_memory.Beginning.{err_there}
+use Rattle.ivy_memory.proofs.keeping.Beginning.{err_there}
 use Rattle.ivy_world.specs.WorldSites.{run_of}
 use Rattle.ivy_world.proofs.Worlds.{running_spelled, runs_on}
 use Rattle.ivy_world.proofs.Coming.{passed_further}

@@ -1,10 +1,10 @@
 use Rattle.std.proofs.Common.{get_or, slice_get, rules, subst}
 use Rattle.std.proofs.lemmas.List.{take_more}
 use Rattle.std.proofs.lemmas.Option.{slice_get-get_or}
-use Rattle.ivy_site.specs.ivy_host.Managers.{managed_ops}
+use Rattle.ivy_host.specs.stated.Managers.{managed_ops}
 use Rattle.ivy_moves.specs.declared.Move.TheVariants.{Turn}
-use Rattle.ivy_moves.specs.Worlds.{Moves}
-use Rattle.ivy_site.specs.ivy_host.Hosts.{host_rules}
+use Rattle.ivy_moves.specs.stated.Worlds.{Moves}
+use Rattle.ivy_host.specs.stated.Hosts.{host_rules}
 use Rattle.ivy_moves.proofs.Leading.{leads_one}
 use Rattle.ivy_world.proofs.Worlds.{named_exactly}
 use Rattle.ivy_world.proofs.world.World.make_each.Goals as goal

@@ -1,5 +1,5 @@
 use Rattle.std.proofs.Common.{◌≡◌, take}
-use Rattle.proof_headline.specs.Reached.{IsLedTo}
+use Rattle.proof_worlds.specs.stated.Reached.{IsLedTo}
 use Rattle.ivy_world.proofs.world.World.make_each.Given as goal
 
 -- the moves so far were made

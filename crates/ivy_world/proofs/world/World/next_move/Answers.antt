@@ -1,9 +1,9 @@
 use Rattle.std.proofs.Common.{ℕ, ◌<◌, ◌≤◌, List, length, sym, subst}
-use Rattle.proof_headline.specs.RunState.{Run}
+use Rattle.proof_worlds.specs.stated.RunState.{Run}
 use Rattle.ivy_site.specs.SiteView.{SiteView}
-use Rattle.ivy_world.specs.Rounds.{IsNextMove, HasNoneUnderWay}
+use Rattle.ivy_world.specs.WorldRounds.{IsNextMove, HasNoneUnderWay}
 use Rattle.ivy_world.proofs.Coming.{passed_on, round_move}
-use Rattle.ivy_world.proofs.Rounds.{named_next}
+use Rattle.ivy_world.proofs.WorldRounds.{named_next}
 use Rattle.ivy_world.proofs.world.World.next_move.Given.{Over}
 use Rattle.ivy_world.proofs.world.World.next_move.Goals as goal
 use Rattle.ivy_world.proofs.world.World.next_move.Goals.{After-next_move}

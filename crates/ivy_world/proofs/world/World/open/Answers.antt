@@ -1,8 +1,8 @@
 use Rattle.std.proofs.Common.{rules, []}
 use Rattle.std.proofs.lemmas.List.{length-replicate}
-use Rattle.ivy_model.specs.Config.{IsConfig}
-use Rattle.ivy_program.specs.Programs.{Called}
-use Rattle.ivy_world.specs.Handed.{own_code}
+use Rattle.ivy_model.specs.stated.Config.{IsConfig}
+use Rattle.ivy_program.specs.stated.Programs.{Called}
+use Rattle.ivy_world.specs.HandedWorlds.{own_code}
 use Rattle.ivy_world.proofs.Worlds.{first_running-of, first_run-of}
 use Rattle.ivy_world.specs.WorldSites.{world_of}
 use Rattle.ivy_world.proofs.Coming.{passed_none}

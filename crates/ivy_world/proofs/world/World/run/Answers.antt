@@ -1,4 +1,4 @@
-use Rattle.proof_headline.proofs.Headline.{explained-on}
+use Rattle.proof_worlds.proofs.headline.Headline.{explained-on}
 use Rattle.ivy_world.proofs.world.World.run.Goals as goal
 
 pub returns-clause-explained : goal.returns-clause-explained

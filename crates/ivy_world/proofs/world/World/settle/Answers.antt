@@ -1,4 +1,4 @@
-use Rattle.proof_headline.proofs.Headline.{explained-on}
+use Rattle.proof_worlds.proofs.headline.Headline.{explained-on}
 use Rattle.ivy_world.proofs.world.World.settle.Goals as goal
 
 pub returns-clause-made : goal.returns-clause-made

@@ -1,10 +1,10 @@
 use Rattle.std.proofs.Common.{◌<◌, ◌+◌, Ok, refl, sym, ap, subst, ◌∙◌, arith}
-use Rattle.ivy_site.specs.ivy_host.Managers.{managed_ops}
-use Rattle.proof_headline.specs.proof_progress.Still.{IsStill}
+use Rattle.ivy_host.specs.stated.Managers.{managed_ops}
+use Rattle.proof_worlds.specs.stated.Still.{IsStill}
 use Rattle.ivy_world.specs.declared.round.Round.{Round}
-use Rattle.ivy_world.specs.Rounds.{RestsOn}
+use Rattle.ivy_world.specs.WorldRounds.{RestsOn}
 use Rattle.ivy_world.specs.declared.rest.Rest.TheVariants.{Still}
-use Rattle.proof_headline.specs.RunState.{Run}
+use Rattle.proof_worlds.specs.stated.RunState.{Run}
 use Rattle.ivy_world.proofs.Settled.{SettlesSoFar, none_made, one_made, settled_by, refused_after, first_round}
 use Rattle.ivy_world.proofs.world.World.settle_on.Goals as goal
 

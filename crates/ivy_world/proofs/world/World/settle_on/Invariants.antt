@@ -1,7 +1,7 @@
 use Rattle.std.proofs.Common.{◌≡◌, ◌<◌, false}
-use Rattle.ivy_site.specs.ivy_host.Managers.{managed_ops}
-use Rattle.proof_headline.specs.proof_progress.Still.{IsStill}
-use Rattle.ivy_world.specs.Rounds.{IsInRound}
+use Rattle.ivy_host.specs.stated.Managers.{managed_ops}
+use Rattle.proof_worlds.specs.stated.Still.{IsStill}
+use Rattle.ivy_world.specs.WorldRounds.{IsInRound}
 use Rattle.ivy_world.proofs.Settled.{SettlesSoFar}
 use Rattle.ivy_world.proofs.world.World.settle_on.Given as goal
 

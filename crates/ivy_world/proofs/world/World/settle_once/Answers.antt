@@ -1,7 +1,7 @@
 use Rattle.std.proofs.Common.{rules, ◌≡◌, true, false, not, sym, ap, subst, ◌∙◌}
 use Rattle.std.specs.Result.{result_ok}
 use Rattle.std.proofs.lemmas.Option.{same_Some}
-use Rattle.ivy_world.specs.Rounds.{HadTurns}
+use Rattle.ivy_world.specs.WorldRounds.{HadTurns}
 use Rattle.ivy_world.proofs.Settled.{turned_on, stands_still}
 use Rattle.ivy_world.proofs.Coming.{rests_within, rests_at_end}
 use Rattle.ivy_world.proofs.world.World.settle_once.Goals as goal

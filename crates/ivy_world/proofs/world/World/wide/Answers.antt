@@ -1,5 +1,5 @@
 use Rattle.std.proofs.Common.{rules}
-use Rattle.ivy_model.specs.Config.{IsConfig}
+use Rattle.ivy_model.specs.stated.Config.{IsConfig}
 use Rattle.ivy_world.proofs.Worlds.{first_running-of, first_run-of}
 use Rattle.ivy_world.specs.WorldSites.{world_of}
 use Rattle.ivy_world.proofs.Coming.{passed_none}

@@ -1,7 +1,7 @@
 use Rattle.std.proofs.Common.{ap, sym, ◌∙◌}
 use Rattle.test_layers.proofs.Unposted.{unposted}
-use Rattle.ivy_host.specs.ivy_fixed.Fixed.{fixed_ops}
-use Rattle.ivy_host.proofs.of_ivy_coherence.Same.{begun-same}
+use Rattle.ivy_fixed.specs.stated.Fixed.{fixed_ops}
+use Rattle.ivy_coherence.proofs.keeping.Same.{begun-same}
 use Rattle.test_layers.proofs.coherence.Node.needs.Goals as goal
 use Rattle.test_layers.proofs.coherence.Node.needs.Goals.{in-Ok, in-Err}
 

@@ -1,8 +1,8 @@
 use Rattle.std.proofs.Common.{ap, sym, ◌∙◌}
 use Rattle.test_layers.proofs.Unposted.{unposted}
 use Rattle.ivy_wire.specs.Lent.{owned_message}
-use Rattle.ivy_host.specs.ivy_fixed.Fixed.{fixed_ops}
-use Rattle.ivy_host.proofs.of_ivy_coherence.Same.{handled-same}
+use Rattle.ivy_fixed.specs.stated.Fixed.{fixed_ops}
+use Rattle.ivy_coherence.proofs.keeping.Same.{handled-same}
 use Rattle.test_layers.proofs.coherence.Node.takes.Goals as goal
 use Rattle.test_layers.proofs.coherence.Node.takes.Goals.{in-Ok, in-Err}
 

@@ -1,7 +1,7 @@
 use Rattle.std.proofs.Common.{[], ap, refl, sym, ◌∙◌}
 use Rattle.test_layers.proofs.Unposted.{unasked}
-use Rattle.ivy_host.specs.ivy_fixed.Fixed.{fixed_ops}
-use Rattle.ivy_host.proofs.of_ivy_memory.WellBehaved.{call-same}
+use Rattle.ivy_fixed.specs.stated.Fixed.{fixed_ops}
+use Rattle.ivy_memory.proofs.keeping.WellBehaved.{call-same}
 use Rattle.test_layers.proofs.memory.Node.begins.Goals as goal
 use Rattle.test_layers.proofs.memory.Node.begins.Goals.{in-Ok, in-Err}
 

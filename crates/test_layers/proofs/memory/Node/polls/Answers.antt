@@ -1,7 +1,7 @@
 use Rattle.std.proofs.Common.{ap, sym, ◌∙◌}
 use Rattle.test_layers.proofs.Unposted.{unposted}
-use Rattle.ivy_host.specs.ivy_fixed.Fixed.{fixed_ops}
-use Rattle.ivy_host.proofs.of_ivy_memory.Polling.{polled-same}
+use Rattle.ivy_fixed.specs.stated.Fixed.{fixed_ops}
+use Rattle.ivy_memory.proofs.keeping.Polling.{polled-same}
 use Rattle.test_layers.proofs.memory.Node.polls.Goals as goal
 use Rattle.test_layers.proofs.memory.Node.polls.Goals.{in-Ok, in-Err}
 

@@ -2,11 +2,11 @@ use Rattle.std.proofs.Common.{◌≡◌, length, slice_get, get_or, ◌∷◌, [
 use Rattle.std.proofs.lemmas.List.{get_or_append_left, get_or_push, length_push}
 use Rattle.std.proofs.lemmas.List.Elements.{All-pop}
 use Rattle.std.proofs.lemmas.Option.{slice_get_read}
-use Rattle.ivy_commands.specs.ivy_ether.Held.{Held}
-use Rattle.ivy_commands.specs.ivy_ether.Rule.{times}
-use Rattle.ivy_commands.specs.ivy_ether.Views.{View}
-use Rattle.ivy_commands.specs.ivy_ether.Words.{IsNewcomer}
-use Rattle.ivy_commands.proofs.of_ivy_session.Told.{fresh_pop, issued_more}
+use Rattle.ivy_ether.specs.Held.{Held}
+use Rattle.ivy_ether.specs.Rule.{times}
+use Rattle.ivy_ether.specs.Views.{View}
+use Rattle.ivy_ether.specs.EtherViews.{IsNewcomer}
+use Rattle.ivy_seating.proofs.Collected.{fresh_pop, issued_more}
 use Rattle.test_programs.proofs.sessions.wire_turns.play.Goals as goal
 
 pub seat-one-requires-clause-there : goal.seat-one-requires-clause-there

@@ -1,9 +1,9 @@
 use Rattle.std.proofs.Common.{rules, ◌≡◌, Some, slice_get, sym, ap, subst, ◌∙◌}
 use Rattle.ivy_model.specs.declared.Config.{Config}
-use Rattle.ivy_model.specs.Config.{IsConfig}
+use Rattle.ivy_model.specs.stated.Config.{IsConfig}
 use Rattle.ivy_moves.specs.declared.keep.Keep.TheVariants.{All}
-use Rattle.ivy_commands.specs.ivy_seating.ivy_site.SiteView.{SiteView}
-use Rattle.ivy_commands.specs.ivy_seating.ivy_site.Sites.{first_keeping}
+use Rattle.ivy_site.specs.SiteView.{SiteView}
+use Rattle.ivy_site.specs.Sites.{first_keeping}
 use Rattle.test_programs.proofs.sessions.wire_turns.seat.Goals as goal
 
 pub new-requires-2 : goal.new-requires-2

@@ -1,7 +1,7 @@
 use Rattle.std.proofs.Common.{rules, arith, ◌≡◌, ◌<◌, ◌+◌, length, vec_len, [], ◌∷◌, ◌++◌, sym, ap, subst, ◌∙◌}
 use Rattle.std.specs.Vec.Iter.{into_iter_len}
 use Rattle.ivy_calls.specs.declared.answer.Answer.{Answer}
-use Rattle.ivy_twin.specs.Known.{Listed, listed}
+use Rattle.ivy_own.specs.Known.{Listed, listed}
 use Rattle.ivy_own.proofs.Each.{none_got, got_more, left_all, left_first, left_more}
 use Rattle.ivy_own.proofs.workers.fn.run_crew.scope.Goals as goal
 

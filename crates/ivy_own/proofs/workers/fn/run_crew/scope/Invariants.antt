@@ -1,6 +1,6 @@
 use Rattle.std.proofs.Common.{◌≡◌, ◌+◌, ◌≤◌, ℕ, Some, [], slice_get, vec_len, vec_capacity}
 use Rattle.std.specs.Vec.Iter.{into_iter_items, into_iter_len}
-use Rattle.ivy_twin.specs.Known.{Listed, listed}
+use Rattle.ivy_own.specs.Known.{Listed, listed}
 use Rattle.ivy_calls.specs.declared.answer.Answer.{Answer}
 use Rattle.ivy_own.proofs.workers.fn.run_crew.scope.Given as goal
 

@@ -1,0 +1,14 @@
+pub mod Summing
+pub mod Drawing
+pub mod Farming
+pub mod Piping
+pub mod Multiplying
+pub mod Elected
+pub mod Keeping
+pub mod Excluding
+pub mod Trying
+pub mod Accessing
+pub mod Counted
+pub mod Repeating
+pub mod Rowing
+pub mod Reading

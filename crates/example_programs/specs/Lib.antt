@@ -1,0 +1,12 @@
+pub mod AddsUp
+pub mod Farm
+pub mod Pipeline
+pub mod Matrices
+pub mod Product
+pub mod Adding
+pub mod Election
+pub mod Jobs
+pub mod WorkMatrices
+pub mod Peterson
+pub mod Readers
+pub mod NumberRows

@@ -1,9 +1,0 @@
-pub mod Elected
-pub mod Keeping
-pub mod Excluding
-pub mod Trying
-pub mod Accessing
-pub mod Counted
-pub mod Repeating
-pub mod Rowing
-pub mod Reading

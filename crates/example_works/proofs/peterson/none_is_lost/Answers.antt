@@ -1,5 +1,0 @@
-use Rattle.example_works.proofs.Counted.{none-is_lost}
-use Rattle.example_works.proofs.peterson.none_is_lost.Goals as goal
-
-pub returns : goal.returns
-returns c = none-is_lost

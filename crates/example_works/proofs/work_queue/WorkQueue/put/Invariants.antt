@@ -1,8 +1,0 @@
-use Rattle.example_works.specs.Adding.{AddsVain}
-use Rattle.example_works.specs.Jobs.{IsFull}
-use Rattle.example_works.proofs.work_queue.WorkQueue.put.Given as goal
-
-abbrev pub invariant-loop : goal.invariant-loop
-invariant-loop g l =
-    AddsVain (IsFull l.self) (g.M.SharedMemory.answers l.fn.memory)
-    (g.M.SharedMemory.answers l.memory)

@@ -1,1 +1,0 @@
-pub use Rattle.ivy_texts.proofs as of_ivy_texts

@@ -1,0 +1,86 @@
+//! What the frame of a string says.
+
+use ivy_model::{Config, Fault};
+use ivy_wire::{Content, FrameKind, Message, read_frame};
+
+/// What a message is about.
+#[derive(Clone, Copy)]
+pub struct About {
+    /// The node whose call it is.
+    pub origin: u8,
+    /// The number of the call at that node, from 1.
+    pub call: u64,
+    /// The page, where it is about one.
+    pub page: Option<u32>,
+}
+
+/// What the frame of a string says, but for the bytes of its page.
+#[derive(Clone, Copy)]
+pub struct RunHead {
+    pub kind: FrameKind,
+    /// The node that sent it.
+    pub source: u8,
+    /// The node that it is for.
+    pub dest: u8,
+    /// The number of its message, 0 where it has none.
+    pub number: u64,
+    /// How many bytes the string has.
+    pub len: usize,
+    /// What its message is about, where it has one.
+    pub about: Option<About>,
+}
+
+/// The page that a message is about, where it is about one.
+fn page_of(content: &Content<&[u8]>) -> Option<u32> {
+    match content {
+        Content::ReadReq { page }
+        | Content::WriteReq { page }
+        | Content::ReadRep { page, .. }
+        | Content::WriteRep { page, .. }
+        | Content::Inval { page }
+        | Content::InvalAck { page } => Some(*page),
+        _ => None,
+    }
+}
+
+fn about_of(message: &Message<&[u8]>) -> About {
+    About {
+        origin: message.origin,
+        call: message.call,
+        page: page_of(&message.content),
+    }
+}
+
+impl RunHead {
+    /// What the frame of a string says [2, 11 to 16].
+    pub fn read(config: &Config, bytes: &[u8]) -> Result<RunHead, Fault> {
+        config.check()?;
+        let frame = read_frame(config, bytes)?;
+        Ok(RunHead {
+            kind: frame.kind(),
+            source: frame.source,
+            dest: frame.dest,
+            number: frame.number,
+            len: bytes.len(),
+            about: frame.body.as_ref().map(about_of),
+        })
+    }
+
+    /// The page that its message is about, where it is about one.
+    pub fn page(&self) -> Option<u32> {
+        self.about?.page
+    }
+
+    /// The same, as a place among all pages.
+    pub(crate) fn page_place(&self) -> Option<usize> {
+        Some(self.page()? as usize)
+    }
+
+    /// Whether its message is of a call of the node that sent it.
+    pub fn is_of_its_source(&self) -> bool {
+        match self.about {
+            Some(about) => about.origin == self.source,
+            None => false,
+        }
+    }
+}

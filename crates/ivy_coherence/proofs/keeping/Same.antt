@@ -1,0 +1,49 @@
+-- A node stays who it is, whatever comes to it.
+use Rattle.std.proofs.Common.{◌≡◌, ℕ, refl}
+use Rattle.ivy_wire.specs.stated.Data.{Message}
+use Rattle.ivy_pagetable.specs.declared.Word.{Word}
+use Rattle.ivy_pagetable.specs.stated.Manager.{Ops}
+use Rattle.ivy_coherence.specs.stated.Coherent.{Coherent}
+use Rattle.ivy_coherence.specs.stated.MessageSteps.{handled}
+use Rattle.ivy_coherence.specs.stated.PageFaults.{begun}
+use Rattle.ivy_coherence.proofs.keeping.EventTable.{Rows, AccessRows, handled-by_rows, begun-by_rows}
+
+-- of one node, before and after
+pub record IsSame {S : Type 0} (old new : Coherent S) : Type 0 where
+  pub config : new.config ≡ old.config
+  pub me : new.me ≡ old.me
+
+module _ {S : Type 0} (ops : Ops S) where
+  message-rows : (c : Coherent S) (from origin call : ℕ)
+      → Rows ops c from origin call (λ m e. IsSame c e.after)
+  message-rows c from origin call = record {
+    breach = λ m why. record { config = refl; me = refl };
+    served = λ kind page i may is order. record { config = refl; me = refl };
+    put_off = λ kind page e may is room at. record { config = refl; me = refl };
+    given_up = λ page s by is. record { config = refl; me = refl };
+    copy = λ page bytes s mine is this. record { config = refl; me = refl };
+    alone = λ page copies bytes s mine is this none. record { config = refl; me = refl };
+    shared = λ page copies bytes s mine is this some apart. record { config = refl; me = refl };
+    acknowledged = λ page s mine is this missing others. record { config = refl; me = refl };
+    last = λ page s mine is this missing none. record { config = refl; me = refl };
+  }
+
+  access-rows : (c : Coherent S) (page : ℕ) (w : Word) (call : ℕ)
+      → AccessRows ops c page w call (λ b. IsSame c b.after)
+  access-rows c page w call = record {
+    busy = record { config = refl; me = refl };
+    hit = λ i none is enough. record { config = refl; me = refl };
+    read = λ i none is short reads. record { config = refl; me = refl };
+    write = λ i none is short writes other. record { config = refl; me = refl };
+    owner = λ i none is short writes own. record { config = refl; me = refl };
+  }
+
+  -- a message that comes
+  pub handled-same : (c : Coherent S) (from : ℕ) (m : Message)
+      → IsSame c (handled ops c from m).after
+  handled-same c from m = handled-by_rows m (message-rows c from m.origin m.call)
+
+  -- an access of this node's program
+  pub begun-same : (c : Coherent S) (page : ℕ) (w : Word) (call : ℕ)
+      → IsSame c (begun ops c page w call).after
+  begun-same c page w call = begun-by_rows (access-rows c page w call)

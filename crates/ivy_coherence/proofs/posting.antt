@@ -1,0 +1,3 @@
+-- How many messages an event posts.
+pub mod FewServed
+pub mod Few

@@ -1,3 +1,0 @@
-pub mod Halves
-pub mod Pairs
-pub mod Texts

@@ -1,2 +1,0 @@
-pub mod HeapCalls
-pub use Rattle.ivy_alloc.specs as ivy_alloc

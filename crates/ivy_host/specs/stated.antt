@@ -1,0 +1,6 @@
+-- What the headline reaches of this crate's definitions.
+pub mod Holding
+pub mod Hosts
+pub mod Managers
+pub mod Openings
+pub mod Sound

@@ -1,7 +1,0 @@
-use Rattle.std.proofs.Common.{◌≡◌, ◌<◌, ◌≤◌, ℕ, List, length, map, slice_get, Some}
-use Rattle.ivy_moves.specs.Events.{Event}
-use Rattle.ivy_join.proofs.playing.check_ends.Given as goal
-
-abbrev pub invariant-loop-node : goal.invariant-loop-node
-invariant-loop-node g l = (i : ℕ) → i < l.node → (log : List Event) (m : ℕ)
-    → slice_get (map (λ x. x.events.items) l.logs) i ≡ Some log → slice_get l.made i ≡ Some m → length log ≤ m

@@ -1,0 +1,218 @@
+//! Whether logs are the parts of one run: of given programs, or of the own code whose calls they have.
+
+ghost use Rattle.std.specs.Prelude.{◌≡◌, ◌++◌, ◌≤◌, length, map, take, IfOk, IfErr, IfSome, OnOk, IsTrue};
+ghost use Rattle.std.specs.List.{All};
+ghost use Rattle.ivy_model.specs.stated.Config.{IsConfig};
+ghost use Rattle.ivy_calls.specs.Answers.{answers};
+ghost use Rattle.ivy_logs.specs.Entries.{answer_in, events_in};
+ghost use Rattle.ivy_moves.specs.Marks.{marks};
+ghost use Rattle.ivy_program.specs.Programs.{IsWritten};
+ghost use Rattle.ivy_world.specs.HandedWorlds.{own_code};
+ghost use Rattle.ivy_world.specs.WorldSites.{IsMemory};
+ghost use Rattle.ivy_join.specs.Calls.{HaveNoCalls};
+ghost use Rattle.ivy_join.specs.ReplaySites.{kept_from, AreKept};
+ghost use Rattle.ivy_join.specs.Joined.{AreHeads, AreJoined, AreNoParts, SaysNoParts};
+ghost use Rattle.ivy_join.specs.OwnJoined.{AreAllTold, AreAnswered, AreOwnJoined, AreTold, Tells};
+
+use crate::failure::Unjoined;
+use crate::joined::Joined;
+use crate::replay_log::play;
+use crate::strings::Strings;
+use ivy_logs::{Log, LogEntry, LogHead};
+use ivy_model::{Config, Fault, Record};
+use ivy_program::Program;
+use ivy_site::Site;
+use ivy_wire::Bytes;
+use std::alloc::Allocator;
+
+/// The sites of the programs, in order, which keep their lists [1].
+fn first_sites<A: Allocator + Copy>(
+    alloc: A,
+    config: &Config,
+    programs: Vec<Program<A>, A>,
+) -> Result<Vec<Site<A>, A>, Fault>
+    requires limits { IsConfig config.now }
+    requires each { length programs.items ≡ config.now.nodes }
+    ensures first { IfOk result (λ sites. sites.items ≡ kept_from config.now 0 programs.items) }
+    ensures written { OnOk result (All IsWritten programs.items) }
+    ensures memory { IfErr result IsMemory }
+{
+    let mut sites = Vec::with_capacity(alloc, programs.len())?;
+    let mut me = 0u8;
+    for program in programs {
+        // for the proof: it is written down, so that its node makes no call of its own.
+        let _ = program.instructions();
+        sites.push(Site::new(alloc, config, me, program)?)?;
+        me += 1;
+    }
+    Ok(sites)
+}
+
+/// The sites of own code, as many as there are nodes, which keep their lists [1].
+fn open_sites<A: Allocator + Copy>(alloc: A, config: &Config) -> Result<Vec<Site<A>, A>, Fault>
+    requires limits { IsConfig config.now }
+    ensures first { IfOk result (λ sites. sites.items ≡ kept_from config.now 0 (own_code config.now.nodes)) }
+    ensures memory { IfErr result IsMemory }
+{
+    let mut sites = Vec::with_capacity(alloc, usize::from(config.nodes))?;
+    for me in 0..config.nodes {
+        sites.push(Site::open(alloc, config, me)?)?;
+    }
+    Ok(sites)
+}
+
+/// Whether the two are one configuration.
+fn is_same(a: &Config, b: &Config) -> bool
+    ensures { IsTrue result → a.now ≡ b.now }
+{
+    a.nodes == b.nodes && a.pages == b.pages && a.page_size == b.page_size && a.manager == b.manager
+}
+
+/// Whether a log is the one of this node, and names this configuration.
+fn check_head(config: &Config, node: u64, head: &LogHead) -> Result<(), Unjoined>
+    ensures same { OnOk result (head.now ≡ record { me = node; config = config.now }) }
+    ensures other { IfErr result (λ why. SaysNoParts why → ⊥) }
+{
+    let me = u64::from(head.me);
+    if me > node {
+        return Err(Unjoined::Missing(node));
+    }
+    if me < node {
+        return Err(Unjoined::Twice(me));
+    }
+    if !is_same(&head.config, config) {
+        return Err(Unjoined::Differs(node));
+    }
+    Ok(())
+}
+
+/// Whether there are as many logs as nodes.
+fn check_count(config: &Config, count: u64) -> Result<(), Unjoined>
+    ensures same { OnOk result (count ≡ config.now.nodes) }
+    ensures other { IfErr result (λ why. SaysNoParts why → ⊥) }
+{
+    if count < u64::from(config.nodes) {
+        return Err(Unjoined::Missing(count));
+    }
+    if count > u64::from(config.nodes) {
+        return Err(Unjoined::Twice(count));
+    }
+    Ok(())
+}
+
+/// Whether each log is the one of the node of its place, and names this configuration.
+fn check_heads<A: Allocator>(config: &Config, logs: &[Log<A>]) -> Result<(), Unjoined>
+    ensures each { OnOk result (AreHeads config.now 0 (map (λ l. l.head) logs.now)) }
+    ensures count { OnOk result (length logs.now ≡ config.now.nodes) }
+    ensures other { IfErr result (λ why. SaysNoParts why → ⊥) }
+{
+    let mut node = 0u64;
+    for log in logs {
+        check_head(config, node, &log.head)?;
+        node += 1;
+    }
+    check_count(config, node)
+}
+
+/// The place behind the answer of an entry, where the records in this place have it.
+fn after_answer<A: Allocator>(
+    history: &[Record],
+    place: usize,
+    entry: &LogEntry<Bytes<A>>,
+) -> Option<usize>
+    requires { place ≤ length history.now }
+    ensures within { IfSome result (λ next. next ≤ length history.now) }
+    ensures has { IfSome result (λ next. answers (take next history.now) ≡ answers (take place history.now) ++ answer_in entry.now) }
+{
+    let LogEntry::Answered(answer) = entry else {
+        return Some(place);
+    };
+    let record = history.get(place)?;
+    if record.call != answer.call || record.reply != answer.reply {
+        return None;
+    }
+    Some(place + 1)
+}
+
+/// Whether the records have the answers of these entries, in order, and at most one more.
+fn are_told<A: Allocator>(history: &[Record], entries: &[LogEntry<Bytes<A>>]) -> bool
+    ensures { IsTrue result → Tells entries.now history.now }
+{
+    let mut place = 0usize;
+    for entry in entries {
+        let Some(next) = after_answer(history, place, entry) else {
+            return false;
+        };
+        place = next;
+    }
+    // A node that was killed may not have logged what it was answered last.
+    history.len() - place <= 1
+}
+
+/// Whether each site was answered what its log says.
+fn check_answers<A: Allocator + Copy>(sites: &[Site<A>], logs: &[Log<A>]) -> Result<(), Unjoined>
+    requires each { length logs.now ≡ length sites.now }
+    requires kept { AreKept sites.now }
+    ensures { OnOk result (AreTold (map (λ l. l.entries.items) logs.now) sites.now) }
+{
+    for node in 0..logs.len() {
+        if !are_told(sites[node].history(), &logs[node].entries) {
+            return Err(Unjoined::OtherAnswers(node as u64));
+        }
+    }
+    Ok(())
+}
+
+/// Joins the logs of the nodes of these programs, the log of node 0 first.
+///
+/// Where it answers, the logs are the parts of one run of these programs under this configuration, whatever wire the
+/// nodes had: what `World::run` promises of every run holds of what happened, and the nodes at the end of it are given.
+/// [`Unjoined::NotSent`] and [`Unjoined::NoSuchEvent`] say of logs without calls, as all logs of programs are, that they are
+/// the parts of no run of these programs under it.
+/// The other errors say nothing of that: memory ran out, the configuration does not suit, or the logs are not those of its
+/// nodes.
+pub fn join<A: Allocator + Copy>(
+    alloc: A,
+    config: Config,
+    programs: Vec<Program<A>, A>,
+    logs: &[Log<A>],
+) -> Result<Joined<A>, Unjoined>
+    ensures heads { OnOk result (AreHeads config 0 (map (λ l. l.head) logs.now)) }
+    ensures joined { IfOk result (λ joined. AreJoined config programs.items (map (λ l. marks (events_in l.entries.items)) logs.now) joined) }
+    ensures refused { IfErr result (λ why. SaysNoParts why → HaveNoCalls (map (λ l. l.entries.items) logs.now) → AreNoParts config programs.items (map (λ l. marks (events_in l.entries.items)) logs.now)) }
+    ensures named { IfErr result (λ why. SaysNoParts why → AreHeads config 0 (map (λ l. l.head) logs.now)) }
+{
+    config.check()?;
+    if programs.len() != usize::from(config.nodes) {
+        return Err(Unjoined::Refused(Fault::BadConfig));
+    }
+    check_heads(&config, logs)?;
+    let mut sites = first_sites(alloc, &config, programs)?;
+    let mut sent = Strings::new(alloc);
+    play(alloc, &config, &mut sites, &mut sent, logs)?;
+    Ok(Joined::new(sites))
+}
+
+/// Joins the logs of the nodes of own code, the log of node 0 first.
+///
+/// Where it answers, the logs are the parts of one run of the programs that the calls in them are, whatever wire the nodes
+/// had: what `World::run` promises of every run holds of what happened, and each node was answered in it what its log says.
+/// Where no call is in progress at its end, and no log lacks its last answer, one flat memory could have given the answers
+/// in the logs.
+pub fn join_own<A: Allocator + Copy>(
+    alloc: A,
+    config: Config,
+    logs: &[Log<A>],
+) -> Result<Joined<A>, Unjoined>
+    ensures heads { OnOk result (AreHeads config 0 (map (λ l. l.head) logs.now)) }
+    ensures joined { IfOk result (AreOwnJoined config (map (λ l. l.entries.items) logs.now)) }
+    ensures answered { IfOk result (λ joined. AreAllTold (map (λ l. l.entries.items) logs.now) joined → AreAnswered config (map (λ l. l.entries.items) logs.now)) }
+{
+    config.check_wide()?;
+    check_heads(&config, logs)?;
+    let mut sites = open_sites(alloc, &config)?;
+    let mut sent = Strings::new(alloc);
+    play(alloc, &config, &mut sites, &mut sent, logs)?;
+    check_answers(&sites, logs)?;
+    Ok(Joined::new(sites))
+}

@@ -1,4 +1,0 @@
-pub mod Cursors
-pub mod Wholes
-pub mod Owned
-pub mod Frames

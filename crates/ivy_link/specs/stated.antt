@@ -1,0 +1,6 @@
+-- What the headline reaches of this crate's definitions.
+pub mod Accepted
+pub mod LinkLimits
+pub mod Linked
+pub mod Paired
+pub mod Pulsed

@@ -1,0 +1,4 @@
+pub mod Spelled
+pub mod Printed
+pub mod Entries
+pub mod Digits

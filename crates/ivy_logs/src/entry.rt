@@ -1,0 +1,178 @@
+//! The entries of logs: what a node did, called and was answered.
+ghost use Rattle.std.specs.Prelude.{[], ◌∷◌, codes, IfOk, IfSome, IsOkUnless, map};
+ghost use Rattle.ivy_logs.specs.Entries.{SpellsAnswered, SpellsDid, SpellsEntry, SpellsIn};
+ghost use Rattle.ivy_logs.specs.Spelled.{SpellsEvent};
+
+use crate::bytes_of;
+use crate::log::LogKind;
+use ivy_calls::Answer;
+use ivy_model::{Call, Fault, Reply};
+use ivy_moves::Event;
+use ivy_program::parse_number;
+use ivy_texts::{parse_byte, parse_call};
+use ivy_wire::Bytes;
+use std::alloc::Allocator;
+
+/// An entry of a log. `B` is a string of bytes.
+#[derive(Debug, Drop)]
+pub enum LogEntry<B> {
+    /// An event of the node.
+    Did(Event<B>),
+    /// Its code made a call.
+    Asked(Call),
+    /// The call was answered.
+    Answered(Answer),
+}
+
+/// So many turns, where the word is a number.
+fn turns<A: Allocator>(count: &str) -> Option<Event<Bytes<A>>>
+    ensures { IfSome result (SpellsEvent (codes "turns" ∷ count.now ∷ [])) }
+{
+    Some(Event::Turns(parse_number(count)?))
+}
+
+/// A pulse to the node of this number, where the word is one.
+fn pulse<A: Allocator>(to: &str) -> Option<Event<Bytes<A>>>
+    ensures { IfSome result (SpellsEvent (codes "pulse" ∷ to.now ∷ [])) }
+{
+    Some(Event::Pulsed(parse_byte(to)?))
+}
+
+/// The delivery of the string that the word spells, where it does [1].
+fn taken<A: Allocator + Copy>(alloc: A, digits: &str) -> Result<Option<Event<Bytes<A>>>, Fault>
+    ensures spelled { IfOk result (λ o. IfSome o (SpellsEvent (codes "took" ∷ digits.now ∷ []))) }
+    ensures memory { IsOkUnless result Fault.Memory }
+{
+    match bytes_of(alloc, digits.as_bytes())? {
+        Some(bytes) => Ok(Some(Event::Delivered(Bytes::from_vec(alloc, bytes)?))),
+        None => Ok(None),
+    }
+}
+
+/// The event of a line, where its words are one [1].
+fn parse_event<A: Allocator + Copy>(
+    alloc: A,
+    words: &[&str],
+) -> Result<Option<Event<Bytes<A>>>, Fault>
+    ensures spelled { IfOk result (λ o. IfSome o (SpellsEvent (map (λ w. w.now) words.now))) }
+    ensures memory { IsOkUnless result Fault.Memory }
+{
+    match *words {
+        ["turns", count] => Ok(turns(count)),
+        ["took", digits] => taken(alloc, digits),
+        ["pulse", to] => Ok(pulse(to)),
+        _ => Ok(None),
+    }
+}
+
+/// The call that words name, where it was carried out and gave no number.
+fn parse_done(words: &[&str]) -> Option<Answer>
+    ensures { IfSome result (λ a. SpellsAnswered (codes "done" ∷ map (λ w. w.now) words.now) a.call a.reply) }
+{
+    Some(Answer {
+        call: parse_call(words)?,
+        reply: Reply::Done,
+    })
+}
+
+/// A number, and the call that words name after it, which gave it.
+fn parse_value(words: &[&str]) -> Option<Answer>
+    ensures { IfSome result (λ a. SpellsAnswered (codes "value" ∷ map (λ w. w.now) words.now) a.call a.reply) }
+{
+    let (value, call) = words.split_first()?;
+    Some(Answer {
+        call: parse_call(call)?,
+        reply: Reply::Value(parse_number(value)?),
+    })
+}
+
+/// A fault's number, and the call that words name after it, which was refused with it.
+fn parse_refused(words: &[&str]) -> Option<Answer>
+    ensures { IfSome result (λ a. SpellsAnswered (codes "refused" ∷ map (λ w. w.now) words.now) a.call a.reply) }
+{
+    let (code, call) = words.split_first()?;
+    Some(Answer {
+        call: parse_call(call)?,
+        reply: Reply::Refused(parse_byte(code)?),
+    })
+}
+
+/// What words say that was answered: the reply, and then the call.
+fn parse_answer(words: &[&str]) -> Option<Answer>
+    ensures { IfSome result (λ a. SpellsAnswered (map (λ w. w.now) words.now) a.call a.reply) }
+{
+    let (kind, rest) = words.split_first()?;
+    match *kind {
+        "done" => parse_done(rest),
+        "value" => parse_value(rest),
+        "refused" => parse_refused(rest),
+        _ => None,
+    }
+}
+
+/// A call that words name after the first.
+fn asked<A: Allocator>(words: &[&str]) -> Option<LogEntry<Bytes<A>>>
+    ensures { IfSome result (SpellsEntry (codes "call" ∷ map (λ w. w.now) words.now)) }
+{
+    Some(LogEntry::Asked(parse_call(words)?))
+}
+
+/// An event of the node, or what it was answered, where words are that [1].
+fn parse_came<A: Allocator + Copy>(
+    alloc: A,
+    words: &[&str],
+) -> Result<Option<LogEntry<Bytes<A>>>, Fault>
+    ensures spelled { IfOk result (λ o. IfSome o (SpellsEntry (map (λ w. w.now) words.now))) }
+    ensures memory { IsOkUnless result Fault.Memory }
+{
+    if let Some(answer) = parse_answer(words) {
+        return Ok(Some(LogEntry::Answered(answer)));
+    }
+    match parse_event(alloc, words)? {
+        Some(event) => Ok(Some(LogEntry::Did(event))),
+        None => Ok(None),
+    }
+}
+
+/// The entry of a line of own code, where its words are one [1].
+fn parse_any<A: Allocator + Copy>(
+    alloc: A,
+    words: &[&str],
+) -> Result<Option<LogEntry<Bytes<A>>>, Fault>
+    ensures spelled { IfOk result (λ o. IfSome o (SpellsEntry (map (λ w. w.now) words.now))) }
+    ensures memory { IsOkUnless result Fault.Memory }
+{
+    match words.split_first() {
+        Some((&"call", call)) => Ok(asked(call)),
+        _ => parse_came(alloc, words),
+    }
+}
+
+/// An event of the node, where words are that [1].
+fn parse_did<A: Allocator + Copy>(
+    alloc: A,
+    words: &[&str],
+) -> Result<Option<LogEntry<Bytes<A>>>, Fault>
+    ensures spelled { IfOk result (λ o. IfSome o (SpellsDid (map (λ w. w.now) words.now))) }
+    ensures memory { IsOkUnless result Fault.Memory }
+{
+    match parse_event(alloc, words)? {
+        Some(event) => Ok(Some(LogEntry::Did(event))),
+        None => Ok(None),
+    }
+}
+
+/// The entry of a line, where its words are one that a log of this kind may have [1].
+pub(crate) fn parse_entry<A: Allocator + Copy>(
+    alloc: A,
+    kind: LogKind,
+    words: &[&str],
+) -> Result<Option<LogEntry<Bytes<A>>>, Fault>
+    ensures spelled { IfOk result (λ o. IfSome o (SpellsIn kind (map (λ w. w.now) words.now))) }
+    ensures memory { IsOkUnless result Fault.Memory }
+{
+    match kind {
+        LogKind::OfOwnCode => parse_any(alloc, words),
+        LogKind::OfProgram => parse_did(alloc, words),
+    }
+}

@@ -1,0 +1,31 @@
+//! The lines of a node in a process: frames in hexadecimal digits, and its log.
+//!
+//! A frame's line is `TO HEX`: the node that it is for, and its string of bytes. A log is a line `ivy log I N P S
+//! fixed` or `dynamic` of node I, and then the node's events: `turns N`, `took HEX` and `pulse J`. Every line ends in
+//! LF. What stands behind a log's last LF is no line yet: the node was killed while it wrote.
+//!
+//! A log of own code begins with `ivy own` in place of `ivy log`, and has besides what the node's code called and was
+//! answered: `call CALL`, and then `done CALL`, `value X CALL` or `refused C CALL`.
+//!
+//! Numbers in brackets, as `[1, 20]`, are those of the faults that a call may answer.
+//!
+//! Bytes as hexadecimal digits, and back, sixteen at a time.
+//!
+//! What the digits of bytes are says the crate `hex`, in whose words the contracts speak. It goes digit by digit,
+//! through a table and a match, which takes five times as many instructions; here each digit is made without a branch,
+//! so that the compiler makes sixteen at once.
+#![tactic(auto)]
+
+mod entry;
+mod frame;
+mod log;
+mod print;
+mod read;
+mod write;
+
+pub use entry::LogEntry;
+pub use frame::{FrameLine, parse_frame};
+pub use log::{Log, LogHead, LogKind, parse_log};
+pub use print::{push_entry, push_event, push_frame, push_head, push_log};
+pub use read::bytes_of;
+pub use write::push_digits;

@@ -1,0 +1,194 @@
+//! Logs: what a node in a process of its own did, one entry a line.
+ghost use Rattle.std.specs.Prelude.{◌≡◌, [], ◌∷◌, IfOk, IfErr, IfSome, map};
+ghost use Rattle.std.specs.List.{AllZip};
+ghost use Rattle.std.specs.Str.Lines.{lines};
+ghost use Rattle.ivy_program.specs.texts.Lines.{IsNumberWord};
+ghost use Rattle.ivy_program.specs.texts.Texts.{IsRefusal};
+ghost use Rattle.ivy_program.specs.texts.TextWords.{words_of};
+ghost use Rattle.ivy_texts.specs.Spelled.{worded, BeginsWith};
+ghost use Rattle.ivy_logs.specs.Entries.{SpellsIn, SpellsLog};
+ghost use Rattle.ivy_logs.specs.Spelled.{kind_word, log_word, HasWholeLines, SpellsHead, SpellsNode};
+
+use crate::entry::{LogEntry, parse_entry};
+use ivy_model::{Config, Fault, Kind};
+use ivy_program::{few_words, parse_number};
+use ivy_texts::parse_byte;
+use ivy_wire::Bytes;
+use std::alloc::Allocator;
+
+/// The most words that a line of a log can have.
+const MOST_WORDS: usize = 7;
+
+/// Whose log it is.
+#[derive(Clone, Copy, Debug, PartialEq, Eq)]
+pub enum LogKind {
+    /// A program's, `ivy log`: it has events alone.
+    OfProgram,
+    /// Own code's, `ivy own`: it has the calls of the code too, and what they were answered.
+    OfOwnCode,
+}
+
+impl LogKind {
+    /// The second word of the log's first line.
+    pub(crate) fn word(self) -> &'static str
+        ensures { result.now ≡ log_word self }
+    {
+        match self {
+            LogKind::OfProgram => "log",
+            LogKind::OfOwnCode => "own",
+        }
+    }
+}
+
+/// What the first line of a log says.
+#[derive(Clone, Copy, Debug, PartialEq, Eq)]
+pub struct LogHead {
+    /// The node whose log it is.
+    pub me: u8,
+    /// What all nodes agreed on, which may be out of its limits.
+    pub config: Config,
+}
+
+/// A log as its text gives it.
+#[derive(Drop)]
+pub struct Log<A: Allocator> {
+    pub head: LogHead,
+    /// What the node did, called and was answered, in order.
+    pub entries: Vec<LogEntry<Bytes<A>>, A>,
+    /// The line of each entry, from 1.
+    pub lines: Vec<u64, A>,
+}
+
+/// A number of four bytes.
+fn parse_size(word: &str) -> Option<u32>
+    ensures { IfSome result (IsNumberWord word.now) }
+{
+    u32::try_from(parse_number(word)?).ok()
+}
+
+/// How the owner of a page is found, by its word.
+fn parse_kind(word: &str) -> Option<Kind>
+    ensures { IfSome result (λ kind. word.now ≡ kind_word kind) }
+{
+    match word {
+        "fixed" => Some(Kind::Fixed),
+        "dynamic" => Some(Kind::Dynamic),
+        _ => None,
+    }
+}
+
+/// What these words say, of a node's number and of a configuration.
+fn node_of(me: &str, nodes: &str, pages: &str, page_size: &str, manager: &str) -> Option<LogHead>
+    ensures { IfSome result (SpellsNode (me.now ∷ nodes.now ∷ pages.now ∷ page_size.now ∷ manager.now ∷ [])) }
+{
+    Some(LogHead {
+        me: parse_byte(me)?,
+        config: Config {
+            nodes: parse_byte(nodes)?,
+            pages: parse_size(pages)?,
+            page_size: parse_size(page_size)?,
+            manager: parse_kind(manager)?,
+        },
+    })
+}
+
+/// What words say of a node's number and of a configuration.
+fn parse_node(words: &[&str]) -> Option<LogHead>
+    ensures { IfSome result (SpellsNode (map (λ w. w.now) words.now)) }
+{
+    match *words {
+        [me, nodes, pages, page_size, manager] => node_of(me, nodes, pages, page_size, manager),
+        _ => None,
+    }
+}
+
+/// What words say, where the first is the one of this kind and the others are a node's.
+fn parse_named(kind: LogKind, words: &[&str]) -> Option<LogHead>
+    ensures { IfSome result (λ h. BeginsWith (log_word kind) (λ rest. SpellsNode rest h) (map (λ w. w.now) words.now)) }
+{
+    let (word, rest) = words.split_first()?;
+    if *word != kind.word() {
+        return None;
+    }
+    parse_node(rest)
+}
+
+/// What the words of a first line say, where they are one of a log of this kind.
+fn parse_head(kind: LogKind, words: &[&str]) -> Option<LogHead>
+    ensures { IfSome result (SpellsHead kind (map (λ w. w.now) words.now)) }
+{
+    match words.split_first() {
+        Some((&"ivy", rest)) => parse_named(kind, rest),
+        _ => None,
+    }
+}
+
+/// What the first line of a log of this kind says, or none where it is no such line.
+fn head_of(kind: LogKind, line: &str) -> Option<LogHead>
+    ensures { IfSome result (SpellsHead kind (words_of line.now)) }
+{
+    let mut places = [""; MOST_WORDS];
+    let count = few_words(line, &mut places)?;
+    parse_head(kind, &places[..count])
+}
+
+/// The whole lines of a text, without the last LF: what stands behind it is none.
+fn whole_lines(text: &str) -> &str
+    ensures { HasWholeLines text.now result.now }
+{
+    match text.rsplit_once('\n') {
+        Some((whole, _torn)) => whole,
+        None => "",
+    }
+}
+
+/// The entries of lines, in order, and the line of each, where the first of them is the second one of its text [1, 20].
+fn parse_entries<A: Allocator + Copy>(
+    alloc: A,
+    kind: LogKind,
+    text: &str,
+) -> Result<(Vec<LogEntry<Bytes<A>>, A>, Vec<u64, A>), Fault>
+    ensures entries { IfOk result (λ r. AllZip (SpellsIn kind) (worded (lines text.now)) r.0.items) }
+    ensures refused { IfErr result IsRefusal }
+{
+    let mut entries = Vec::new(alloc);
+    let mut numbers = Vec::new(alloc);
+    for (before, line) in text.lines().enumerate() {
+        let number = (before as u64).saturating_add(2);
+        let mut places = [""; MOST_WORDS];
+        let Some(count) = few_words(line, &mut places) else {
+            return Err(Fault::ProgramFault(number));
+        };
+        let words = &places[..count];
+        if words.is_empty() {
+            continue;
+        }
+        let Some(entry) = parse_entry(alloc, kind, words)? else {
+            return Err(Fault::ProgramFault(number));
+        };
+        entries.push(entry)?;
+        numbers.push(number)?;
+    }
+    Ok((entries, numbers))
+}
+
+/// The log of this kind of a text. A last line that lacks its LF is ignored.
+///
+/// 1 where a growth was refused, and 20 with the first line that is none of such a log, counted from 1.
+pub fn parse_log<A: Allocator + Copy>(alloc: A, kind: LogKind, text: &str) -> Result<Log<A>, Fault>
+    ensures log { IfOk result (λ log. SpellsLog kind text.now log.head log.entries.items) }
+    ensures refused { IfErr result IsRefusal }
+{
+    let Some((first, rest)) = text.split_once('\n') else {
+        return Err(Fault::ProgramFault(1));
+    };
+    let Some(head) = head_of(kind, first) else {
+        return Err(Fault::ProgramFault(1));
+    };
+    let (entries, lines) = parse_entries(alloc, kind, whole_lines(rest))?;
+    Ok(Log {
+        head,
+        entries,
+        lines,
+    })
+}

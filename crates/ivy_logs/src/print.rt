@@ -1,0 +1,122 @@
+//! What is written of frames and of logs.
+ghost use Rattle.std.specs.Prelude.{◌≡◌, ◌++◌, OnOk, string_bytes};
+ghost use Rattle.ivy_logs.specs.Entries.{entry_line};
+ghost use Rattle.ivy_logs.specs.Printed.{event_line, frame_line, head_line, log_text, node_line};
+ghost use Rattle.ivy_logs.specs.Spelled.{kind_word};
+
+use crate::entry::LogEntry;
+use crate::log::{LogHead, LogKind};
+use crate::push_digits;
+use ivy_model::Kind;
+use ivy_moves::Event;
+use ivy_texts::{CallText, Decimal, ReplyText};
+use ivy_wire::Bytes;
+use std::alloc::{AllocError, Allocator};
+use std::fmt::Write;
+
+/// Writes the line of a frame for a node behind a text. Err only where the allocator has no memory.
+pub fn push_frame<A: Allocator + Copy>(
+    alloc: A,
+    text: &mut String<A>,
+    to: u8,
+    bytes: &[u8],
+) -> Result<(), AllocError>
+    ensures { OnOk result (string_bytes text.new ≡ string_bytes text.old ++ frame_line to bytes.now) }
+{
+    write!(text, "{} ", Decimal(u64::from(to)))?;
+    push_digits(alloc, text, bytes)?;
+    text.push('\n')
+}
+
+/// The word of a kind of manager.
+fn manager_word(kind: Kind) -> &'static str
+    ensures { result.now ≡ kind_word kind }
+{
+    match kind {
+        Kind::Fixed => "fixed",
+        Kind::Dynamic => "dynamic",
+    }
+}
+
+/// Writes the words of a node and its configuration behind a text, and ends the line. Err only where the allocator has no
+/// memory.
+fn push_node<A: Allocator>(text: &mut String<A>, head: &LogHead) -> Result<(), AllocError>
+    ensures { OnOk result (string_bytes text.new ≡ string_bytes text.old ++ node_line head.now) }
+{
+    let (me, nodes) = (
+        Decimal(u64::from(head.me)),
+        Decimal(u64::from(head.config.nodes)),
+    );
+    let pages = Decimal(u64::from(head.config.pages));
+    let page_size = Decimal(u64::from(head.config.page_size));
+    let manager = manager_word(head.config.manager);
+    writeln!(text, " {me} {nodes} {pages} {page_size} {manager}")
+}
+
+/// Writes the first line of a log of this kind behind a text. Err only where the allocator has no memory.
+pub fn push_head<A: Allocator>(
+    text: &mut String<A>,
+    kind: LogKind,
+    head: &LogHead,
+) -> Result<(), AllocError>
+    ensures { OnOk result (string_bytes text.new ≡ string_bytes text.old ++ head_line kind head.now) }
+{
+    text.push_str("ivy ")?;
+    text.push_str(kind.word())?;
+    push_node(text, head)
+}
+
+/// Writes the line of an event behind a text. Err only where the allocator has no memory.
+pub fn push_event<A: Allocator + Copy>(
+    alloc: A,
+    text: &mut String<A>,
+    event: &Event<Bytes<A>>,
+) -> Result<(), AllocError>
+    ensures { OnOk result (string_bytes text.new ≡ string_bytes text.old ++ event_line event.now) }
+{
+    match event {
+        Event::Turns(count) => writeln!(text, "turns {}", Decimal(*count)),
+        Event::Pulsed(to) => writeln!(text, "pulse {}", Decimal(u64::from(*to))),
+        Event::Delivered(bytes) => {
+            text.push_str("took ")?;
+            push_digits(alloc, text, bytes.bytes())?;
+            text.push('\n')
+        }
+    }
+}
+
+/// Writes the line of an entry behind a text. Err only where the allocator has no memory.
+pub fn push_entry<A: Allocator + Copy>(
+    alloc: A,
+    text: &mut String<A>,
+    entry: &LogEntry<Bytes<A>>,
+) -> Result<(), AllocError>
+    ensures { OnOk result (string_bytes text.new ≡ string_bytes text.old ++ entry_line entry.now) }
+{
+    match entry {
+        LogEntry::Did(event) => push_event(alloc, text, event),
+        LogEntry::Asked(call) => writeln!(text, "call {}", CallText(*call)),
+        LogEntry::Answered(answer) => writeln!(
+            text,
+            "{} {}",
+            ReplyText(answer.reply),
+            CallText(answer.call)
+        ),
+    }
+}
+
+/// Writes a whole log of a program behind a text. Err only where the allocator has no memory.
+pub fn push_log<A: Allocator + Copy>(
+    alloc: A,
+    text: &mut String<A>,
+    head: &LogHead,
+    events: &[Event<Bytes<A>>],
+) -> Result<(), AllocError>
+    ensures { OnOk result (string_bytes text.new ≡ string_bytes text.old ++ log_text head.now events.now) }
+{
+    push_head(text, LogKind::OfProgram, head)?;
+    for event in events {
+        push_event(alloc, text, event)?;
+    }
+    Ok(())
+}

@@ -1,0 +1,27 @@
+-- Replies of calls that were made together.
+use Rattle.std.specs.Prelude.{◌≡◌, ℕ, List, [], ◌∷◌, Some}
+use Rattle.ivy_model.specs.declared.Call.{Call}
+use Rattle.ivy_model.specs.declared.Record.{Record}
+use Rattle.ivy_model.specs.declared.Row.{Row}
+use Rattle.ivy_model.specs.Rows.{record_in}
+use Rattle.ivy_pagetable.specs.stated.Manager.{Ops}
+use Rattle.ivy_alloc.specs.declared.CallProgress.TheVariants.{Given}
+use Rattle.ivy_memory.specs.stated.Memories.{NodeMemory, polled}
+
+-- the calls of these records, one after another: each is in progress, and is given its reply, which is
+-- there
+abbrev pub TakesRecords : {S : Type 0} → Ops S → List Record → NodeMemory S → NodeMemory S → Type 0
+TakesRecords ops [] old new = new ≡ old
+TakesRecords {S} ops (r ∷ more) old new =
+    (mid : NodeMemory S) × (old.asked ≡ Some r.call)
+    × (polled ops old ≡ record { answer = Given r.reply; after = mid; posted = [] })
+    × TakesRecords ops more mid new
+
+-- the records of so many of these calls as there are numbers, each with the reply of a word of a row
+-- that has this number
+abbrev pub records_of : Row → ℕ → List Call → List ℕ → List Record
+records_of kind node calls [] = []
+records_of kind node [] (number ∷ more) = []
+records_of kind node (call ∷ calls) (number ∷ more) =
+    record { node = node; call = call; reply = (record_in kind 0 0 number).reply }
+    ∷ records_of kind node calls more

@@ -1,0 +1,102 @@
+-- A play that goes on.
+use Rattle.std.proofs.Common.{◌≡◌, ◌≢◌, ℕ, zero, suc, List, [], ◌∷◌, ◌++◌, Result, Ok, Err, OnOk, OnErr, append-nil, refl, sym, ap, subst, ◌∙◌}
+use Rattle.ivy_model.specs.declared.Call.{Call}
+use Rattle.ivy_model.specs.declared.Config.{Config}
+use Rattle.ivy_model.specs.declared.Fault.{Fault}
+use Rattle.ivy_model.specs.declared.Row.{Row}
+use Rattle.ivy_model.specs.Rows.{calls_of, numbers_in, row}
+use Rattle.ivy_moves.specs.declared.Move.{Move}
+use Rattle.ivy_moves.specs.declared.Move.TheVariants.{Turn}
+use Rattle.ivy_moves.specs.stated.Worlds.{Moves}
+use Rattle.ivy_host.specs.stated.Hosts.{host_rules}
+use Rattle.ivy_host.specs.stated.Managers.{managed_ops}
+use Rattle.proof_worlds.specs.stated.RunState.{Run}
+use Rattle.ivy_world.specs.declared.rest.Rest.{Rest}
+use Rattle.ivy_world.specs.declared.rest.Rest.TheVariants.{Going, Still}
+use Rattle.ivy_world.specs.HandedWorlds.{BeginsBlock, BeginsTogether, run_handed}
+use Rattle.ivy_world.specs.stated.Runs.{IsSameRun}
+use Rattle.ivy_world.specs.Settling.{HasSettled}
+use Rattle.ivy_play.specs.Played.{Step, Calls, Makes, moves_in, with_world, PlaysTo, own_opening, IsPlayed, IsStillWhere}
+
+plays_more : (r mid end : Run) (steps : List Step) (s : Step) → PlaysTo r steps mid
+    → PlaysTo mid (s ∷ []) end → PlaysTo r (steps ++ s ∷ []) end
+plays_more r mid end [] s is last = subst (λ x. PlaysTo x (s ∷ []) end) is last
+plays_more r mid end (Calls i calls ∷ steps) s plays last =
+    plays_more (run_handed i (calls ∷ []) r) mid end steps s plays last
+plays_more r mid end (Makes m ∷ steps) s plays last =
+    (plays.0, plays.1, plays_more (with_world r plays.0) mid end steps s plays.2 last)
+
+moves_more : (steps : List Step) (s : Step)
+    → moves_in (steps ++ s ∷ []) ≡ moves_in steps ++ moves_in (s ∷ [])
+moves_more [] s = refl
+moves_more (Calls i calls ∷ steps) s = moves_more steps s
+moves_more (Makes m ∷ steps) s = ap (λ l. m ∷ l) (moves_more steps s)
+
+-- the opening
+pub played_opening : (c : Config) (moves : List Move) (r : Run) → moves ≡ [] → r ≡ own_opening c
+    → IsPlayed c moves r
+played_opening c moves r none is = record {
+  steps = [];
+  made = sym none;
+  plays = is;
+  config = ap (λ (x : Run). x.config) is;
+}
+
+-- one move more
+pub played_move : (c : Config) (moves more : List Move) (m : Move) (old new : Run)
+    → more ≡ moves ++ m ∷ [] → IsSameRun old new
+    → Moves (host_rules managed_ops) old.config old.world m new.world → IsPlayed c moves old
+    → IsPlayed c more new
+played_move c moves more m old new is same made p =
+    let end : new ≡ with_world old new.world =
+    λ k. record { config = same.0 k; programs = same.1 k; world = new.world } in
+    record {
+      steps = p.steps ++ Makes m ∷ [];
+      made = moves_more p.steps (Makes m) ∙ ap (λ l. l ++ m ∷ []) p.made ∙ sym is;
+      plays = plays_more (own_opening c) old new p.steps (Makes m) p.plays (new.world, made, end);
+      config = same.0 ∙ p.config;
+    }
+
+-- calls that are made together
+pub played_calls : (c : Config) (moves : List Move) (i : ℕ) (calls : List Call) (old new : Run)
+    → new ≡ run_handed i (calls ∷ []) old → IsPlayed c moves old → IsPlayed c moves new
+played_calls c moves i calls old new is p = record {
+  steps = p.steps ++ Calls i calls ∷ [];
+  made = moves_more p.steps (Calls i calls) ∙ append-nil (moves_in p.steps) ∙ p.made;
+  plays = plays_more (own_opening c) old new p.steps (Calls i calls) p.plays is;
+  config = ap (λ (x : Run). x.config) is ∙ p.config;
+}
+
+-- one call more, where it was not refused
+pub played_hand : (c : Config) (moves : List Move) (i : ℕ) (call : Call) (old new : Run)
+    (r : Result (Unit {0}) Fault) → OnOk r (new ≡ run_handed i ((call ∷ []) ∷ []) old)
+    → OnErr r (new ≡ old) → IsPlayed c moves old → IsPlayed c moves new
+played_hand c moves i call old new (Ok u) ok err p = played_calls c moves i (call ∷ []) old new ok p
+played_hand c moves i call old new (Err e) ok err p = subst (IsPlayed c moves) (sym err) p
+
+-- calls that are made together, and the turn in which they begin
+played_begun : (c : Config) (moves more : List Move) (i : ℕ) (calls : List Call) (old new : Run)
+    → more ≡ moves ++ Turn i ∷ [] → BeginsTogether i calls old new → IsPlayed c moves old
+    → IsPlayed c more new
+played_begun c moves more i calls old new is begun p =
+    let mid : Run = run_handed i (calls ∷ []) old in
+    played_move c moves more (Turn i) mid new is begun.turn.stays begun.turn.moves
+    (played_calls c moves i calls old mid refl p)
+
+-- so many words of a row
+pub played_block : (c : Config) (moves more : List Move) (i : ℕ) (kind : Row) (addr n : ℕ)
+    (bytes : List ℕ) (old new : Run) → n ≢ 0 → more ≡ moves ++ Turn i ∷ []
+    → BeginsBlock i (calls_of (row kind 0 addr (numbers_in n bytes))) old new → IsPlayed c moves old
+    → IsPlayed c more new
+played_block c moves more i kind addr zero bytes old new some is begun p = absurd (some refl)
+played_block c moves more i kind addr (suc n) bytes old new some is begun p =
+    played_begun c moves more i (calls_of (row kind 0 addr (numbers_in (suc n) bytes))) old new is
+    begun p
+
+-- nothing is said of a world that goes on
+pub going : (rest : Rest) (r : Run) → rest ≡ Going → IsStillWhere rest r
+going rest r is still = (let wrong : Going ≡ Still = sym is ∙ still in absurd cc)
+
+pub still_same : (rest : Rest) (old new : Run) → new ≡ old → IsStillWhere rest old
+    → IsStillWhere rest new
+still_same rest old new same was still = subst HasSettled (sym same) (was still)

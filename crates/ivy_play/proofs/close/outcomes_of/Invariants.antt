@@ -1,0 +1,13 @@
+use Rattle.std.proofs.Common.{◌≡◌, ◌+◌, ℕ, Some, slice_get, vec_len}
+use Rattle.std.specs.Prelude.{IfOk}
+use Rattle.std.specs.Vec.Iter.{into_iter_items, into_iter_len}
+use Rattle.ivy_play.specs.Reports.{HaveGiven}
+use Rattle.ivy_play.proofs.close.outcomes_of.Given as goal
+
+abbrev pub invariant-loop-given : goal.invariant-loop-given
+invariant-loop-given g l =
+    (vec_len l.outcomes + into_iter_len l.given-iterator ≡ vec_len l.fn.all)
+    × ((k : ℕ) (r : _) → slice_get (into_iter_items l.given-iterator) k ≡ Some r
+    → IfOk r
+    (λ ended. g.W.Work.done l.fn.work (vec_len l.outcomes + k) ended.answers.items ended.out))
+    × HaveGiven (g.W.Work.done l.fn.work) l.fn.world.world l.outcomes.items

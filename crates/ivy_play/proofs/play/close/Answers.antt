@@ -1,0 +1,39 @@
+use Rattle.std.proofs.Common.{arith, ◌≡◌, length, ap, ◌∙◌, subst}
+use Rattle.ivy_model.specs.declared.Config.{Config}
+use Rattle.ivy_play.specs.Endings.{ComesToRest}
+use Rattle.ivy_play.proofs.Reported.{reported}
+use Rattle.ivy_play.proofs.Ending.{given_there}
+use Rattle.ivy_play.proofs.play.close.Goals as goal
+
+pub returns-clause-report : goal.returns-clause-report
+returns-clause-report g c =
+    let p = c.into_played-played.result in
+    let e = c.in_ok-ended.ended in
+    let all = c.in_ok-outcomes.ensures.all in
+    let outcomes = c.in_ok-outcomes.outcomes in
+    let config : e.world.config ≡ p.world.config = c.in_ok-ended.ensures.config in
+    let nodes : e.world.config.nodes ≡ p.world.config.nodes = ap (λ (k : Config). k.nodes) config in
+    let count : length outcomes.items ≡ e.world.config.nodes =
+    omega (arith, all, outcomes.ok.0, nodes) in
+    reported g.S.Setting.config (g.W.Work.done c.args.work.now) e.moves.items e.world
+    outcomes.items e.rest
+    (c.in_ok-ended.ensures.played g.S.Setting.config c.into_played-played.ensures.0)
+    (c.in_ok-ended.ensures.still c.into_played-played.ensures.1) c.keeps-2.ensures count
+    (given_there (g.W.Work.done c.args.work.now) p.world.world e.world.world outcomes.items
+    c.in_ok-ended.ensures.cores c.in_ok-outcomes.ensures.given)
+
+pub returns-clause-rests : goal.returns-clause-rests
+returns-clause-rests g c =
+    let e = c.in_ok-ended.ended in
+    let outcomes = c.in_ok-outcomes.outcomes in
+    let same : c.deref.result.now ≡ outcomes.items = c.deref.ensures.value in
+    let config : e.world.config ≡ g.S.Setting.config =
+    c.in_ok-ended.ensures.config ∙ c.into_played-played.ensures.0.config in
+    subst
+    (λ items. ComesToRest g.S.Setting.config c.args.settle e.moves.items e.drawn e.world.world
+    items e.rest)
+    same
+    (subst
+    (λ (k : Config). ComesToRest k c.args.settle e.moves.items e.drawn e.world.world
+    c.deref.result.now e.rest)
+    config c.in_ok-ended.ensures.rests)

@@ -1,0 +1,16 @@
+use Rattle.std.proofs.Common.{refl}
+use Rattle.ivy_world.specs.declared.rest.Rest.TheVariants.{Going}
+use Rattle.ivy_play.proofs.Playing.{played_hand, going}
+use Rattle.ivy_play.proofs.Reported.{free_there}
+use Rattle.ivy_play.proofs.stage.Stage.hand.Goals as goal
+
+pub hand-requires-clause-free : goal.hand-requires-clause-free
+hand-requires-clause-free g c = free_there _ _ c.is_free.ensures c.if-not-is_free.false
+
+pub invariant_of-self : goal.invariant_of-self
+invariant_of-self g c = (
+  played_hand g.S.Setting.config c.self.inside.moves.items _ c.args.call c.self.inside.world
+      c.hand.new.self c.hand.result c.hand.ensures.ok c.hand.ensures.err c.self.invariant.0,
+  going Going c.hand.new.self refl,
+  c.self.invariant.2,
+)

@@ -1,0 +1,12 @@
+use Rattle.std.proofs.Common.{◌≡◌, ◌<◌, ℕ}
+use Rattle.ivy_model.specs.declared.Config.{Config}
+use Rattle.ivy_world.specs.WorldRounds.{HasIdleTurn}
+use Rattle.ivy_play.specs.Played.{IsPlayed}
+use Rattle.ivy_play.proofs.stage.find_still.Given as goal
+
+abbrev pub invariant-loop-node : goal.invariant-loop-node
+invariant-loop-node g l = record {
+  config : l.world.config ≡ l.fn.world.config;
+  played : (c : Config) → IsPlayed c l.fn.moves.items l.fn.world → IsPlayed c l.moves.items l.world;
+  idle : (i : ℕ) → i < l.node → HasIdleTurn l.world.world i;
+}

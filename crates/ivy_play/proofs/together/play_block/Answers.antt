@@ -1,0 +1,15 @@
+use Rattle.std.proofs.Common.{rules}
+use Rattle.ivy_play.proofs.InRow.{one_turn}
+use Rattle.ivy_play.proofs.Playing.{played_block}
+use Rattle.ivy_play.proofs.together.play_block.Goals as goal
+
+pub returns-clause-played : goal.returns-clause-played
+returns-clause-played g c = λ k p. played_block k c.args.moves.now.items
+    c.push_reserved.new.self.items c.args.node c.args.kind c.args.addr c.in_ok-calls.calls
+    c.args.bytes.now c.args.world.now c.hand_block.new.self (search rules) (search rules)
+    c.in_ok-calls.ensures.done p
+
+pub returns-clause-turns : goal.returns-clause-turns
+returns-clause-turns g c =
+    one_turn c.args.node c.in_ok-calls.calls c.args.moves.now.items c.push_reserved.new.self.items
+    (search rules) (search rules)

@@ -1,0 +1,82 @@
+-- How a play goes on: calls and moves.
+use Rattle.std.specs.Prelude.{◌≡◌, ℕ, ◌≤◌, List, [], ◌∷◌, ◌++◌, replicate, slice_get, Some, IfSome}
+use Rattle.ivy_model.specs.declared.Call.{Call}
+use Rattle.ivy_model.specs.declared.Config.{Config}
+use Rattle.ivy_model.specs.declared.Kind.TheVariants.{Fixed}
+use Rattle.ivy_model.specs.declared.Record.{Record}
+use Rattle.ivy_model.specs.declared.Reply.{Reply}
+use Rattle.ivy_moves.specs.declared.Move.{Move}
+use Rattle.ivy_moves.specs.declared.Move.TheVariants.{Turn}
+use Rattle.ivy_moves.specs.stated.Worlds.{World, Moves}
+use Rattle.ivy_host.specs.stated.Hosts.{Host, host_rules}
+use Rattle.ivy_host.specs.stated.Managers.{Managed, managed_ops}
+use Rattle.ivy_host.specs.stated.Openings.{opening}
+use Rattle.proof_worlds.specs.stated.RunState.{Run}
+use Rattle.ivy_world.specs.declared.rest.Rest.{Rest}
+use Rattle.ivy_world.specs.declared.rest.Rest.TheVariants.{Still}
+use Rattle.ivy_world.specs.HandedWorlds.{own_code, run_handed}
+use Rattle.ivy_world.specs.Settling.{HasSettled}
+
+-- the configuration of no play
+abbrev pub no_config : Config
+no_config = record { nodes = 0; pages = 0; page_size = 0; manager = Fixed }
+
+-- the work of a node makes calls together, alone or in a row, or a move is made
+pub data Step : Type 0 where
+  Calls : ℕ → List Call → Step
+  Makes : Move → Step
+
+-- the moves among them
+abbrev pub moves_in : List Step → List Move
+moves_in [] = []
+moves_in (Calls i calls ∷ steps) = moves_in steps
+moves_in (Makes move ∷ steps) = move ∷ moves_in steps
+
+-- the world goes on
+abbrev pub with_world : Run → World (Host Managed) → Run
+with_world r w = record { config = r.config; programs = r.programs; world = w }
+
+-- the steps, one after another, lead from the one world to the other: calls are handed to their node
+-- in one row, and a move leads to a world
+abbrev pub PlaysTo : Run → List Step → Run → Type 0
+PlaysTo r [] end = end ≡ r
+PlaysTo r (Calls i calls ∷ steps) end = PlaysTo (run_handed i (calls ∷ []) r) steps end
+PlaysTo r (Makes move ∷ steps) end =
+    (mid : World (Host Managed)) × Moves (host_rules managed_ops) r.config r.world move mid
+    × PlaysTo (with_world r mid) steps end
+
+-- own code at each node, before any call
+abbrev pub own_opening : Config → Run
+own_opening c = record {
+  config = c;
+  programs = own_code c.nodes;
+  world = opening managed_ops c (own_code c.nodes);
+}
+
+-- exactly these moves, with calls between them, lead from there to this world
+pub record IsPlayed (c : Config) (moves : List Move) (r : Run) : Type 0 where
+  pub steps : List Step
+  pub made : moves_in steps ≡ moves
+  pub plays : PlaysTo (own_opening c) steps r
+  pub config : r.config ≡ c
+
+-- where it is said to stand still it does, and so would one flat memory
+abbrev pub IsStillWhere : Rest → Run → Type 0
+IsStillWhere rest r = rest ≡ Still → HasSettled r
+
+-- the node got this reply to this call, its own one of that number, counted from 0
+pub record HasReply (history : List Record) (number : ℕ) (call : Call) (reply : Reply) : Type 0 where
+  pub record_ : Record
+  pub there : slice_get history number ≡ Some record_
+  pub call_ : record_.call ≡ call
+  pub reply_ : record_.reply ≡ reply
+
+abbrev pub IsAnsweredAt : World (Host Managed) → ℕ → ℕ → Call → Reply → Type 0
+IsAnsweredAt w node number call reply =
+    IfSome (slice_get w.nodes node) (λ n. HasReply n.core.history number call reply)
+
+-- turns of the node were made, at most so many, and no other move
+pub record AddsTurns (node most : ℕ) (old new : List Move) : Type 0 where
+  pub count : ℕ
+  pub few : count ≤ most
+  pub added : new ≡ old ++ replicate count (Turn node)

@@ -1,0 +1,173 @@
+//! Own code in a world whose moves are drawn, or listed.
+ghost use Rattle.std.specs.Prelude.{◌≡◌, ◌↔◌, ℕ, Some, IsErrOf, IfErr, IfOk, slice_get, vec_len};
+ghost use Rattle.ivy_model.specs.stated.Config.{IsConfig};
+ghost use Rattle.ivy_play.specs.Faults.{IsPlayFault, IsPlayStop};
+ghost use Rattle.ivy_play.specs.Played.{own_opening};
+ghost use Rattle.ivy_play.specs.Reports.{IsPlayReport};
+ghost use Rattle.ivy_play.specs.Endings.{ComesToRest};
+
+use crate::baton::Baton;
+use crate::close::outcomes_of;
+use crate::driver::Play;
+use crate::joined::{Ended, GivenUp};
+use crate::report::PlayReport;
+use crate::rested::rested;
+use crate::source::{Drawn, Listed, MoveSource};
+use crate::stage::{Played, Setting, Stage};
+use crate::workers::run_all;
+use ivy_calls::Work;
+use ivy_model::{Config, Fault};
+use ivy_world::{Move, World};
+use std::alloc::Allocator;
+use std::marker::Brand;
+use std::sync::{Mutex, Wait};
+use std::thread::Threads;
+
+/// The report of what was played, and of what each work gave [1].
+fn close<S: Setting, A: Allocator + Copy, W: Work>(
+    alloc: A,
+    work: &W,
+    stage: Stage<S, A>,
+    all: Vec<Result<Ended<W::Out, A>, GivenUp>, A>,
+    settle: u64,
+) -> Result<PlayReport<W::Out, A>, Fault>
+    requires all { vec_len all ≡ S.config.nodes }
+    requires done { (i : ℕ) (r : _) → slice_get all.items i ≡ Some r → IfOk r (λ ended. W.done work.now i ended.answers.items ended.out) }
+    ensures report { IfOk result (λ report. IsPlayReport S.config (W.done work.now) report.moves.items report.world report.outcomes.items report.rest) }
+    ensures rests { IfOk result (λ report. ComesToRest S.config settle report.moves.items report.drawn report.world.world report.outcomes.items report.rest) }
+    ensures stop { IfErr result IsPlayStop }
+{
+    let played = stage.into_played();
+    // for the proof: what holds of a world at every moment
+    played.world.keeps();
+    let outcomes = outcomes_of(alloc, &played.world, work, all)?;
+    let ended = rested(played, &outcomes, settle)?;
+    // for the proof: what holds of a world at every moment
+    ended.world.keeps();
+    let Played {
+        world,
+        moves,
+        drawn,
+        rest,
+    } = ended;
+    Ok(PlayReport {
+        world,
+        moves,
+        drawn,
+        outcomes,
+        rest,
+    })
+}
+
+/// Plays the work of each node, from the opening world of own code at this configuration on [1, 17, 19].
+fn play<S, A, R, M, W>(
+    rt: &R,
+    alloc: A,
+    config: Config,
+    world: World<A>,
+    work: &W,
+    source: M,
+    settle: u64,
+) -> Result<PlayReport<W::Out, A>, Fault>
+where
+    S: Setting + Send + Sync,
+    A: Allocator + Copy + Send + Sync,
+    R: Threads + Wait + Sync,
+    M: MoveSource + Drop,
+    W: Work + Sync,
+    requires config { config ≡ S.config }
+    requires opens { world ≡ own_opening S.config }
+    ensures report { IfOk result (λ report. IsPlayReport S.config (W.done work.now) report.moves.items report.world report.outcomes.items report.rest) }
+    ensures rests { IfOk result (λ report. ComesToRest S.config settle report.moves.items report.drawn report.world.world report.outcomes.items report.rest) }
+    ensures stop { IfErr result IsPlayStop }
+{
+    // for the proof: what holds of a world at every moment
+    world.keeps();
+    let stage = Mutex::new(Stage::<S, A>::new(alloc, config, world));
+    let baton = Baton::new(alloc, config.nodes)?;
+    let play = Play {
+        rt,
+        alloc,
+        stage: &stage,
+        baton: &baton,
+    };
+    let all = run_all(&play, work, config.nodes, source, settle)?;
+    close::<S, A, W>(alloc, work, stage.into_inner(), all, settle)
+}
+
+/// Runs the work of each node over one shared memory, in a world that makes the moves of this source [1, 2, 17, 19], and
+/// then settles, with at most so many more. A call waits until its node's turns have answered it. It ends with fewer of these
+/// left than there are nodes, or where the world stands still and each work that has not ended has a call in progress.
+///
+/// The words of a row that lie in one page are answered with no other move between them where that page is at hand, each by a
+/// turn of its node. These turns go with the one before which the work made the row, and all are among the moves of the
+/// report. Those of them that the source asks for next were made already, and are not made again: so the moves, listed, play
+/// the same. In settling there can be more moves by those that go with the last one.
+///
+/// One legal order of records explains what all nodes were answered, and each work that has ended has done what it says,
+/// with exactly its node's part of that order as what it was answered. It is 2 exactly where the configuration is out of
+/// the wide limits, and 19 only where a move that the source gives names a node or a string that is not there.
+pub fn play_with<A, R, M, W>(
+    rt: &R,
+    alloc: A,
+    config: Config,
+    work: &W,
+    source: M,
+    settle: u64,
+) -> Result<PlayReport<W::Out, A>, Fault>
+where
+    A: Allocator + Copy + Send + Sync,
+    R: Threads + Wait + Sync,
+    M: MoveSource + Drop,
+    W: Work + Sync,
+    ensures report { IfOk result (λ report. IsPlayReport config (W.done work.now) report.moves.items report.world report.outcomes.items report.rest) }
+    ensures rests { IfOk result (λ report. ComesToRest config settle report.moves.items report.drawn report.world.world report.outcomes.items report.rest) }
+    ensures bad { IsErrOf result Fault.BadConfig ↔ ¬ IsConfig config }
+    ensures fault { IfErr result IsPlayFault }
+{
+    let world = World::open(alloc, config)?;
+    play::<Brand, A, R, M, W>(rt, alloc, config, world, work, source, settle)
+}
+
+/// The same, by so many moves that the generator of a seed draws [1, 2, 17].
+pub fn play_drawn<A, R, W>(
+    rt: &R,
+    alloc: A,
+    config: Config,
+    work: &W,
+    seed: u64,
+    moves: u64,
+    settle: u64,
+) -> Result<PlayReport<W::Out, A>, Fault>
+where
+    A: Allocator + Copy + Send + Sync,
+    R: Threads + Wait + Sync,
+    W: Work + Sync,
+    ensures report { IfOk result (λ report. IsPlayReport config (W.done work.now) report.moves.items report.world report.outcomes.items report.rest) }
+    ensures rests { IfOk result (λ report. ComesToRest config settle report.moves.items report.drawn report.world.world report.outcomes.items report.rest) }
+    ensures bad { IsErrOf result Fault.BadConfig ↔ ¬ IsConfig config }
+    ensures fault { IfErr result IsPlayFault }
+{
+    play_with(rt, alloc, config, work, Drawn::new(seed, moves), settle)
+}
+
+/// The same, by the moves of a schedule [1, 2, 17, 19].
+pub fn play_listed<A, R, W>(
+    rt: &R,
+    alloc: A,
+    config: Config,
+    work: &W,
+    moves: &[Move],
+    settle: u64,
+) -> Result<PlayReport<W::Out, A>, Fault>
+where
+    A: Allocator + Copy + Send + Sync,
+    R: Threads + Wait + Sync,
+    W: Work + Sync,
+    ensures report { IfOk result (λ report. IsPlayReport config (W.done work.now) report.moves.items report.world report.outcomes.items report.rest) }
+    ensures rests { IfOk result (λ report. ComesToRest config settle report.moves.items report.drawn report.world.world report.outcomes.items report.rest) }
+    ensures bad { IsErrOf result Fault.BadConfig ↔ ¬ IsConfig config }
+    ensures fault { IfErr result IsPlayFault }
+{
+    play_with(rt, alloc, config, work, Listed::new(moves), settle)
+}

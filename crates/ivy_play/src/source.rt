@@ -1,0 +1,77 @@
+//! Where the moves of a play come from.
+ghost use Rattle.std.specs.Prelude.{◌≡◌};
+
+use ivy_model::Fault;
+use ivy_texts::{draw, generator_of};
+use ivy_world::{Move, World};
+use rand_pcg::Lcg64Xsh32;
+use std::alloc::Allocator;
+
+/// Where the moves of a play come from.
+pub trait MoveSource {
+    ghost use Rattle.std.specs.Prelude.{IfErr};
+    ghost use Rattle.ivy_play.specs.Faults.{IsPlayStop};
+
+    /// The next move in this world, or none at the end [1].
+    fn next<A: Allocator + Copy>(&mut self, world: &World<A>) -> Result<Option<Move>, Fault>
+        ensures { IfErr result IsPlayStop };
+}
+
+/// So many moves, which the generator of a seed draws: half of them are turns, three of eight deliver one of the last 64
+/// strings, and one of eight is a pulse.
+#[derive(Drop)]
+pub struct Drawn {
+    generator: Lcg64Xsh32,
+    left: u64,
+}
+
+impl Drawn {
+    /// So many moves of this seed.
+    pub fn new(seed: u64, moves: u64) -> Drawn {
+        Drawn {
+            generator: generator_of(seed),
+            left: moves,
+        }
+    }
+}
+
+/// Draws a move in a world.
+fn next_drawn<A: Allocator + Copy>(generator: &mut Lcg64Xsh32, world: &World<A>) -> Move {
+    // for the proof: what holds of a world at every moment
+    world.keeps();
+    draw(generator, world.nodes() as u8, world.sent())
+}
+
+impl MoveSource for Drawn {
+    fn next<A: Allocator + Copy>(&mut self, world: &World<A>) -> Result<Option<Move>, Fault> {
+        if self.left == 0 {
+            return Ok(None);
+        }
+        self.left -= 1;
+        Ok(Some(next_drawn(&mut self.generator, world)))
+    }
+}
+
+/// The moves of a schedule, in order.
+#[derive(Clone, Copy)]
+pub struct Listed<'m> {
+    moves: &'m [Move],
+    made: usize,
+}
+
+impl<'m> Listed<'m> {
+    /// These moves.
+    pub fn new(moves: &'m [Move]) -> Listed<'m> {
+        Listed { moves, made: 0 }
+    }
+}
+
+impl MoveSource for Listed<'_> {
+    fn next<A: Allocator + Copy>(&mut self, _world: &World<A>) -> Result<Option<Move>, Fault> {
+        let Some(step) = self.moves.get(self.made) else {
+            return Ok(None);
+        };
+        self.made += 1;
+        Ok(Some(*step))
+    }
+}

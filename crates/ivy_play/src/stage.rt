@@ -1,0 +1,303 @@
+//! The world of a play behind its lock, with the moves that were made.
+ghost use Rattle.std.specs.Prelude.{◌≡◌, ◌+◌, ◌*◌, ◌≤◌, ◌++◌, ◌∷◌, [], Ok, false, true, length, IfErr, IfOk, IfSome, OnErr, OnOk};
+ghost use Rattle.ivy_model.specs.declared.Config.{Config};
+ghost use Rattle.ivy_model.specs.stated.Config.{IsConfig};
+ghost use Rattle.ivy_model.specs.stated.Legal.{HasWidth};
+ghost use Rattle.ivy_moves.specs.stated.Worlds.{Moves};
+ghost use Rattle.ivy_host.specs.stated.Hosts.{host_rules};
+ghost use Rattle.ivy_host.specs.stated.Managers.{managed_ops};
+ghost use Rattle.ivy_world.specs.WorldRounds.{DoesNothing};
+ghost use Rattle.ivy_world.specs.stated.Runs.{IsSameRun};
+ghost use Rattle.ivy_world.specs.Settling.{HasSettled};
+ghost use Rattle.ivy_play.specs.Faults.{IsPlayStop, IsUnanswered};
+ghost use Rattle.ivy_play.specs.Played.{IsPlayed, IsAnsweredAt, IsStillWhere, own_opening};
+
+use crate::source::MoveSource;
+use crate::together::play_row;
+use ivy_model::{CANNOT_HAPPEN, Call, Config, Fault, Reply, Row};
+use ivy_world::{Move, Rest, World};
+use std::alloc::Allocator;
+use std::marker::{Brand, Model, PhantomData};
+
+/// Names the configuration of a play. Whoever begins one picks it, at `Brand`.
+pub trait Setting {
+    ghost use Rattle.ivy_model.specs.declared.Config.{Config};
+
+    ghost config: { Config };
+}
+
+impl Setting for Brand {
+    ghost use Rattle.ivy_play.specs.Played.{no_config};
+
+    ghost config = { no_config };
+}
+
+/// The reply that a node got to its call of this number, counted from 0, where it got one.
+fn reply_of<A: Allocator + Copy>(
+    world: &World<A>,
+    node: u8,
+    number: usize,
+    call: Call,
+) -> Option<Reply>
+    ensures { IfSome result (λ reply. IsAnsweredAt world.now.world node number call reply) }
+{
+    let node = u64::from(node);
+    if node >= world.nodes() {
+        return None;
+    }
+    let record = world.history(node).get(number)?;
+    if record.call != call {
+        return None;
+    }
+    Some(record.reply)
+}
+
+/// Makes a move, and lists it; or changes nothing [1, 17, 19]. It says whether it did anything.
+pub(crate) fn play_move<A: Allocator + Copy>(
+    world: &mut World<A>,
+    moves: &mut Vec<Move, A>,
+    step: Move,
+) -> Result<bool, Fault>
+    ensures stays { IsSameRun world.old world.new }
+    ensures idle { result ≡ Ok false → DoesNothing world.old.world step × (world.new ≡ world.old) }
+    ensures made { OnOk result (Moves (host_rules managed_ops) world.old.config world.old.world step world.new.world) }
+    ensures listed { OnOk result (moves.new.items ≡ moves.old.items ++ step ∷ []) }
+    ensures longer { OnOk result (length moves.new.items ≡ length moves.old.items + 1) }
+    ensures refused { OnErr result ((world.new ≡ world.old) × (moves.new.items ≡ moves.old.items)) }
+    ensures played { (c : Config) → IsPlayed c moves.old.items world.old → IsPlayed c moves.new.items world.new }
+    ensures stop { IfErr result IsPlayStop }
+{
+    moves.reserve(1)?;
+    let did = world.make(step)?;
+    moves.push_reserved(step);
+    Ok(did)
+}
+
+/// Gives each node a turn, as long as none does anything, and lists them [1, 17]. It says whether the world stands still.
+fn find_still<A: Allocator + Copy>(
+    world: &mut World<A>,
+    moves: &mut Vec<Move, A>,
+) -> Result<bool, Fault>
+    ensures played { (c : Config) → IsPlayed c moves.old.items world.old → IsPlayed c moves.new.items world.new }
+    ensures still { result ≡ Ok true → HasSettled world.new }
+    ensures stop { IfErr result IsPlayStop }
+{
+    for node in 0..world.nodes() {
+        let stirred = play_move(world, moves, Move::Turn(node))?;
+        if stirred {
+            return Ok(false);
+        }
+    }
+    // for the proof: what holds of a world at every moment
+    world.keeps();
+    let none_left = world.is_delivered();
+    Ok(none_left)
+}
+
+/// What a world has come to.
+fn rest_of(is_still: bool) -> Rest
+    ensures { result ≡ Rest.Still → is_still ≡ true }
+{
+    if is_still { Rest::Still } else { Rest::Going }
+}
+
+/// The world of a play, the moves that were made, and whether it is known to stand still.
+#[derive(Drop)]
+pub(crate) struct Stage<S: Setting, A: Allocator> {
+    world: World<A>,
+    moves: Vec<Move, A>,
+    /// So many of the moves were not made to let the world settle.
+    drawn: usize,
+    rest: Rest,
+    config: Config,
+    /// So many turns of this node were made with the last row of its work, and are still to be asked for.
+    ahead: usize,
+    of_node: u64,
+    of: PhantomData<S>,
+}
+
+impl<S: Setting, A: Allocator> Model for Stage<S, A> {
+    ghost use Rattle.std.specs.Prelude.{◌≡◌};
+    ghost use Rattle.ivy_model.specs.stated.Config.{IsConfig};
+    ghost use Rattle.ivy_play.specs.Played.{IsPlayed, IsStillWhere};
+
+    ghost Value = { Unit {0} };
+
+    ghost view = { λ _. tt };
+
+    ghost invariant = { λ s. IsPlayed S.config s.moves.items s.world × IsStillWhere s.rest s.world × IsConfig s.config };
+}
+
+impl<S: Setting, A: Allocator + Copy> Stage<S, A> {
+    /// The opening world of own code.
+    pub(crate) fn new(alloc: A, config: Config, world: World<A>) -> Self
+        requires opens { world ≡ own_opening S.config }
+        requires limits { IsConfig config }
+    {
+        Stage {
+            world,
+            moves: Vec::new(alloc),
+            drawn: 0,
+            rest: Rest::Going,
+            config,
+            ahead: 0,
+            of_node: 0,
+            of: PhantomData,
+        }
+    }
+
+    /// Whether this turn was made with the last row of its node's work, behind which no other move was made.
+    fn is_ahead(&self, step: Move) -> bool {
+        self.ahead > 0 && step == Move::Turn(self.of_node)
+    }
+
+    /// Whether the work of a node goes on before the turn of the node that is asked for now: that turn was not made yet, and
+    /// each call of the node has its reply.
+    pub(crate) fn goes_on(&self, node: u8) -> bool {
+        let node = u64::from(node);
+        node < self.world.nodes() && !self.is_ahead(Move::Turn(node)) && self.world.is_free(node)
+    }
+
+    /// How many nodes there are.
+    pub(crate) fn nodes(&self) -> u64 {
+        self.world.nodes()
+    }
+
+    /// The work of a node makes a call [1, 21].
+    pub(crate) fn hand(&mut self, node: u8, call: Call) -> Result<(), Fault>
+        requires { HasWidth call }
+        ensures { IfErr result IsUnanswered }
+    {
+        let node = u64::from(node);
+        if node >= self.world.nodes() {
+            return Err(CANNOT_HAPPEN);
+        }
+        if !self.world.is_free(node) {
+            return Err(CANNOT_HAPPEN);
+        }
+        self.rest = Rest::Going;
+        self.world.hand(node, call)
+    }
+
+    /// The work of a node makes calls of a row, on words of 8 bytes from `addr` on, with no other move between [1, 17]. It says
+    /// how many, which have their replies or wait. None where the first would be refused. The turns in which they were made
+    /// are those that the node is asked to have next, the first of them that before which the work goes on.
+    pub(crate) fn call_row(
+        &mut self,
+        node: u8,
+        kind: Row,
+        addr: u64,
+        bytes: &[u8],
+    ) -> Result<usize, Fault>
+        ensures fits { IfOk result (λ calls. 8 * calls ≤ length bytes.now) }
+        ensures stop { IfErr result IsPlayStop }
+    {
+        let node = u64::from(node);
+        if node >= self.world.nodes() {
+            return Ok(0);
+        }
+        self.rest = Rest::Going;
+        let made = self.moves.len();
+        let calls = play_row(
+            &mut self.world,
+            &mut self.moves,
+            &self.config,
+            node,
+            kind,
+            addr,
+            bytes,
+        )?;
+        self.ahead = self.moves.len().saturating_sub(made);
+        self.of_node = node;
+        Ok(calls)
+    }
+
+    /// The reply that a node got to its call of this number, counted from 0, where it got one.
+    pub(crate) fn reply(&self, node: u8, number: usize, call: Call) -> Option<Reply> {
+        reply_of(&self.world, node, number, call)
+    }
+
+    /// The next move of this source [1].
+    pub(crate) fn next<M: MoveSource>(&self, source: &mut M) -> Result<Option<Move>, Fault>
+        ensures { IfErr result IsPlayStop }
+    {
+        source.next(&self.world)
+    }
+
+    /// Makes a move, or changes nothing [1, 17, 19]. It says whether it did anything. The turns that were made with a row are
+    /// not made again.
+    pub(crate) fn make(&mut self, step: Move) -> Result<bool, Fault>
+        ensures { IfErr result IsPlayStop }
+    {
+        if self.is_ahead(step) {
+            self.ahead = self.ahead.saturating_sub(1);
+            return Ok(true);
+        }
+        self.ahead = 0;
+        self.rest = Rest::Going;
+        play_move(&mut self.world, &mut self.moves, step)
+    }
+
+    /// The moves from here on let the world settle.
+    pub(crate) fn begin_settling(&mut self) {
+        self.drawn = self.moves.len();
+    }
+
+    /// How many moves are left of so many that let the world settle.
+    pub(crate) fn left(&self, most: u64) -> u64 {
+        most.saturating_sub(self.moves.len().saturating_sub(self.drawn) as u64)
+    }
+
+    /// Delivers the first string that is under way [1, 17]. It says whether one was.
+    pub(crate) fn deliver_next(&mut self) -> Result<bool, Fault>
+        ensures { IfErr result IsPlayStop }
+    {
+        let Some(step) = self.world.next_delivery() else {
+            return Ok(false);
+        };
+        self.make(step)?;
+        Ok(true)
+    }
+
+    /// Whether the world stands still, which a turn of each node shows [1, 17].
+    pub(crate) fn stands_still(&mut self) -> Result<bool, Fault>
+        ensures { IfErr result IsPlayStop }
+    {
+        self.ahead = 0;
+        self.rest = Rest::Going;
+        let is_still = find_still(&mut self.world, &mut self.moves)?;
+        self.rest = rest_of(is_still);
+        Ok(is_still)
+    }
+
+    /// What was played.
+    pub(crate) fn into_played(self) -> Played<A>
+        ensures { IsPlayed S.config result.moves.items result.world × IsStillWhere result.rest result.world }
+    {
+        let Stage {
+            world,
+            moves,
+            drawn,
+            rest,
+            config: _,
+            ahead: _,
+            of_node: _,
+            of: _,
+        } = self;
+        Played {
+            world,
+            moves,
+            drawn,
+            rest,
+        }
+    }
+}
+
+/// What was played: the world, the moves that were made, and whether it is known to stand still.
+#[derive(Drop)]
+pub(crate) struct Played<A: Allocator> {
+    pub(crate) world: World<A>,
+    pub(crate) moves: Vec<Move, A>,
+    pub(crate) drawn: usize,
+    pub(crate) rest: Rest,
+}

@@ -1,0 +1,74 @@
+-- What a node in a process has in its log, and what it lacks there.
+use Rattle.std.specs.Prelude.{◌≡◌, ℕ, List, [], ◌++◌, Option, flat_map}
+use Rattle.std.specs.Io.KnownBytes.{Appends}
+use Rattle.ivy_model.specs.declared.Config.{Config}
+use Rattle.ivy_moves.specs.Events.{Event}
+use Rattle.ivy_moves.specs.Marks.{marks}
+use Rattle.ivy_program.specs.stated.Programs.{Program}
+use Rattle.ivy_logs.specs.Entries.{LogEntry, events_in}
+use Rattle.ivy_logs.specs.Printed.{event_line}
+use Rattle.ivy_site.specs.SiteView.{SiteView}
+use Rattle.ivy_site.specs.Sites.{IsMadeByEvents}
+use Rattle.ivy_join.specs.Remade.{IsMadeByLog}
+use Rattle.ivy_join.specs.ReplaySites.{program_in}
+
+-- a node, and the lines of those of its events that its log lacks yet
+pub record Served : Type 0 where
+  pub site : SiteView
+  pub unlogged : List ℕ
+
+abbrev pub served : SiteView → List ℕ → Served
+served site unlogged = record { site = site; unlogged = unlogged }
+
+-- the lines of these events
+abbrev pub lines_of : List Event → List ℕ
+lines_of events = flat_map event_line events
+
+-- the node went on by events, and their lines are what its log lacks besides
+pub record AddsEvents (old new : Served) : Type 0 where
+  pub events : List Event
+  pub listed : new.site.events ≡ old.site.events ++ marks events
+  pub noted : new.unlogged ≡ old.unlogged ++ lines_of events
+
+-- what the log lacked is written behind it, and the node made no event
+pub record IsLogged (old new : Served) (log log' : Option (List ℕ)) : Type 0 where
+  pub listed : new.site.events ≡ old.site.events
+  pub written : Appends log log' old.unlogged
+  pub whole : new.unlogged ≡ []
+
+-- the node went on by events: what was written behind the log, and what it lacks now, are what it lacked
+-- before, and their lines
+pub record StreamsPart (old new : Served) (log log' : Option (List ℕ)) : Type 0 where
+  pub events : List Event
+  pub listed : new.site.events ≡ old.site.events ++ marks events
+  pub part : List ℕ
+  pub written : Appends log log' part
+  pub all : part ++ new.unlogged ≡ old.unlogged ++ lines_of events
+
+-- and it lacks nothing
+pub record StreamsWhole (old new : Served) (log log' : Option (List ℕ)) : Type 0 where
+  pub events : List Event
+  pub listed : new.site.events ≡ old.site.events ++ marks events
+  pub written : Appends log log' (old.unlogged ++ lines_of events)
+  pub whole : new.unlogged ≡ []
+
+-- the site, which had made no event, was made again by this log, and the log lacks nothing
+pub record IsMadeAgain (log : List LogEntry) (site : SiteView) (new : Served) : Type 0 where
+  pub by_log : IsMadeByLog log site new.site
+  pub whole : new.unlogged ≡ []
+
+-- the node of this number and program is what the events of its log make of it, and the log lacks nothing
+pub record IsRestarted (c : Config) (me : ℕ) (program : Program) (log : List LogEntry) (new : Served) : Type 0
+  where
+    pub config : new.site.config ≡ c
+    pub number : new.site.me ≡ me
+    pub runs : program_in new.site ≡ program
+    pub events : new.site.events ≡ marks (events_in log)
+    pub made : IsMadeByEvents new.site
+    pub whole : new.unlogged ≡ []
+
+-- no string waits at the node any more, and else it is the same
+pub record IsEmptied (old new : Served) : Type 0 where
+  pub none : new.site.waiting ≡ []
+  pub site : record new.site { waiting = [] } ≡ record old.site { waiting = [] }
+  pub unlogged : new.unlogged ≡ old.unlogged

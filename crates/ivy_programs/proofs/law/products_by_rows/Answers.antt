@@ -1,5 +1,0 @@
-use Rattle.ivy_programs.proofs.Multiplying.{products-by_rows}
-use Rattle.ivy_programs.proofs.law.products_by_rows.Goals as goal
-
-pub returns : goal.returns
-returns c = products-by_rows

@@ -1,0 +1,19 @@
+use Rattle.std.proofs.Common.{◌≡◌, ◌+◌, ◌≤◌, length, map, vec_len, vec_capacity}
+use Rattle.std.specs.Vec.Iter.{into_iter_items, into_iter_len}
+use Rattle.ivy_scope.specs.SoFar.{so_far_of, AllKeepSoFar}
+use Rattle.ivy_scope.specs.CollectedSoFar.{AreToldSoFar}
+use Rattle.ivy_scope.proofs.watched.close.close_all.Given as goal
+
+-- the starter was told of the sites so far
+abbrev pub invariant-loop-seat : goal.invariant-loop-seat
+invariant-loop-seat g l = record {
+  can : (goal.iterator-loop-seat g).can_next l.seat-iterator;
+  finite : (goal.iterator-loop-seat g).is_finite l.seat-iterator;
+  left : into_iter_len l.seat-iterator ≡ length (into_iter_items l.seat-iterator);
+  room : vec_len l.sites + length (into_iter_items l.seat-iterator) ≤ vec_capacity l.sites;
+  ether : l.starter.ether ≡ l.ether;
+  count : l.node ≡ length l.sites.items;
+  told : AreToldSoFar g.S.Setup.config g.S.Setup.programs l.starter.known
+      (map so_far_of l.sites.items);
+  kept : AllKeepSoFar l.keep (map so_far_of l.sites.items);
+}

@@ -1,0 +1,7 @@
+-- Locks and tickets: who is inside.
+pub mod Registers
+pub mod Locks
+pub mod Sections
+pub mod Tickets
+pub mod Locked
+pub mod TicketLocks

@@ -1,0 +1,6 @@
+-- Locks and tickets: who is inside.
+pub mod Registers
+pub mod Locks
+pub mod Sections
+pub mod Tickets
+pub mod TicketLocks

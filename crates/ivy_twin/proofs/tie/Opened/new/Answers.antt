@@ -1,5 +1,0 @@
-use Rattle.ivy_twin.proofs.Keeps.{begins}
-use Rattle.ivy_twin.proofs.tie.Opened.new.Goals as goal
-
-pub of_words-requires : goal.of_words-requires
-of_words-requires g c = begins

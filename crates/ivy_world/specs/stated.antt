@@ -1,0 +1,2 @@
+-- What the headline reaches of this crate's definitions.
+pub mod Runs

@@ -1,6 +1,0 @@
-use Rattle.std.specs.List.{All}
-use Rattle.ivynode.specs.Joined.{IsSpelled}
-use Rattle.ivynode.proofs.joining.logs_of.Given as goal
-
-abbrev pub invariant-loop-name : goal.invariant-loop-name
-invariant-loop-name g l = All (λ x. IsSpelled x.head x.events.items) l.logs.items

@@ -1,0 +1,154 @@
+//! The joining of logs.
+ghost use Rattle.std.specs.Prelude.{◌++◌, map, IfErr, IfOk, OnOk};
+ghost use Rattle.std.specs.List.{All};
+ghost use Rattle.std.specs.Io.KnownBytes.{Appends};
+ghost use Rattle.ivy_simulation.specs.Nodes.{outputs_text};
+ghost use Rattle.ivy_join.specs.Calls.{HaveNoCalls};
+ghost use Rattle.ivynode.specs.Joined.{AreOfNoRun, IsNoRun, IsSpelled, PrintsJoined, PrintsRun, outputs_in, ends_in};
+ghost use Rattle.ivynode.specs.OwnJoined.{PrintsOwnJoined, all_answered_in, answered_line};
+
+use crate::failure::Failure;
+use crate::files::{fault_in, programs_of, text_of};
+use ivy_join::{Joined, Unjoined, join, join_own};
+use ivy_logs::{Log, LogKind, parse_log};
+use ivy_program::Program;
+use ivy_simulation::{Outputs, print_outputs};
+use ivy_texts::{Decimal, print_end};
+use std::alloc::Global;
+use std::io::{self, Write};
+use std::rt::Files;
+
+/// The log of this kind of this text, which is that of a file.
+fn log_of(alloc: Global, kind: LogKind, name: &str, text: &str) -> Result<Log<Global>, Failure>
+    ensures { IfOk result (λ log. IsSpelled kind log.head log.entries.items) }
+{
+    match parse_log(alloc, kind, text) {
+        Ok(log) => Ok(log),
+        Err(fault) => Err(fault_in(alloc, name, fault)),
+    }
+}
+
+/// The logs of this kind of these files, by the numbers of their nodes.
+fn logs_of<R: Files + AllocGlobal>(
+    rt: &R,
+    kind: LogKind,
+    names: &[&str],
+) -> Result<Vec<Log<Global>>, Failure>
+    ensures { IfOk result (λ logs. All (λ l. IsSpelled kind l.head l.entries.items) logs.items) }
+{
+    let mut logs = Vec::new(rt.alloc());
+    for name in names {
+        let text = text_of(rt, name)?;
+        logs.push(log_of(rt.alloc(), kind, name, text.as_str())?)?;
+    }
+    logs.sort_by_key(|log| log.head.me)?;
+    Ok(logs)
+}
+
+/// The nodes of a run at its end.
+#[derive(Drop)]
+struct Nodes<'a>(&'a Joined<Global>);
+
+impl Outputs for Nodes<'_> {
+    ghost use Rattle.std.specs.Prelude.{length};
+    ghost use Rattle.ivynode.specs.Joined.{outputs_in};
+
+    ghost count = { λ n. length n.0.now };
+
+    ghost outputs = { λ n. outputs_in n.0.now };
+
+    fn nodes(&self) -> u64 {
+        self.0.nodes()
+    }
+
+    fn output(&self, node: u64) -> &[u64] {
+        self.0.output(node)
+    }
+}
+
+/// Prints which programs have ended.
+fn print_ends<W: Write>(joined: &Joined<Global>, out: &mut W) -> io::Result<()>
+    ensures { OnOk result (Appends (W.contents out.old) (W.contents out.new) (ends_in joined.now)) }
+{
+    for node in 0..joined.nodes() {
+        print_end(node, joined.ended(node), out)?;
+    }
+    Ok(())
+}
+
+/// Prints what each program printed, and which of them have ended.
+fn print_joined<W: Write>(joined: &Joined<Global>, out: &mut W) -> io::Result<()>
+    ensures { OnOk result (Appends (W.contents out.old) (W.contents out.new) (outputs_text (outputs_in joined.now) ++ ends_in joined.now)) }
+{
+    print_outputs(&Nodes(joined), out)?;
+    print_ends(joined, out)
+}
+
+/// Joins logs, which stand in the order of their nodes, and prints what the programs printed.
+///
+/// The failure says of logs without calls that they are not the parts of a run only where they are the parts of none.
+fn join_logs<W: Write>(
+    alloc: Global,
+    programs: Vec<Program<Global>>,
+    logs: &[Log<Global>],
+    out: &mut W,
+) -> Result<(), Failure>
+    ensures joined { OnOk result (PrintsRun programs.items (map (λ l. l.head) logs.now) (map (λ l. l.entries.items) logs.now) (W.contents out.old) (W.contents out.new)) }
+    ensures refused { IfErr result (λ why. IsNoRun why → HaveNoCalls (map (λ l. l.entries.items) logs.now) → AreOfNoRun programs.items (map (λ l. l.head) logs.now) (map (λ l. l.entries.items) logs.now)) }
+{
+    let Some(first) = logs.first() else {
+        return Err(Failure::Unjoined(Unjoined::Missing(0)));
+    };
+    let joined = join(alloc, first.head.config, programs, logs)?;
+    print_joined(&joined, out)?;
+    Ok(())
+}
+
+/// Joins the logs of these files, and prints what the programs printed.
+pub(crate) fn join_files<R: Files + AllocGlobal, W: Write>(
+    rt: &R,
+    file: &str,
+    names: &[&str],
+    out: &mut W,
+) -> Result<(), Failure>
+    ensures { OnOk result (PrintsJoined (W.contents out.old) (W.contents out.new)) }
+{
+    let programs = programs_of(rt, file)?;
+    let logs = logs_of(rt, LogKind::OfProgram, names)?;
+    join_logs(rt.alloc(), programs, &logs, out)
+}
+
+/// Prints a line that says how many calls of a node were answered.
+fn print_count<W: Write>(node: u64, count: u64, out: &mut W) -> io::Result<()>
+    ensures { OnOk result (Appends (W.contents out.old) (W.contents out.new) (answered_line node count)) }
+{
+    writeln!(out, "node {}: {} answered", Decimal(node), Decimal(count))
+}
+
+/// Prints how many calls of each node were answered.
+fn print_answered<W: Write>(joined: &Joined<Global>, out: &mut W) -> io::Result<()>
+    ensures { OnOk result (Appends (W.contents out.old) (W.contents out.new) (all_answered_in joined.now)) }
+{
+    for node in 0..joined.nodes() {
+        let count = joined.history(node).len() as u64;
+        print_count(node, count, out)?;
+    }
+    Ok(())
+}
+
+/// Joins the logs of own code of these files, and prints how many calls of each node were answered.
+pub(crate) fn join_own_files<R: Files + AllocGlobal, W: Write>(
+    rt: &R,
+    names: &[&str],
+    out: &mut W,
+) -> Result<(), Failure>
+    ensures { OnOk result (PrintsOwnJoined (W.contents out.old) (W.contents out.new)) }
+{
+    let logs = logs_of(rt, LogKind::OfOwnCode, names)?;
+    let Some(first) = logs.first() else {
+        return Err(Failure::Unjoined(Unjoined::Missing(0)));
+    };
+    let joined = join_own(rt.alloc(), first.head.config, &logs)?;
+    print_answered(&joined, out)?;
+    Ok(())
+}

@@ -1,0 +1,514 @@
+-- In so many rounds of a node whose call is due some history grows.
+use Rattle.std.proofs.Common.{◌≡◌, ◌≤◌, ◌<◌, ◌+◌, ◌*◌, ◌⊎◌, ℕ, zero, suc, List, [], ◌∷◌, ◌++◌, length, map, slice_get, Option, Some, None, refl, sym, ap, ◌∙◌, subst, arith, inl, inr, mul-le-mul_left}
+use Rattle.std.proofs.lemmas.List.{length-map, length-append}
+use Rattle.std.proofs.lemmas.Option.{none-some, same_Some, slice_get_within, slice_get_cases}
+use Rattle.ivy_model.specs.declared.Config.{Config}
+use Rattle.ivy_model.specs.stated.Config.{IsConfig}
+use Rattle.ivy_model.specs.declared.Call.{Call}
+use Rattle.ivy_model.specs.declared.Record.{Record}
+use Rattle.ivy_wire.specs.stated.Data.{Message, Parcel}
+use Rattle.ivy_wire.specs.stated.Spelling.{spelling}
+use Rattle.ivy_program.specs.stated.Programs.{Program}
+use Rattle.ivy_link.specs.stated.Linked.{Linked, peer_at, sends, has_numbers}
+use Rattle.ivy_link.specs.stated.Paired.{link_at}
+use Rattle.ivy_moves.specs.declared.Move.{Move}
+use Rattle.ivy_moves.specs.declared.Move.TheVariants.{Turn}
+use Rattle.ivy_moves.specs.stated.Cores.{Core, Outcome}
+use Rattle.ivy_moves.specs.stated.Following.{links_of, fifo_of, Follows}
+use Rattle.ivy_moves.specs.Following.{IsWellBehaved, FollowsStep}
+use Rattle.ivy_moves.specs.stated.Nodes.{Node, Effect, posting, turned, turned_to}
+use Rattle.ivy_moves.specs.stated.FifoWorld.{FifoWorld}
+use Rattle.ivy_moves.specs.stated.Worlds.{World, is_named, turn_of as turn_made_of, made_by, moved, Moves, Leads}
+use Rattle.ivy_moves.proofs.Following.{went}
+use Rattle.ivy_moves.proofs.Kept.{moves-keep}
+use Rattle.ivy_moves.proofs.Places.{guarded, core_of, link_of, set-there}
+use Rattle.proof_worlds.specs.progress.Answering.{AreAllDelivered}
+use Rattle.proof_worlds.specs.stated.Still.{HasNothingUnderWay}
+use Rattle.proof_worlds.specs.stated.Unblocked.{Stands, waits, replied, reached, AreUnblocked}
+use Rattle.ivy_host.specs.stated.Hosts.{Host, host_rules, turn_of}
+use Rattle.ivy_host.specs.stated.Managers.{Managed, managed_ops}
+use Rattle.ivy_host.specs.ManagedLaws.{managed_laws}
+use Rattle.ivy_host.specs.stated.Sound.{IsSoundHost}
+use Rattle.proof_worlds.specs.stated.FifoRuns.{IsReachedInOrder, FollowsInOrder}
+use Rattle.ivy_host.proofs.WellBehaved.{well_behaved}
+use Rattle.proof_worlds.proofs.consistency.Faithful.{map-places}
+use Rattle.proof_worlds.proofs.refinement.HostTurns.{turn_cases}
+use Rattle.proof_worlds.proofs.refinement.FifoRuns.{led_in_order}
+use Rattle.proof_worlds.proofs.progress.Ending.{way_most}
+use Rattle.proof_worlds.proofs.progress.Lowering.{work, way}
+use Rattle.proof_worlds.proofs.progress.Reached.{IsToldBy, reached_told}
+use Rattle.proof_worlds.proofs.progress.StillWorlds.{none_under_way, either_unblocked}
+use Rattle.proof_answers.specs.answers.Answered.{IsDue, IsSomeAnswered, SomeAnswered}
+use Rattle.proof_answers.specs.answers.NodeRounds.{IsRound, AreRounds}
+use Rattle.proof_answers.proofs.answers.Falling.{AreLater, all_later, all_then, IsLaterAt, Grew, grew_later, grew_on, whole, Falls}
+use Rattle.proof_answers.proofs.answers.Falling.{Progress, grew, fell, Stood, After, after_none, after_then, progress_then, then_progress, by_step}
+use Rattle.proof_answers.proofs.answers.Turning.{cost, host_weight, TurnDoes, records, goes, begins, turn_does}
+use Rattle.proof_answers.proofs.answers.Counts.{due_later, no_answer_due}
+
+-- moves that follow one another, taken apart
+module _ {C : Type 0} (rules : Core C) (c : Config) where
+  pub record Apart (xs ys : List Move) (w v : World C) : Type 0 where
+    pub mid : World C
+    pub before : Leads rules c w xs mid
+    pub after : Leads rules c mid ys v
+
+  pub leads_apart : (xs ys : List Move) (w v : World C) → Leads rules c w (xs ++ ys) v
+      → Apart xs ys w v
+  leads_apart [] ys w v led = record { mid = w; before = refl; after = led }
+  leads_apart (x ∷ xs) ys w v led =
+      let rest : Apart xs ys led.0 v = leads_apart xs ys led.0 v led.2 in
+      record { mid = rest.mid; before = (led.0, led.1, rest.before); after = rest.after }
+
+-- a turn that does something changes the node
+no_change : (c : Config) (n : Host Managed) (out : Outcome (Host Managed)) (called : Call)
+    → TurnDoes n out c → n.memory.asked ≡ Some called → out.after ≡ n → ⊥
+no_change c n out called (records r is) asked same =
+    let a : length out.after.history ≡ length n.history + 1 =
+    ap length is ∙ length-append n.history (r ∷ []) in
+    let b : length out.after.history ≡ length n.history =
+    ap (λ (h : Host Managed). length h.history) same in
+    omega (arith, a, b)
+no_change c n out called (goes idle none memory is) asked same =
+    none-some called (sym idle ∙ asked)
+no_change c n out called (begins p inside is calls elsewhere puts less) asked same =
+    let a : host_weight out.after ≡ host_weight n = ap (λ (h : Host Managed). host_weight h) same in
+    omega (arith, a, less)
+
+module _ (c : Config) (limits : IsConfig c) (programs : List Program)
+    (many : length programs ≡ c.nodes) where
+  abbrev Follower : World (Host Managed) → Type 0
+  Follower w = FollowsInOrder managed_ops c programs w
+
+  abbrev order_of : (w : World (Host Managed)) → Follower w → FifoWorld (Host Managed)
+  order_of w f = fifo_of w f.posted
+
+  keeps_well_behaved : IsWellBehaved (host_rules managed_ops) c (IsSoundHost managed_ops c)
+  keeps_well_behaved = well_behaved managed_laws c
+
+  -- a world that moves lead to from one that followed this
+  record IsFrom (o : FifoWorld (Host Managed)) (w : World (Host Managed))
+      (posted : ℕ → ℕ → List Message) : Type 0 where
+    reached : IsReachedInOrder managed_ops c programs (fifo_of w posted)
+    after : After c o (fifo_of w posted)
+
+  step_from : (o : FifoWorld (Host Managed)) (w v : World (Host Managed))
+      (posted : ℕ → ℕ → List Message) → Follows c (IsSoundHost managed_ops c) w posted
+      → IsFrom o w posted
+      → (next : FollowsStep (host_rules managed_ops) c (IsSoundHost managed_ops c) w posted v)
+      → IsFrom o v next.0
+  step_from o w v posted follows from next = record {
+    reached = (fifo_of w posted ∷ from.reached.0, (from.reached.1, next.2));
+    after =
+        after_then c o (fifo_of w posted) (fifo_of v next.0) from.after
+        (by_step c limits programs many (fifo_of w posted) from.reached (fifo_of v next.0)
+        next.2);
+  }
+
+  -- what moves lead to
+  record Led (w : World (Host Managed)) (f : Follower w) (v : World (Host Managed)) : Type 0 where
+    follows : Follower v
+    after : After c (order_of w f) (order_of v follows)
+
+  led_after : (w v : World (Host Managed)) (f : Follower w) (moves : List Move)
+      → Leads (host_rules managed_ops) c w moves v → Led w f v
+  led_after w v f moves led =
+      let k =
+      moves-keep (host_rules managed_ops) c (IsSoundHost managed_ops c) limits keeps_well_behaved
+      (IsFrom (order_of w f)) (step_from (order_of w f)) w v moves (
+        f.posted,
+        f.follows,
+        record { reached = f.reached; after = after_none c (order_of w f) },
+      ) led in
+      record {
+        follows = record { posted = k.0; follows = k.1; reached = k.2.reached };
+        after = k.2.after;
+      }
+
+  -- a turn that has an outcome
+  posted_core : (n : Node (Host Managed)) (core : Host Managed) (ps : List Parcel)
+      (e : Effect (Host Managed)) → posting n core ps ≡ Some e → e.after.core ≡ core
+  posted_core n core ps e is =
+      let parts =
+      guarded (has_numbers n.link ps) (Some (record {
+        after = record { core = core; link = (sends n.link ps).after };
+        sent = map spelling (sends n.link ps).frames;
+      })) e is in
+      ap (λ (x : Effect (Host Managed)). x.after.core) (sym (same_Some _ e parts.1))
+
+  turned_core : (n : Node (Host Managed)) (out : Outcome (Host Managed))
+      → turn_of managed_ops n.core ≡ Some out → (e : Effect (Host Managed))
+      → turned (host_rules managed_ops) n ≡ Some e → e.after.core ≡ out.after
+  unfolding turned
+  turned_core n out is e made =
+      posted_core n out.after out.posted e
+      (sym (ap (turned_to (host_rules managed_ops) n) is) ∙ made)
+
+  turn_came : (w v : World (Host Managed)) (i : ℕ) (n : Node (Host Managed))
+      → slice_get w.nodes i ≡ Some n → (out : Outcome (Host Managed))
+      → turn_of managed_ops n.core ≡ Some out
+      → turn_made_of (host_rules managed_ops) c w i (Some n) ≡ Some v
+      → (m : Node (Host Managed)) × (slice_get v.nodes i ≡ Some m) × (m.core ≡ out.after)
+  turn_came w v i n there out is made =
+      let e = went w i (turned (host_rules managed_ops) n) v made in (
+        e.0.after,
+        ap (λ (x : World (Host Managed)). slice_get x.nodes i) (sym e.2)
+            ∙ set-there w.nodes i e.0.after n there,
+        turned_core n out is e.0 e.1,
+      )
+
+  turn_made : (w v : World (Host Managed)) (i : ℕ)
+      → moved (host_rules managed_ops) c w (Turn i) ≡ Some v
+      → turn_made_of (host_rules managed_ops) c w i (slice_get w.nodes i) ≡ Some v
+  unfolding moved
+  turn_made w v i eq =
+      (guarded (is_named w (Turn i)) (made_by (host_rules managed_ops) c w (Turn i)) v eq).1
+
+  pub turn_leads : (w v : World (Host Managed)) (i : ℕ) (n : Node (Host Managed))
+      → slice_get w.nodes i ≡ Some n → (out : Outcome (Host Managed))
+      → turn_of managed_ops n.core ≡ Some out → Moves (host_rules managed_ops) c w (Turn i) v
+      → (m : Node (Host Managed)) × (slice_get v.nodes i ≡ Some m) × (m.core ≡ out.after)
+  turn_leads w v i n there out is m =
+      let came =
+      turn_came w m.mid i n there out is
+      (sym (ap (turn_made_of (host_rules managed_ops) c w i) there) ∙ turn_made w m.mid i m.made) in (
+        came.0,
+        ap (λ (x : World (Host Managed)). slice_get x.nodes i) m.goes_on.1 ∙ came.1,
+        came.2,
+      )
+
+  -- One round of a node whose call is due.
+  module _ (i : ℕ) (w end : World (Host Managed)) (f : Follower w) (n : Node (Host Managed))
+      (there : slice_get w.nodes i ≡ Some n) (called : Call)
+      (asked : n.core.memory.asked ≡ Some called) (due : IsDue w n.core.memory.asked)
+      (round : IsRound c i w end) where
+    o : FifoWorld (Host Managed)
+    o = order_of w f
+
+    told : IsToldBy managed_ops c (order_of w f)
+    told =
+        reached_told managed_ops managed_laws c limits programs many (order_of w f) f.reached
+
+    here : slice_get (order_of w f).cores i ≡ Some n.core
+    here = core_of w.nodes i n there
+
+    -- where nothing was delivered, nothing had been under way
+    nothing : (g : Follower end) → (order_of end g).delivered ≡ (order_of w f).delivered
+        → HasNothingUnderWay w
+    nothing g same x y a b apart at_x at_y =
+        let found : (d : Node (Host Managed)) × (slice_get end.nodes y ≡ Some d) =
+        elim (slice_get_cases end.nodes y).1 [
+          | inl is ↦ (is.0, is.2)
+          | inr past ↦
+              absurd (let p = past.0 in let q = g.follows.nodes in
+              let r = slice_get_within w.nodes y b at_y in let s = f.follows.nodes in
+              omega (arith, p, q, r, s))
+        ] in
+        let long : length (links_of w) ≡ length w.nodes =
+        length-map w.nodes (λ (z : Node (Host Managed)). z.link) in
+        let in_x = slice_get_within w.nodes x a at_x in
+        let in_y = slice_get_within w.nodes y b at_y in
+        let all : (peer_at a.link y).sent ≤ (peer_at found.0.link x).delivered =
+        round.delivered x y a found.0 apart at_x found.1 in
+        let ends : (order_of end g).delivered x y ≡ (peer_at found.0.link x).delivered =
+        ap (λ (l : Linked). (peer_at l x).delivered) (link_of end.nodes y found.0 found.1) in
+        let was : (order_of w f).delivered x y ≡ (peer_at b.link x).delivered =
+        ap (λ (l : Linked). (peer_at l x).delivered) (link_of w.nodes y b at_y) in
+        let equal : (order_of end g).delivered x y ≡ (order_of w f).delivered x y =
+        ap (λ (d : ℕ → ℕ → ℕ). d x y) same in
+        let most = f.follows.paired.delivered x y (omega (arith, in_x, long))
+        (omega (arith, in_y, long)) in
+        let count = f.follows.paired.counted x y (omega (arith, in_x, long))
+        (omega (arith, in_y, long)) in
+        let link : (peer_at (link_at (links_of w) x) y).sent ≡ (peer_at a.link y).sent =
+        ap (λ (l : Linked). (peer_at l y).sent) (link_of w.nodes x a at_x) in
+        omega (arith, all, ends, was, equal, most, count, link)
+
+    -- then its next turn does something
+    turn_there : AreAllDelivered (order_of w f)
+        → (out : Outcome (Host Managed)) × (turn_of managed_ops n.core ≡ Some out)
+    turn_there all =
+        let u = either_unblocked c programs limits many (order_of w f) f.reached all in
+        stands u (u.each i n.core here)
+      where
+        stands : (u : AreUnblocked managed_ops c (order_of w f).cores)
+            → Stands managed_ops i n.core u.order u.last
+            → (out : Outcome (Host Managed)) × (turn_of managed_ops n.core ≡ Some out)
+        stands u (waits none part) =
+            absurd (no_answer_due c limits programs w f u n.core.memory.asked n.core.memory.along due none)
+        stands u (replied other reply is next along calls part) = (_, next.turned)
+        stands u (reached k least count is at le (inl next) part) = (_, next.turned)
+        stands u (reached k least count is at le (inr next) part) = (next.outcome, next.turned)
+
+    module _ (u v : World (Host Managed)) (first : Led w f u)
+        (turn : Moves (host_rules managed_ops) c u (Turn i) v) (second : Led u first.follows v)
+        (rest : Led v second.follows end) where
+      -- they did not all stand
+      all_stood : Stood c (order_of w f) (order_of u first.follows)
+          → Stood c (order_of u first.follows) (order_of v second.follows)
+          → Stood c (order_of v second.follows) (order_of end rest.follows) → ⊥
+      all_stood a b d =
+          let none : HasNothingUnderWay w =
+          nothing rest.follows (d.delivered ∙ b.delivered ∙ a.delivered) in
+          let all : AreAllDelivered (order_of w f) =
+          none_under_way managed_ops c programs w f told.faithful.sound none in
+          let out = turn_there all in
+          let before : slice_get (order_of u first.follows).cores i ≡ Some n.core =
+          a.calls i n.core called here asked in
+          let at_u =
+          map-places (λ (m : Node (Host Managed)). m.core) u.nodes i n.core before in
+          let at_v =
+          turn_leads u v i at_u.0 at_u.1 out.0
+          (ap (turn_of managed_ops) at_u.2 ∙ out.1) turn in
+          let now : slice_get (order_of v second.follows).cores i ≡ Some n.core =
+          b.calls i n.core called before asked in
+          let same : n.core ≡ at_v.0.core =
+          same_Some n.core at_v.0.core (sym now ∙ core_of v.nodes i at_v.0 at_v.1) in
+          let sound = told.faithful.sound.sound i n.core here in
+          no_change c n.core out.0 called
+          (turn_does managed_ops c limits i n.core sound out.0
+          (turn_cases managed_ops c i n.core sound out.0 out.1) out.1
+          (told.pursued i n.core here)) asked (sym (same ∙ at_v.2))
+
+      progresses : Progress c (order_of w f) (order_of end rest.follows)
+      progresses = by_first first.after.comes
+        where
+          later_rest : After c (order_of u first.follows) (order_of end rest.follows)
+          later_rest =
+              after_then c (order_of u first.follows) (order_of v second.follows)
+              (order_of end rest.follows) second.after rest.after
+
+          until_turn : After c (order_of w f) (order_of v second.follows)
+          until_turn =
+              after_then c (order_of w f) (order_of u first.follows)
+              (order_of v second.follows) first.after second.after
+
+          by_rest : Stood c (order_of w f) (order_of u first.follows)
+              → Stood c (order_of u first.follows) (order_of v second.follows)
+              → Progress c (order_of v second.follows) (order_of end rest.follows)
+              ⊎ Stood c (order_of v second.follows) (order_of end rest.follows)
+              → Progress c (order_of w f) (order_of end rest.follows)
+          by_rest a b (inl p) =
+              then_progress c (order_of w f) (order_of v second.follows)
+              (order_of end rest.follows) until_turn p rest.after.later
+          by_rest a b (inr d) = absurd (all_stood a b d)
+
+          by_turn : Stood c (order_of w f) (order_of u first.follows)
+              → Progress c (order_of u first.follows) (order_of v second.follows)
+              ⊎ Stood c (order_of u first.follows) (order_of v second.follows)
+              → Progress c (order_of w f) (order_of end rest.follows)
+          by_turn a (inl p) =
+              then_progress c (order_of w f) (order_of u first.follows)
+              (order_of end rest.follows) first.after
+              (progress_then c (order_of u first.follows) (order_of v second.follows)
+              (order_of end rest.follows) second.after.later p rest.after)
+              later_rest.later
+          by_turn a (inr b) = by_rest a b rest.after.comes
+
+          by_first : Progress c (order_of w f) (order_of u first.follows)
+              ⊎ Stood c (order_of w f) (order_of u first.follows)
+              → Progress c (order_of w f) (order_of end rest.follows)
+          by_first (inl p) =
+              progress_then c (order_of w f) (order_of u first.follows)
+              (order_of end rest.follows) first.after.later p later_rest
+          by_first (inr a) = by_turn a second.after.comes
+
+    -- what a round leads to
+    record Rounded : Type 0 where
+      follows : Follower end
+      later : AreLater (order_of w f) (order_of end follows)
+      progress : Progress c (order_of w f) (order_of end follows)
+
+    round_leads : Rounded
+    round_leads =
+        let apart =
+        leads_apart (host_rules managed_ops) c round.before (Turn i ∷ round.after) w end round.led in
+        let first : Led w f apart.mid = led_after w apart.mid f round.before apart.before in
+        let v : World (Host Managed) = apart.after.0 in
+        let second : Led apart.mid first.follows v =
+        led_after apart.mid v first.follows (Turn i ∷ []) (v, apart.after.1, refl) in
+        let rest : Led v second.follows end =
+        led_after v end second.follows round.after apart.after.2 in
+        record {
+          follows = rest.follows;
+          later =
+              all_then (order_of w f) (order_of v second.follows) (order_of end rest.follows)
+              (all_then (order_of w f) (order_of apart.mid first.follows)
+              (order_of v second.follows) first.after.later second.after.later)
+              rest.after.later;
+          progress = progresses apart.mid v first apart.after.1 second rest;
+        }
+
+  -- more rounds only let histories grow
+  record Onward (w : World (Host Managed)) (f : Follower w) (end : World (Host Managed)) : Type 0
+    where
+      follows : Follower end
+      later : AreLater (order_of w f) (order_of end follows)
+
+  rounds_later : (i k : ℕ) (w end : World (Host Managed)) (f : Follower w)
+      → AreRounds c i k w end → Onward w f end
+  rounds_later i zero w end f are =
+      subst (Onward w f) (sym are) (record { follows = f; later = all_later (order_of w f) })
+  rounds_later i (suc k) w end f are =
+      let first : Led w f are.0 =
+      led_after w are.0 f (are.1.before ++ Turn i ∷ are.1.after) are.1.led in
+      let rest : Onward are.0 first.follows end =
+      rounds_later i k are.0 end first.follows are.2 in
+      record {
+        follows = rest.follows;
+        later =
+            all_then (order_of w f) (order_of are.0 first.follows) (order_of end rest.follows)
+            first.after.later rest.later;
+      }
+
+  -- the number of rounds: more of them than there are ways to lower what is left
+  abbrev scale : FifoWorld (Host Managed) → ℕ
+  scale u = (c.nodes + 1) * whole c u + 1
+
+  abbrev rank : ℕ → FifoWorld (Host Managed) → ℕ
+  rank k u = k * whole c u + way c u
+
+  way_few : (u : FifoWorld (Host Managed)) → way c u ≤ (c.nodes + 1) * whole c u
+  way_few u =
+      let a : way c u ≤ (c.nodes + 1) * work c u cost = way_most c u cost in
+      let b : (c.nodes + 1) * work c u cost ≤ (c.nodes + 1) * whole c u =
+      mul-le-mul_left (c.nodes + 1) (let x : work c u cost ≤ whole c u = omega arith in x) in
+      omega (arith, a, b)
+
+  rank_falls : (k : ℕ) (u v : FifoWorld (Host Managed)) → scale u ≤ k → Falls c u v
+      → (rank k v < rank k u) × (scale v ≤ k)
+  rank_falls k u v few (inl less) =
+      let a : k * (whole c v + 1) ≤ k * whole c u =
+      mul-le-mul_left k (let x : whole c v + 1 ≤ whole c u = omega (arith, less) in x) in
+      let b : (c.nodes + 1) * whole c v ≤ (c.nodes + 1) * whole c u =
+      mul-le-mul_left (c.nodes + 1) (let x : whole c v ≤ whole c u = omega (arith, less) in x) in
+      let d = way_few v in
+      (omega (arith, a, b, d, few), omega (arith, b, few))
+  rank_falls k u v few (inr both) =
+      let x = both.0 in
+      let a : k * whole c v ≤ k * whole c u = mul-le-mul_left k x in
+      let b : (c.nodes + 1) * whole c v ≤ (c.nodes + 1) * whole c u =
+      mul-le-mul_left (c.nodes + 1) x in
+      let y = both.1 in
+      (omega (arith, a, y), omega (arith, b, few))
+
+  -- somebody was answered
+  record Answers (w : World (Host Managed)) (f : Follower w) (end : World (Host Managed)) : Type 0
+    where
+      follows : Follower end
+      grown : Grew (order_of w f) (order_of end follows)
+
+  module _ (i : ℕ) where
+    call_of : (w : World (Host Managed)) (a : Option Call) → IsDue w a
+        → (called : Call) × (a ≡ Some called)
+    call_of w None due = absurd due
+    call_of w (Some called) due = (called, refl)
+
+    -- of rounds as many as this
+    abbrev RoundsAnswer : ℕ → ℕ → Type 0
+    RoundsAnswer k fuel = (w end : World (Host Managed)) (f : Follower w)
+        (n : Node (Host Managed)) → slice_get w.nodes i ≡ Some n → IsDue w n.core.memory.asked
+        → scale (order_of w f) ≤ k → rank k (order_of w f) < fuel → AreRounds c i fuel w end
+        → Answers w f end
+
+    one_more : (k fuel : ℕ) → RoundsAnswer k fuel → RoundsAnswer k (suc fuel)
+    one_more k fuel again w end f n there due few less are = by_progress round.progress
+      where
+        called : (a : Call) × (n.core.memory.asked ≡ Some a)
+        called = call_of w n.core.memory.asked due
+
+        mid : World (Host Managed)
+        mid = are.0
+
+        round : Rounded i w mid f n there called.0 called.1 due are.1
+        round = round_leads i w mid f n there called.0 called.1 due are.1
+
+        onward : Onward mid round.follows end
+        onward = rounds_later i fuel mid end round.follows are.2
+
+        grows : Grew (order_of w f) (order_of mid round.follows) → Answers w f end
+        grows g = record {
+          follows = onward.follows;
+          grown =
+              grew_on (order_of w f) (order_of mid round.follows) (order_of end onward.follows)
+              onward.later g;
+        }
+
+        last : Answers mid round.follows end → Answers w f end
+        last a = record {
+          follows = a.follows;
+          grown =
+              grew_later (order_of w f) (order_of mid round.follows) (order_of end a.follows)
+              round.later a.grown;
+        }
+
+        at_mid : (m : Host Managed)
+            × (slice_get (order_of mid round.follows).cores i ≡ Some m) × IsLaterAt n.core m
+        at_mid = round.later.at i n.core (core_of w.nodes i n there)
+
+        goes_on : Falls c (order_of w f) (order_of mid round.follows)
+            → (more : List Record) → at_mid.2.more ≡ more → Answers w f end
+        goes_on falls (x ∷ more) is = grows (record {
+          node = i;
+          before = n.core;
+          after = at_mid.0;
+          there = core_of w.nodes i n there;
+          now = at_mid.1;
+          longer = (let a : length at_mid.0.history
+              ≡ length n.core.history + length (x ∷ more) =
+              ap length (at_mid.2.history ∙ ap (λ h. n.core.history ++ h) is)
+              ∙ length-append n.core.history (x ∷ more) in
+              omega (arith, a));
+        })
+        goes_on falls [] is =
+            let node =
+            map-places (λ (z : Node (Host Managed)). z.core) mid.nodes i at_mid.0 at_mid.1 in
+            let asked : node.0.core.memory.asked ≡ n.core.memory.asked =
+            ap (λ (h : Host Managed). h.memory.asked) node.2
+            ∙ at_mid.2.asked called.0 called.1 is ∙ sym called.1 in
+            let ranks =
+            rank_falls k (order_of w f) (order_of mid round.follows) few falls in
+            let still : IsDue mid node.0.core.memory.asked =
+            subst (IsDue mid) (sym asked)
+            (due_later c limits programs w f mid round.follows round.later n.core.memory.asked due) in
+            let fall = ranks.0 in
+            last
+            (again mid end round.follows node.0 node.1 still ranks.1
+            (omega (arith, fall, less)) are.2)
+
+        by_progress : Progress c (order_of w f) (order_of mid round.follows) → Answers w f end
+        by_progress (grew g) = grows g
+        by_progress (fell falls) = goes_on falls at_mid.2.more refl
+
+    some_round : (k fuel : ℕ) → RoundsAnswer k fuel
+    some_round k zero w end f n there due few less are = absurd (omega (arith, less))
+    some_round k (suc fuel) w end f n there due few less are =
+        one_more k fuel (some_round k fuel) w end f n there due few less are
+
+  -- so it is in the world of strings
+  answers_some : (w end : World (Host Managed)) (f : Follower w) → Answers w f end
+      → IsSomeAnswered w end
+  answers_some w end f a =
+      let was =
+      map-places (λ (z : Node (Host Managed)). z.core) w.nodes a.grown.node a.grown.before
+      a.grown.there in
+      let now =
+      map-places (λ (z : Node (Host Managed)). z.core) end.nodes a.grown.node a.grown.after
+      a.grown.now in
+      let x : length was.0.core.history ≡ length a.grown.before.history =
+      ap (λ (h : Host Managed). length h.history) was.2 in
+      let y : length now.0.core.history ≡ length a.grown.after.history =
+      ap (λ (h : Host Managed). length h.history) now.2 in
+      let less = a.grown.longer in
+      (a.grown.node, was.0, now.0, was.1, now.1, omega (arith, x, y, less))
+
+pub some_answered : SomeAnswered
+some_answered c programs w of i n there due =
+    let f : FollowsInOrder managed_ops c programs w =
+    led_in_order managed_laws c of.limits programs of.many of.moves w of.led in
+    let k : ℕ = scale c of.limits programs of.many (fifo_of w f.posted) in (
+      suc (rank c of.limits programs of.many k (fifo_of w f.posted)),
+      λ end are. answers_some c of.limits programs of.many w end f
+          (some_round c of.limits programs of.many i k
+          (suc (rank c of.limits programs of.many k (fifo_of w f.posted))) w end f n there due
+          (omega arith) (omega arith) are),
+    )

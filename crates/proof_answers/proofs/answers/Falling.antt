@@ -1,0 +1,575 @@
+-- A step of a FIFO world lets some history grow, or lowers what is left to be done, or leaves
+-- that and each node with a call in progress as they were.
+use Rattle.std.proofs.Common.{◌≡◌, ◌≢◌, ◌≤◌, ◌<◌, ◌+◌, ◌-◌, ◌⊎◌, ℕ, Bool, true, false, List, [], ◌∷◌, ◌++◌, length}
+use Rattle.std.proofs.Common.{slice_get, Option, Some, None, if◌then◌else◌, drop, refl, sym, ap, ◌∙◌, subst, arith, inl, inr, append-nil, append_assoc, length-append}
+use Rattle.std.proofs.lemmas.Bool.{cases_eq}
+use Rattle.std.proofs.lemmas.List.{drop-append-le}
+use Rattle.std.proofs.lemmas.Option.{none-some, same_Some, slice_get_within}
+use Rattle.std.specs.Prelude.{slice_set}
+use Rattle.ivy_model.specs.declared.Config.{Config}
+use Rattle.ivy_model.specs.stated.Config.{IsConfig}
+use Rattle.ivy_model.specs.declared.Call.{Call}
+use Rattle.ivy_model.specs.declared.Call.TheVariants as call
+use Rattle.ivy_model.specs.declared.Record.{Record}
+use Rattle.ivy_wire.specs.stated.Data.{Message}
+use Rattle.ivy_pagetable.specs.declared.Entry.{Entry}
+use Rattle.ivy_pagetable.specs.stated.Entries.{put_offs}
+use Rattle.ivy_pagetable.specs.stated.Tables.{entry_at}
+use Rattle.ivy_program.specs.stated.Programs.{Program}
+use Rattle.ivy_link.specs.stated.Paired.{posted, extended}
+use Rattle.ivy_moves.specs.stated.FifoWorld.{FifoWorld, Turns, Delivers, Steps, rests, turns, delivers}
+use Rattle.proof_worlds.specs.progress.Ending.{sum_below}
+use Rattle.ivy_host.specs.stated.Hosts.{Host, host_rules, serving}
+use Rattle.ivy_host.specs.stated.Managers.{Managed, managed_ops}
+use Rattle.ivy_host.specs.ManagedLaws.{managed_laws}
+use Rattle.ivy_alloc.specs.stated.HeapCalls.{HeapTold, heap_told}
+use Rattle.ivy_memory.specs.stated.Memories.{NodeMemory, by_side, by_coherence, memory_handled_as}
+use Rattle.proof_worlds.specs.stated.Nets.{entry_of, manager_of}
+use Rattle.proof_worlds.specs.stated.FifoRuns.{IsReachedInOrder}
+use Rattle.proof_worlds.proofs.refinement.HostTurns.{HostTurn, turn_cases}
+use Rattle.proof_worlds.proofs.refinement.Led.{get_set}
+use Rattle.proof_worlds.proofs.progress.Delivered.{under_way}
+use Rattle.proof_worlds.proofs.progress.Handling.{Handles, lessens, puts_off, sends_on, Does}
+use Rattle.proof_worlds.proofs.progress.Loads.{aside_load, posting_load}
+use Rattle.proof_worlds.proofs.progress.Lowering.{entries, hop_at, work, way, same_work, same_way, done, lowers, work_loaded}
+use Rattle.proof_worlds.proofs.progress.Reached.{IsToldBy, reached_told}
+use Rattle.proof_worlds.proofs.progress.NumberTotals.{sum_change}
+use Rattle.proof_worlds.proofs.progress.Works.{heavy_of, bare, work_posted, work_put}
+use Rattle.proof_answers.proofs.answers.Turning.{cost, call_weight, host_weight, TurnDoes, records, goes, begins, turn_does}
+
+-- the node later on: its history goes on, and while it does not, its call stays in progress
+pub record IsLaterAt (n m : Host Managed) : Type 0 where
+  pub more : List Record
+  pub history : m.history ≡ n.history ++ more
+  pub asked : (called : Call) → n.memory.asked ≡ Some called → more ≡ []
+      → m.memory.asked ≡ Some called
+
+-- so are all nodes
+pub record AreLater (o u : FifoWorld (Host Managed)) : Type 0 where
+  pub at : (i : ℕ) (n : Host Managed) → slice_get o.cores i ≡ Some n
+      → (m : Host Managed) × (slice_get u.cores i ≡ Some m) × IsLaterAt n m
+  pub back : (i : ℕ) (m : Host Managed) → slice_get u.cores i ≡ Some m
+      → (n : Host Managed) × (slice_get o.cores i ≡ Some n)
+
+later_none : (n : Host Managed) → IsLaterAt n n
+later_none n = record {
+  more = [];
+  history = sym (append-nil n.history);
+  asked = λ called is none. is;
+}
+
+none_before : (xs ys : List Record) → xs ++ ys ≡ [] → xs ≡ []
+none_before [] ys is = refl
+none_before (x ∷ xs) ys is = absurd cc
+
+none_after : (xs ys : List Record) → xs ++ ys ≡ [] → ys ≡ []
+none_after [] ys is = is
+none_after (x ∷ xs) ys is = absurd cc
+
+later_then : (n m l : Host Managed) → IsLaterAt n m → IsLaterAt m l → IsLaterAt n l
+later_then n m l a b = record {
+  more = a.more ++ b.more;
+  history = b.history ∙ ap (λ h. h ++ b.more) a.history ∙ append_assoc n.history a.more b.more;
+  asked = λ called is none. b.asked called (a.asked called is (none_before a.more b.more none))
+      (none_after a.more b.more none);
+}
+
+pub all_later : (o : FifoWorld (Host Managed)) → AreLater o o
+all_later o = record { at = λ i n is. (n, is, later_none n); back = λ i m is. (m, is) }
+
+pub all_then : (o u v : FifoWorld (Host Managed)) → AreLater o u → AreLater u v → AreLater o v
+all_then o u v a b = record {
+  at = λ i n is. (
+      let x = a.at i n is in
+      let y = b.at i x.0 x.1 in (y.0, y.1, later_then n x.0 y.0 x.2 y.2)
+      );
+  back = λ i m is. (let y = b.back i m is in a.back i y.0 y.1);
+}
+
+module _ (c : Config) (o : FifoWorld (Host Managed)) where
+  abbrev weight_of : Option (Host Managed) → ℕ
+  weight_of None = 0
+  weight_of (Some n) = host_weight n
+
+  abbrev pub weight_at : ℕ → ℕ
+  weight_at i = weight_of (slice_get o.cores i)
+
+  -- what the nodes weigh, and with the messages
+  abbrev pub hosts : ℕ
+  hosts = sum_below c.nodes weight_at
+
+  abbrev pub whole : ℕ
+  whole = work c o cost + hosts
+
+-- some history is longer
+pub record Grew (o u : FifoWorld (Host Managed)) : Type 0 where
+  pub node : ℕ
+  pub before : Host Managed
+  pub after : Host Managed
+  pub there : slice_get o.cores node ≡ Some before
+  pub now : slice_get u.cores node ≡ Some after
+  pub longer : length before.history < length after.history
+
+pub no_shorter : (n m : Host Managed) → IsLaterAt n m → length n.history ≤ length m.history
+no_shorter n m l =
+    let a : length m.history ≡ length n.history + length l.more =
+    ap length l.history ∙ length-append n.history l.more in
+    omega (arith, a)
+
+-- so it is seen from before, and later on
+pub grew_later : (o u v : FifoWorld (Host Managed)) → AreLater o u → Grew u v → Grew o v
+grew_later o u v later g =
+    let was = later.back g.node g.before g.there in
+    let next = later.at g.node was.0 was.1 in
+    let same : next.0 ≡ g.before = same_Some next.0 g.before (sym next.1 ∙ g.there) in
+    let a = no_shorter was.0 next.0 next.2 in
+    let b : length next.0.history ≡ length g.before.history =
+    ap (λ (h : Host Managed). length h.history) same in
+    let d = g.longer in
+    record {
+      node = g.node;
+      before = was.0;
+      after = g.after;
+      there = was.1;
+      now = g.now;
+      longer = omega (arith, a, b, d);
+    }
+
+pub grew_on : (o u v : FifoWorld (Host Managed)) → AreLater u v → Grew o u → Grew o v
+grew_on o u v later g =
+    let last = later.at g.node g.after g.now in
+    let a = no_shorter g.after last.0 last.2 in
+    let d = g.longer in
+    record {
+      node = g.node;
+      before = g.before;
+      after = last.0;
+      there = g.there;
+      now = last.1;
+      longer = omega (arith, a, d);
+    }
+
+module _ (c : Config) (o u : FifoWorld (Host Managed)) where
+  abbrev pub Falls : Type 0
+  Falls = (whole c u < whole c o) ⊎ ((whole c u ≤ whole c o) × (way c u < way c o))
+
+  -- some history is longer, or what is left is less
+  pub data Progress : Type 0 where
+    grew : Grew o u → Progress
+    fell : Falls → Progress
+
+  -- nothing was posted or delivered, and no node with a call in progress changed
+  pub record Stood : Type 0 where
+    pub posted : u.posted ≡ o.posted
+    pub delivered : u.delivered ≡ o.delivered
+    pub weight : whole c u ≤ whole c o
+    pub hops : way c u ≤ way c o
+    pub calls : (i : ℕ) (n : Host Managed) (called : Call) → slice_get o.cores i ≡ Some n
+        → n.memory.asked ≡ Some called → slice_get u.cores i ≡ Some n
+
+  pub record After : Type 0 where
+    pub later : AreLater o u
+    pub comes : Progress ⊎ Stood
+
+module _ (c : Config) where
+  pub after_none : (o : FifoWorld (Host Managed)) → After c o o
+  after_none o = record {
+    later = all_later o;
+    comes = inr (record {
+      posted = refl;
+      delivered = refl;
+      weight = omega arith;
+      hops = omega arith;
+      calls = λ i n called is asked. is;
+    });
+  }
+
+  falls_then : (o u v : FifoWorld (Host Managed)) → Falls c o u → Falls c u v → Falls c o v
+  falls_then o u v (inl a) (inl b) = inl (omega (arith, a, b))
+  falls_then o u v (inl a) (inr b) = (let x = b.0 in inl (omega (arith, a, x)))
+  falls_then o u v (inr a) (inl b) = (let x = a.0 in inl (omega (arith, b, x)))
+  falls_then o u v (inr a) (inr b) =
+      (let x = a.0 in let y = b.0 in let z = a.1 in let t = b.1 in
+      inr (omega (arith, x, y), omega (arith, z, t)))
+
+  falls_on : (o u v : FifoWorld (Host Managed)) → Falls c o u → Stood c u v → Falls c o v
+  falls_on o u v (inl a) s = (let x = s.weight in inl (omega (arith, a, x)))
+  falls_on o u v (inr a) s =
+      (let x = a.0 in let y = a.1 in let z = s.weight in let t = s.hops in
+      inr (omega (arith, x, z), omega (arith, y, t)))
+
+  stood_falls : (o u v : FifoWorld (Host Managed)) → Stood c o u → Falls c u v → Falls c o v
+  stood_falls o u v s (inl a) = (let x = s.weight in inl (omega (arith, a, x)))
+  stood_falls o u v s (inr a) =
+      (let x = a.0 in let y = a.1 in let z = s.weight in let t = s.hops in
+      inr (omega (arith, x, z), omega (arith, y, t)))
+
+  pub progress_then : (o u v : FifoWorld (Host Managed)) → AreLater o u → Progress c o u
+      → After c u v → Progress c o v
+  progress_then o u v l (grew g) a = grew (grew_on o u v a.later g)
+  progress_then o u v l (fell f) a = either a.comes
+    where
+      either : Progress c u v ⊎ Stood c u v → Progress c o v
+      either (inr s) = fell (falls_on o u v f s)
+      either (inl (fell g)) = fell (falls_then o u v f g)
+      either (inl (grew g)) = grew (grew_later o u v l g)
+
+  pub then_progress : (o u v : FifoWorld (Host Managed)) → After c o u → Progress c u v
+      → AreLater u v → Progress c o v
+  then_progress o u v a (grew g) l = grew (grew_later o u v a.later g)
+  then_progress o u v a (fell f) l = either a.comes
+    where
+      either : Progress c o u ⊎ Stood c o u → Progress c o v
+      either (inr s) = fell (stood_falls o u v s f)
+      either (inl (fell g)) = fell (falls_then o u v g f)
+      either (inl (grew g)) = grew (grew_on o u v l g)
+
+  pub stood_then : (o u v : FifoWorld (Host Managed)) → Stood c o u → Stood c u v → Stood c o v
+  stood_then o u v s t = record {
+    posted = t.posted ∙ s.posted;
+    delivered = t.delivered ∙ s.delivered;
+    weight = (let a = s.weight in let b = t.weight in omega (arith, a, b));
+    hops = (let a = s.hops in let b = t.hops in omega (arith, a, b));
+    calls = λ i n called is asked. t.calls i n called (s.calls i n called is asked) asked;
+  }
+
+  pub after_then : (o u v : FifoWorld (Host Managed)) → After c o u → After c u v → After c o v
+  after_then o u v a b =
+      record { later = all_then o u v a.later b.later; comes = either a.comes b.comes }
+    where
+      either : Progress c o u ⊎ Stood c o u → Progress c u v ⊎ Stood c u v
+          → Progress c o v ⊎ Stood c o v
+      either (inl p) q = inl (progress_then o u v a.later p b)
+      either (inr s) (inl q) = inl (then_progress o u v a q b.later)
+      either (inr s) (inr t) = inr (stood_then o u v s t)
+
+-- what a message leaves of a node
+side_or : (b : Bool) (m : NodeMemory Managed) (from : ℕ) (message : Message) (t : HeapTold)
+    → t.fits ≡ b → (memory_handled_as managed_ops m from message t).after.asked ≡ m.asked
+side_or true m from message t is =
+    ap (λ f. (if f then by_side m t else by_coherence managed_ops m from message).after.asked) is
+side_or false m from message t is =
+    ap (λ f. (if f then by_side m t else by_coherence managed_ops m from message).after.asked) is
+
+served_asked : (n : Host Managed) (from : ℕ) (m : Message)
+    → (serving managed_ops n from m).after.memory.asked ≡ n.memory.asked
+unfolding serving
+served_asked n from m =
+    let t = heap_told n.memory.coherence.me n.memory.side from m in
+    side_or t.fits n.memory from m t refl
+
+served_history : (n : Host Managed) (from : ℕ) (m : Message)
+    → (serving managed_ops n from m).after.history ≡ n.history
+unfolding serving
+served_history n from m = refl
+
+served_later : (n : Host Managed) (from : ℕ) (m : Message)
+    → IsLaterAt n (serving managed_ops n from m).after
+served_later n from m = record {
+  more = [];
+  history = served_history n from m ∙ sym (append-nil n.history);
+  asked = λ called is none. served_asked n from m ∙ is;
+}
+
+-- what a node weighs more where its entry of page 0 changed
+heavier : (a : Option Call) (e z : Entry)
+    → call_weight a z ≤ call_weight a e + (bare cost z - bare cost e)
+heavier None e z = omega arith
+heavier (Some (call.Await k least)) e z = omega arith
+heavier (Some called) e z = omega arith
+
+-- a step that changes one node
+module _ (c : Config) (o u : FifoWorld (Host Managed)) (x : ℕ) (n m : Host Managed)
+    (there : slice_get o.cores x ≡ Some n) (cores : u.cores ≡ slice_set o.cores x m)
+    (count : length o.cores ≡ c.nodes) where
+  core_now : slice_get u.cores x ≡ Some m
+  core_now =
+      ap (λ l. slice_get l x) cores
+      ∙ elim (get_set o.cores x n m x there) [ inl y ↦ y.1 | inr y ↦ absurd (y.0 refl) ]
+
+  core_other : (i : ℕ) → i ≢ x → slice_get u.cores i ≡ slice_get o.cores i
+  core_other i ne =
+      ap (λ l. slice_get l i) cores
+      ∙ elim (get_set o.cores x n m i there) [ inl y ↦ absurd (ne y.0) | inr y ↦ y.1 ]
+
+  one_later : IsLaterAt n m → AreLater o u
+  one_later l = record {
+    at = λ i h is. elim (cases_eq i x) [
+      | inl same ↦
+          (let it : n ≡ h =
+          same_Some n h (sym there ∙ ap (slice_get o.cores) (sym same) ∙ is) in
+          (m, ap (slice_get u.cores) same ∙ core_now, subst (λ z. IsLaterAt z m) it l))
+      | inr ne ↦ (h, core_other i ne ∙ is, later_none h)
+    ];
+    back = λ i h is. elim (cases_eq i x) [
+      | inl same ↦ (n, ap (slice_get o.cores) same ∙ there)
+      | inr ne ↦ (h, sym (core_other i ne) ∙ is)
+    ];
+  }
+
+  inside_x : x < c.nodes
+  inside_x = (let a = slice_get_within o.cores x n there in omega (arith, a, count))
+
+  hosts_change : hosts c u + host_weight n ≤ hosts c o + host_weight m
+  hosts_change =
+      let a : hosts c u + weight_at c o x ≤ hosts c o + weight_at c u x =
+      sum_change c.nodes x (weight_at c o) (weight_at c u) inside_x
+      (λ i lt ne. (let e : weight_at c u i ≡ weight_at c o i =
+      ap (weight_of c o) (core_other i ne) in omega (arith, e))) in
+      let b : weight_at c o x ≡ host_weight n = ap (weight_of c o) there in
+      let d : weight_at c u x ≡ host_weight m = ap (weight_of c o) core_now in
+      omega (arith, a, b, d)
+
+  entries_other : (i p : ℕ) → i ≢ x → entries c u i p ≡ entries c o i p
+  entries_other i p ne = ap (λ z. entry_of z p) (core_other i ne)
+
+  entries_now : (p : ℕ) → entries c u x p ≡ entry_at m.memory.coherence.table p
+  entries_now p = ap (λ z. entry_of z p) core_now
+
+  entries_was : (p : ℕ) → entries c o x p ≡ entry_at n.memory.coherence.table p
+  entries_was p = ap (λ z. entry_of z p) there
+
+  hop_now : (p : ℕ) → hop_at c u p x ≡ managed_ops.next_hop m.memory.coherence.manager p
+  hop_now p =
+      ap (λ z. managed_ops.next_hop (manager_of (managed_ops.first c 0) z) p) core_now
+
+  hop_was : (p : ℕ) → hop_at c o p x ≡ managed_ops.next_hop n.memory.coherence.manager p
+  hop_was p =
+      ap (λ z. managed_ops.next_hop (manager_of (managed_ops.first c 0) z) p) there
+
+  hop_other : (p i : ℕ) → i ≢ x → hop_at c u p i ≡ hop_at c o p i
+  hop_other p i ne =
+      ap (λ z. managed_ops.next_hop (manager_of (managed_ops.first c 0) z) p) (core_other i ne)
+
+  -- where its memory is the same, and nothing was posted or delivered
+  module _ (same : m.memory ≡ n.memory) (idle : n.memory.asked ≡ None)
+      (posted : u.posted ≡ o.posted) (delivered : u.delivered ≡ o.delivered) where
+    entry_same : (i p : ℕ) → entries c u i p ≡ entries c o i p
+    entry_same i p = elim (cases_eq i x) [
+      | inr ne ↦ entries_other i p ne
+      | inl is ↦
+          subst (λ v. entries c u v p ≡ entries c o v p) (sym is)
+          (entries_now p
+          ∙ ap (λ (z : NodeMemory Managed). entry_at z.coherence.table p) same
+          ∙ sym (entries_was p))
+    ]
+
+    hop_same : (p i : ℕ) → hop_at c u p i ≡ hop_at c o p i
+    hop_same p i = elim (cases_eq i x) [
+      | inr ne ↦ hop_other p i ne
+      | inl is ↦
+          subst (λ v. hop_at c u p v ≡ hop_at c o p v) (sym is)
+          (hop_now p
+          ∙ ap (λ (z : NodeMemory Managed). managed_ops.next_hop z.coherence.manager p) same
+          ∙ sym (hop_was p))
+    ]
+
+    entries_same : entries c u ≡ entries c o
+    entries_same = λ k i p. entry_same i p k
+
+    hops_same : hop_at c u ≡ hop_at c o
+    hops_same = λ k p i. hop_same p i k
+
+    under_same : under_way u ≡ under_way o
+    under_same = λ k i j. drop (delivered k i j) (posted k i j)
+
+    stays : Stood c o u
+    stays = record {
+      posted = posted;
+      delivered = delivered;
+      weight = (let a = same_work c o u entries_same hops_same under_same cost in
+          let b = hosts_change in
+          let d : host_weight m ≡ host_weight n =
+          ap (λ (z : NodeMemory Managed). call_weight z.asked (entry_at z.coherence.table 0)) same
+          in omega (arith, a, b, d));
+      hops = (let a = same_way c o u entries_same hops_same under_same in omega (arith, a));
+      calls = λ i h called is asked. elim (cases_eq i x) [
+        | inr ne ↦ core_other i ne ∙ is
+        | inl at ↦
+            (let it : n ≡ h = same_Some n h (sym there ∙ ap (slice_get o.cores) (sym at) ∙ is) in
+            absurd (none-some called
+            (sym (ap (λ (z : Host Managed). z.memory.asked) (sym it) ∙ idle) ∙ asked)))
+      ];
+    }
+
+module _ (c : Config) (limits : IsConfig c) (programs : List Program)
+    (many : length programs ≡ c.nodes) (o : FifoWorld (Host Managed))
+    (reached : IsReachedInOrder managed_ops c programs o) where
+  told : IsToldBy managed_ops c o
+  told = reached_told managed_ops managed_laws c limits programs many o reached
+
+  -- what a turn does to the node
+  module _ (u : FifoWorld (Host Managed)) (x : ℕ) (t : Turns (host_rules managed_ops) o x u) where
+    turn_is : HostTurn managed_ops c t.core t.outcome
+    turn_is =
+        turn_cases managed_ops c x t.core (told.faithful.sound.sound x t.core t.there) t.outcome
+        t.turned
+
+    turn_of_host : TurnDoes t.core t.outcome c
+    turn_of_host =
+        turn_does managed_ops c limits x t.core (told.faithful.sound.sound x t.core t.there)
+        t.outcome turn_is t.turned (told.pursued x t.core t.there)
+
+    now_under : (i j : ℕ) → under_way u i j ≡ under_way o i j ++ posted i j t.outcome.posted
+    now_under i j =
+        ap (λ g. drop (u.delivered i j) (g i j)) t.posted
+        ∙ ap (λ g. drop (g i j) (extended o.posted t.outcome.posted i j)) t.delivered
+        ∙ drop-append-le (o.delivered i j) (o.posted i j) (posted i j t.outcome.posted)
+        (told.faithful.sound.within i j)
+
+    begins_falls : (p : ℕ) → p < c.pages
+        → ((q : ℕ) → q ≢ p → entry_at t.outcome.after.memory.coherence.table q
+        ≡ entry_at t.core.memory.coherence.table q)
+        → put_offs (entry_at t.outcome.after.memory.coherence.table p)
+        ≡ put_offs (entry_at t.core.memory.coherence.table p)
+        → work_posted cost t.outcome.posted + host_weight t.outcome.after < host_weight t.core
+        → Falls c o u
+    begins_falls p inside elsewhere puts less =
+        let a : work c u cost + aside_load (λ i. heavy_of cost) (entries c o) x p
+        ≤ work c o cost + work_posted cost t.outcome.posted
+        + aside_load (λ i. heavy_of cost) (entries c u) x p =
+        posting_load c.nodes c.pages (λ i. heavy_of cost) (λ i. heavy_of cost) (under_way o)
+        (under_way u) (entries c o) (entries c u) x p t.outcome.posted
+        (inside_x c o u x t.core t.outcome.after t.there t.cores told.faithful.sound.count) inside
+        now_under others in
+        let b : aside_load (λ i. heavy_of cost) (entries c u) x p
+        ≡ aside_load (λ i. heavy_of cost) (entries c o) x p =
+        ap (work_put cost p)
+        (ap put_offs (entries_now c o u x t.core t.outcome.after t.there t.cores
+        told.faithful.sound.count p)
+        ∙ puts
+        ∙ sym (ap put_offs (entries_was c o u x t.core t.outcome.after t.there t.cores
+        told.faithful.sound.count p))) in
+        let d =
+        hosts_change c o u x t.core t.outcome.after t.there t.cores told.faithful.sound.count in
+        inl (omega (arith, a, b, d, less))
+      where
+        others : (i q : ℕ) → (i ≢ x) ⊎ (q ≢ p) → entries c u i q ≡ entries c o i q
+        others i q (inl ne) =
+            entries_other c o u x t.core t.outcome.after t.there t.cores
+            told.faithful.sound.count i q ne
+        others i q (inr ne) = elim (cases_eq i x) [
+          | inr other ↦
+              entries_other c o u x t.core t.outcome.after t.there t.cores
+              told.faithful.sound.count i q other
+          | inl same ↦
+              subst (λ v. entries c u v q ≡ entries c o v q) (sym same)
+              (entries_now c o u x t.core t.outcome.after t.there t.cores
+              told.faithful.sound.count q ∙ elsewhere q ne
+              ∙ sym (entries_was c o u x t.core t.outcome.after t.there t.cores
+              told.faithful.sound.count q))
+        ]
+
+    by_turn : TurnDoes t.core t.outcome c → After c o u
+    by_turn (records r is) = record {
+      later =
+          one_later c o u x t.core t.outcome.after t.there t.cores told.faithful.sound.count
+          (record { more = r ∷ []; history = is; asked = λ called was none. absurd cc });
+      comes = inl (grew (record {
+        node = x;
+        before = t.core;
+        after = t.outcome.after;
+        there = t.there;
+        now = core_now c o u x t.core t.outcome.after t.there t.cores told.faithful.sound.count;
+        longer = (let a : length t.outcome.after.history ≡ length t.core.history + 1 =
+            ap length is ∙ length-append t.core.history (r ∷ []) in
+            omega (arith, a));
+      }));
+    }
+    by_turn (goes idle none same is) = record {
+      later =
+          one_later c o u x t.core t.outcome.after t.there t.cores told.faithful.sound.count
+          (record {
+            more = [];
+            history = is ∙ sym (append-nil t.core.history);
+            asked = λ called was nothing. absurd (none-some called (sym idle ∙ was));
+          });
+      comes = inr
+          (stays c o u x t.core t.outcome.after t.there t.cores told.faithful.sound.count same idle
+          (t.posted ∙ ap (extended o.posted) none ∙ (λ k i j. append-nil (o.posted i j) k))
+          t.delivered);
+    }
+    by_turn (begins p inside is calls elsewhere puts less) = record {
+      later =
+          one_later c o u x t.core t.outcome.after t.there t.cores told.faithful.sound.count
+          (record {
+            more = [];
+            history = is ∙ sym (append-nil t.core.history);
+            asked = λ called was nothing. calls called was;
+          });
+      comes = inl (fell (begins_falls p inside elsewhere puts less));
+    }
+
+  -- what a delivery does
+  module _ (u : FifoWorld (Host Managed)) (source x : ℕ)
+      (t : Delivers (host_rules managed_ops) o source x u) where
+    abbrev served : Host Managed
+    served = (serving managed_ops t.core source t.message).after
+
+    what : (p : ℕ) × (p < c.pages)
+        × Does managed_ops cost t.core.memory.coherence p t.message.origin t.message.call
+        t.message.content (record {
+          after = served.memory.coherence;
+          posted = (serving managed_ops t.core source t.message).posted;
+        })
+    what = done cost c limits programs many o u reached source x t
+
+    weighs : host_weight served
+        ≤ host_weight t.core + (bare cost (entry_at served.memory.coherence.table what.0)
+        - bare cost (entry_at t.core.memory.coherence.table what.0))
+    weighs = elim (cases_eq 0 what.0) [
+      | inl first ↦
+          (let a = heavier served.memory.asked (entry_at t.core.memory.coherence.table 0)
+          (entry_at served.memory.coherence.table 0) in
+          let b : call_weight served.memory.asked (entry_at t.core.memory.coherence.table 0)
+          ≡ host_weight t.core =
+          ap (λ z. call_weight z (entry_at t.core.memory.coherence.table 0))
+          (served_asked t.core source t.message) in
+          subst (λ p. host_weight served
+          ≤ host_weight t.core + (bare cost (entry_at served.memory.coherence.table p)
+          - bare cost (entry_at t.core.memory.coherence.table p))) first (omega (arith, a, b)))
+      | inr ne ↦
+          (let a : host_weight served ≡ host_weight t.core =
+          ap (call_weight served.memory.asked) (what.2.elsewhere 0 ne)
+          ∙ ap (λ z. call_weight z (entry_at t.core.memory.coherence.table 0))
+          (served_asked t.core source t.message) in
+          omega (arith, a))
+    ]
+
+    falls_same : bare cost (entry_at served.memory.coherence.table what.0)
+        ≡ bare cost (entry_at t.core.memory.coherence.table what.0) → Falls c o u
+    falls_same is =
+        let a = hosts_change c o u x t.core served t.there t.cores told.faithful.sound.count in
+        let b = weighs in
+        elim (lowers cost c limits programs many o u reached source x t) [
+          | inl less ↦ inl (omega (arith, a, b, is, less))
+          | inr both ↦
+              (let d = both.0 in inr (omega (arith, a, b, is, d), both.1))
+        ]
+
+    falls_by : Handles managed_ops cost t.core.memory.coherence what.0 t.message.origin
+        t.message.call t.message.content (record {
+          after = served.memory.coherence;
+          posted = (serving managed_ops t.core source t.message).posted;
+        }) → Falls c o u
+    falls_by (lessens less) =
+        let a = hosts_change c o u x t.core served t.there t.cores told.faithful.sound.count in
+        let b = weighs in
+        let d =
+        work_loaded cost c limits programs many o u reached source x t what.0 what.1 what.2 in
+        inl (omega (arith, a, b, d, less))
+    falls_by (puts_off q is none manager put claims same) = falls_same same
+    falls_by (sends_on write is posts manager none_then none plain free same) = falls_same same
+
+    by_delivery : After c o u
+    by_delivery = record {
+      later =
+          one_later c o u x t.core served t.there t.cores told.faithful.sound.count
+          (served_later t.core source t.message);
+      comes = inl (fell (falls_by what.2.handles));
+    }
+
+  pub by_step : (u : FifoWorld (Host Managed)) → Steps (host_rules managed_ops) o u → After c o u
+  by_step u (rests same) = subst (After c o) (sym same) (after_none c o)
+  by_step u (turns x t) = by_turn u x t (turn_of_host u x t)
+  by_step u (delivers source x t) = by_delivery u source x t

@@ -1,0 +1,7 @@
+pub mod Bases
+pub mod Unlocking
+pub mod Aims
+pub mod Leading
+pub mod ReadWriteRounds
+pub mod HeapRounds
+pub mod Calls

@@ -1,0 +1,181 @@
+-- Each call that is due is answered: a word of a page, and a call of the heap.
+use Rattle.std.proofs.Common.{◌≡◌, ◌<◌, ◌≤◌, ◌+◌, ◌*◌, ℕ, suc, List, ◌++◌, length, slice_get, Option, Some, None, refl, sym, ap, ◌∙◌, subst, arith, append_assoc}
+use Rattle.std.proofs.lemmas.Option.{slice_get-get_or}
+use Rattle.std.specs.Prelude.{get_or}
+use Rattle.ivy_model.specs.declared.Call.{Call}
+use Rattle.ivy_model.specs.declared.Call.TheVariants as call
+use Rattle.ivy_model.specs.declared.Config.{Config}
+use Rattle.ivy_model.specs.declared.Record.{Record}
+use Rattle.ivy_model.specs.stated.Config.{IsConfig}
+use Rattle.ivy_model.specs.stated.Explains.{part}
+use Rattle.ivy_model.specs.Memory.{IsSized, flat_page}
+use Rattle.ivy_model.specs.stated.Memory.{first}
+use Rattle.ivy_model.proofs.Counts.{read_count}
+use Rattle.ivy_model.proofs.Sizes.{first_sized, leads_sized}
+use Rattle.ivy_pagetable.specs.declared.Word.TheVariants as word
+use Rattle.ivy_pagetable.specs.stated.Words.{number_at}
+use Rattle.ivy_program.specs.stated.Programs.{Program}
+use Rattle.ivy_moves.specs.stated.Following.{fifo_of}
+use Rattle.ivy_moves.specs.stated.Nodes.{Node}
+use Rattle.ivy_moves.specs.stated.FifoWorld.{FifoWorld}
+use Rattle.ivy_moves.specs.stated.Worlds.{World}
+use Rattle.ivy_moves.proofs.Places.{core_of}
+use Rattle.proof_answers.specs.answers.Answered.{IsDue, advances}
+use Rattle.proof_answers.specs.answers.NodeRounds.{AreRounds}
+use Rattle.proof_answers.specs.answers.Undropped.{IsOfMoves}
+use Rattle.ivy_model.specs.declared.Kind.TheVariants as kind
+use Rattle.ivy_host.specs.stated.Hosts.{Host}
+use Rattle.ivy_host.specs.stated.Managers.{Managed, managed_ops}
+use Rattle.ivy_host.specs.ManagedLaws.{managed_laws}
+use Rattle.ivy_alloc.specs.declared.HeapCall.{HeapCall}
+use Rattle.ivy_alloc.specs.declared.HeapCall.TheVariants as heap
+use Rattle.ivy_memory.specs.declared.Asked.{Asked}
+use Rattle.ivy_memory.specs.declared.Asked.TheVariants as kinds
+use Rattle.ivy_memory.specs.stated.Asking.{asked_of}
+use Rattle.proof_worlds.specs.stated.HeapRequests.{heap_way}
+use Rattle.proof_worlds.specs.stated.FifoRuns.{IsReachedInOrder, FollowsInOrder}
+use Rattle.proof_worlds.proofs.consistency.Faithful.{IsFaithful, map-places}
+use Rattle.proof_worlds.proofs.consistency.Owing.{pending}
+use Rattle.proof_worlds.proofs.refinement.FifoRuns.{led_in_order}
+use Rattle.proof_worlds.proofs.progress.Stopped.{IsAwait, await_is}
+use Rattle.proof_answers.proofs.answers.Counts.{advances_in}
+use Rattle.proof_answers.proofs.answers.Falling.{AreLater, all_later}
+use Rattle.proof_answers.specs.fairness.Fairness.{IsHeapCall, IsAnswered, CallsAnswered, HeapCallsAnswered}
+use Rattle.proof_answers.proofs.fairness.Aims.{IsReady}
+use Rattle.proof_answers.proofs.fairness.Leading.{HasGrown, told_of}
+use Rattle.proof_answers.proofs.fairness.HeapRounds.{three_rounds_answer}
+use Rattle.proof_answers.proofs.fairness.ReadWriteRounds.{rounds_answer}
+
+-- a call is due, so there is one
+call_of : (w : World (Host Managed)) (a : Option Call) → IsDue w a
+    → (called : Call) × (a ≡ Some called) × IsDue w (Some called)
+call_of w None due = absurd due
+call_of w (Some called) due = (called, refl, due)
+
+heap_of : (c : Config) (a : Option Call) → IsHeapCall a
+    → (called : Call) × (k : HeapCall) × (a ≡ Some called) × (asked_of c called ≡ kinds.Heap k)
+heap_of c (Some (call.Alloc size)) is = (call.Alloc size, heap.Alloc size, refl, refl)
+heap_of c (Some (call.Free addr)) is = (call.Free addr, heap.Free addr, refl, refl)
+heap_of c a is = absurd is
+
+-- If a call is due and is an await, its count has come to the least value, now and later on.
+module _ (c : Config) (limits : IsConfig c) (programs : List Program)
+    (many : length programs ≡ c.nodes) (w : World (Host Managed))
+    (f : FollowsInOrder managed_ops c programs w) (called : Call) (due : IsDue w (Some called))
+    (o : FifoWorld (Host Managed)) (run : IsReachedInOrder managed_ops c programs o)
+    (later : AreLater (fifo_of w f.posted) o) where
+  abbrev order : List Record
+  order = (told_of c limits programs many o run).order
+
+  abbrev faithful : IsFaithful managed_ops c o order
+  faithful = (told_of c limits programs many o run).faithful
+
+  -- the histories come first in the parts of the order
+  parts : (i : ℕ) (n : Node (Host Managed)) → slice_get w.nodes i ≡ Some n
+      → (more : List Record) × (part i order ≡ n.core.history ++ more)
+  parts i n there =
+      let m = later.at i n.core (core_of w.nodes i n there) in (
+        m.2.more ++ pending m.0 (heap_way o 0 i),
+        faithful.parts i m.0 m.1
+            ∙ ap (λ l. l ++ pending m.0 (heap_way o 0 i)) m.2.history
+            ∙ append_assoc n.core.history m.2.more (pending m.0 (heap_way o 0 i)),
+      )
+
+  module _ (page offset least : ℕ)
+      (of : asked_of c called ≡ kinds.Word page (word.Await offset least)) where
+    await : IsAwait c called page offset least
+    await = await_is c called page offset least of
+
+    sized : IsSized c faithful.memory
+    sized = leads_sized c (first c) faithful.memory order limits (first_sized c) faithful.legal
+
+    abbrev count : ℕ
+    count = get_or faithful.memory.counts await.count 0
+
+    within : await.count < length faithful.memory.counts
+    within = (let a = await.there in let b = sized.counts in omega (arith, a, b))
+
+    counted : slice_get faithful.memory.counts await.count ≡ Some count
+    counted = slice_get-get_or faithful.memory.counts await.count 0 within
+
+    shown : number_at 8 offset (faithful.pages page) ≡ count
+    shown =
+        let inside : page < c.pages =
+        (let a = await.first in let b = limits.pages_from in omega (arith, a, b)) in
+        ap (number_at 8 offset) (faithful.shows page inside)
+        ∙ ap (λ p. number_at 8 offset (flat_page c faithful.memory p)) await.first
+        ∙ ap (λ a. number_at 8 a (flat_page c faithful.memory 0)) await.at
+        ∙ read_count faithful.memory.counts await.count count counted
+        (sized.words await.count count counted)
+
+    high : least ≤ number_at 8 offset (faithful.pages page)
+    high =
+        let a : least ≤ advances await.count w = subst (λ k. IsDue w (Some k)) await.is due in
+        let b = advances_in c limits w order faithful.memory faithful.legal parts await.count count
+        counted in
+        let s = shown in
+        omega (arith, a, b, s)
+
+  is_ready : IsReady c faithful.pages called
+  is_ready page offset least of = high page offset least of
+
+module _ (c : Config) (programs : List Program) (w : World (Host Managed))
+    (of : IsOfMoves c programs w) (i : ℕ) (n : Node (Host Managed))
+    (there : slice_get w.nodes i ≡ Some n) (end : World (Host Managed)) where
+  abbrev follows : (v : World (Host Managed)) → Type 0
+  follows v = FollowsInOrder managed_ops c programs v
+
+  f : follows w
+  f = led_in_order managed_laws c of.limits programs of.many of.moves w of.led
+
+  here : slice_get (fifo_of w f.posted).cores i ≡ Some n.core
+  here = core_of w.nodes i n there
+
+  -- a history that is longer in the FIFO world is that of the node
+  is_answered : (g : follows end)
+      → HasGrown c of.limits programs of.many i n.core.history (fifo_of end g.posted)
+      → IsAnswered w end i
+  is_answered g grown =
+      let node = map-places (λ (m : Node (Host Managed)). m.core) end.nodes i grown.0 grown.1 in (
+        n,
+        node.0,
+        there,
+        node.1,
+        subst (λ (z : Host Managed). length n.core.history < length z.history) (sym node.2) grown.2,
+      )
+
+  -- a call of the heap
+  by_heap : (called : Call) → n.core.memory.asked ≡ Some called → (k : HeapCall)
+      → asked_of c called ≡ kinds.Heap k → (more : ℕ)
+      → AreRounds c i (suc (suc (suc more))) w end → IsAnswered w end i
+  by_heap called asked k is more are =
+      let g = three_rounds_answer c of.limits programs of.many i called k is n.core.history more w end
+      f n.core here asked refl are in
+      is_answered g.0 g.1
+
+  -- a call that is due, by what it asks for
+  module _ (fixed : c.manager ≡ kind.Fixed) (called : Call) (asked : n.core.memory.asked ≡ Some called)
+      (due : IsDue w (Some called)) (are : AreRounds c i (6 * c.nodes + 3) w end) where
+    by_kind : (a : Asked) → asked_of c called ≡ a → IsAnswered w end i
+    by_kind (kinds.Refused code) is =
+        absurd ((told_of c of.limits programs of.many (fifo_of w f.posted) f.reached).servable i
+        n.core here called code asked is)
+    by_kind (kinds.Word page word) is =
+        let g = rounds_answer c of.limits fixed programs of.many i called page word is
+        (fifo_of w f.posted) (is_ready c of.limits programs of.many w f called due) w end f n
+        there asked (all_later (fifo_of w f.posted)) are in
+        is_answered g.0 g.1
+    by_kind (kinds.Heap k) is =
+        let e : 6 * c.nodes + 3 ≡ suc (suc (suc (6 * c.nodes))) = omega arith in
+        by_heap called asked k is (6 * c.nodes) (subst (λ z. AreRounds c i z w end) e are)
+
+pub calls_answered : CallsAnswered
+calls_answered c programs w of fixed i n there due end are =
+    let called = call_of w n.core.memory.asked due in
+    by_kind c programs w of i n there end fixed called.0 called.1 called.2 are
+    (asked_of c called.0) refl
+
+pub heap_calls_answered : HeapCallsAnswered
+heap_calls_answered c programs w of i n there heap end are =
+    let called = heap_of c n.core.memory.asked heap in
+    by_heap c programs w of i n there end called.0 called.2 called.1 called.3 0 are

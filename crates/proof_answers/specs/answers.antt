@@ -1,0 +1,4 @@
+pub mod Undropped
+pub mod Pulses
+pub mod NodeRounds
+pub mod Answered

@@ -1,5 +1,0 @@
-use Rattle.proof_fairness.proofs.Calls.{heap_calls_answered}
-use Rattle.proof_fairness.proofs.law.heap_calls_are_answered.Goals as goal
-
-pub returns : goal.returns
-returns c = heap_calls_answered

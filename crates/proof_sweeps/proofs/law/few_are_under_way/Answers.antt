@@ -1,5 +1,0 @@
-use Rattle.proof_sweeps.proofs.FewWorlds.{few_are_under_way}
-use Rattle.proof_sweeps.proofs.law.few_are_under_way.Goals as goal
-
-pub returns : goal.returns
-returns c = few_are_under_way

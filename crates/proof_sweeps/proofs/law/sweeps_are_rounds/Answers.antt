@@ -1,5 +1,0 @@
-use Rattle.proof_sweeps.proofs.Swept.{sweeps_are_rounds}
-use Rattle.proof_sweeps.proofs.law.sweeps_are_rounds.Goals as goal
-
-pub returns : goal.returns
-returns c = sweeps_are_rounds

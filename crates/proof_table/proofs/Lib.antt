@@ -1,0 +1,3 @@
+pub mod transitions
+pub mod routing
+pub mod waiting

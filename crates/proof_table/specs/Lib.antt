@@ -1,0 +1,4 @@
+pub mod stated
+pub mod transitions
+pub mod routing
+pub mod waiting

@@ -1,0 +1,3 @@
+pub mod Claiming
+pub mod Managing
+pub mod Hinting

@@ -1,2 +1,0 @@
-pub mod Readers
-pub use Rattle.proof_routing.specs as proof_routing

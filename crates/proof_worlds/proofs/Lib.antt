@@ -1,0 +1,4 @@
+pub mod refinement
+pub mod consistency
+pub mod progress
+pub mod headline

@@ -1,0 +1,15 @@
+pub mod CopiedSteps
+pub mod CopiedWords
+pub mod CopiedRows
+pub mod HeapServed
+pub mod Adjacent
+pub mod Owing
+pub mod Beside
+pub mod CarriedWords
+pub mod OwingEvents
+pub mod OwedCalls
+pub mod Faithful
+pub mod FaithfulHeap
+pub mod FaithfulSteps
+pub mod FaithfulOpening
+pub mod FaithfulWorlds

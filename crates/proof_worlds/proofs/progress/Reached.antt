@@ -1,0 +1,85 @@
+-- Each FIFO world that moves lead to from the opening is explained by an order of records; no
+-- call in progress there is one that is refused at once, and each one is pursued.
+use Rattle.std.proofs.Common.{◌≡◌, ℕ, List, [], ◌∷◌, ◌++◌, length, slice_get, Some, sym, ap, ◌∙◌, inl, inr, subst}
+use Rattle.std.proofs.lemmas.Option.{none-some}
+use Rattle.ivy_model.specs.declared.Config.{Config}
+use Rattle.ivy_model.specs.declared.Record.{Record}
+use Rattle.ivy_model.specs.stated.Config.{IsConfig}
+use Rattle.ivy_pagetable.specs.stated.Manager.{Ops}
+use Rattle.ivy_pagetable.specs.Manager.{Laws}
+use Rattle.ivy_program.specs.stated.Programs.{Program}
+use Rattle.ivy_moves.specs.stated.FifoWorld.{FifoWorld, Steps, rests, turns, delivers}
+use Rattle.ivy_host.specs.stated.Hosts.{Host, host_rules}
+use Rattle.proof_worlds.specs.stated.FifoRuns.{IsFifoRun, IsReachedInOrder}
+use Rattle.proof_worlds.proofs.refinement.Led.{opening_first}
+use Rattle.proof_worlds.proofs.consistency.Faithful.{IsFaithful, set-places}
+use Rattle.proof_worlds.proofs.consistency.FaithfulSteps.{GoesOn, faithful_next}
+use Rattle.proof_worlds.proofs.consistency.FaithfulOpening.{opening_faithful}
+use Rattle.proof_worlds.proofs.progress.Asking.{IsServable, turn-served, serve-served}
+use Rattle.proof_worlds.proofs.progress.Pursued.{AllPursued, pursued_next}
+
+abbrev pub AllServable : {S : Type 0} → Config → FifoWorld (Host S) → Type 0
+AllServable {S} c o = (i : ℕ) (n : Host S) → slice_get o.cores i ≡ Some n → IsServable c n
+
+-- an order explains the world, no call in progress is refused at once, and each is pursued
+pub record IsToldBy {S : Type 0} (ops : Ops S) (c : Config) (o : FifoWorld (Host S)) : Type 0 where
+  pub order : List Record
+  pub faithful : IsFaithful ops c o order
+  pub servable : AllServable c o
+  pub pursued : AllPursued c o
+
+module _ {S : Type 0} (ops : Ops S) (laws : Laws ops) (c : Config) (config : IsConfig c)
+    (programs : List Program) (many : length programs ≡ c.nodes) where
+  servable_next : (o o' : FifoWorld (Host S)) (order : List Record) → IsFaithful ops c o order
+      → AllServable c o → Steps (host_rules ops) o o' → AllServable c o'
+  servable_next o o' order f served (rests same) j n there =
+      served j n (ap (λ (w : FifoWorld (Host S)). slice_get w.cores j) (sym same) ∙ there)
+  servable_next o o' order f served (turns i t) j n there =
+      elim (set-places o.cores i j t.outcome.after n
+      (ap (λ l. slice_get l j) (sym t.cores) ∙ there)) [
+        | inl here ↦
+            subst (IsServable c) (sym here.1)
+            (turn-served ops c t.core t.outcome (f.sound.sound i t.core t.there).config
+            (f.sound.sound i t.core t.there).memory.of_pages
+            (served i t.core t.there) t.turned)
+        | inr other ↦ served j n other.1
+      ]
+  servable_next o o' order f served (delivers source i t) j n there =
+      elim (set-places o.cores i j ((host_rules ops).serve t.core source t.message).after n
+      (ap (λ l. slice_get l j) (sym t.cores) ∙ there)) [
+        | inl here ↦
+            subst (IsServable c) (sym here.1)
+            (serve-served ops c t.core source t.message (served i t.core t.there))
+        | inr other ↦ served j n other.1
+      ]
+
+  run_told : (before : List (FifoWorld (Host S))) (o : FifoWorld (Host S))
+      → IsFifoRun ops c programs before o → IsToldBy ops c o
+  run_told [] o is =
+      subst (IsToldBy ops c) (sym is)
+      (record {
+        order = [];
+        faithful = opening_faithful ops laws c config programs many;
+        servable = λ i n there called code asked.
+            absurd (none-some called
+            (ap (λ (h : Host S). h.memory.asked)
+            (sym (opening_first ops c programs i n there).1) ∙ asked));
+        pursued = λ i n there called page w asked. absurd (none-some called
+            (ap (λ (h : Host S). h.memory.asked)
+            (sym (opening_first ops c programs i n there).1) ∙ asked));
+      })
+  run_told (last ∷ before) o run =
+      let was : IsToldBy ops c last = run_told before last run.0 in
+      let on : GoesOn ops c last o was.order =
+      faithful_next ops laws c config last o was.order was.faithful run.1 in
+      record {
+        order = was.order ++ on.more;
+        faithful = on.faithful;
+        servable = servable_next last o was.order was.faithful was.servable run.1;
+        pursued =
+            pursued_next ops laws c config last o was.order was.faithful was.pursued run.1;
+      }
+
+  pub reached_told : (o : FifoWorld (Host S)) → IsReachedInOrder ops c programs o
+      → IsToldBy ops c o
+  reached_told o reached = run_told reached.0 o reached.1

@@ -1,0 +1,4 @@
+pub mod stated
+pub mod consistency
+pub mod progress
+pub mod headline

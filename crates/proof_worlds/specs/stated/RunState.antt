@@ -1,0 +1,13 @@
+-- What contracts see of a world that runs.
+use Rattle.std.specs.Prelude.{List}
+use Rattle.ivy_model.specs.declared.Config.{Config}
+use Rattle.ivy_host.specs.stated.Managers.{Managed}
+use Rattle.ivy_program.specs.stated.Programs.{Program}
+use Rattle.ivy_moves.specs.stated.Worlds as worlds
+use Rattle.ivy_host.specs.stated.Hosts.{Host}
+
+-- a world with the configuration and the programs that it runs
+pub record Run : Type 0 where
+  pub config : Config
+  pub programs : List Program
+  pub world : worlds.World (Host Managed)

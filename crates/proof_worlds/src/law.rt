@@ -1,0 +1,40 @@
+//! The laws of deliveries and of breaches.
+ghost use Rattle.ivy_host.specs.stated.Managers.{managed_ops};
+ghost use Rattle.proof_worlds.specs.headline.OfRun.{NoneIsBreached};
+ghost use Rattle.proof_worlds.specs.progress.Answering.{DeliveriesAnswer};
+ghost use Rattle.proof_worlds.specs.progress.Ending.{DeliveriesEnd};
+ghost use Rattle.proof_worlds.specs.progress.Strings.{StringsEnd};
+
+/// A node of a world that moves led to has met no message that fits no rule. This is a fact, and the call does
+/// nothing.
+///
+/// It is said of what contracts show of a node. So a site that is shown as such a node has counted no breach: its
+/// `breaches` is 0.
+pub fn none_is_breached()
+    ensures { NoneIsBreached }
+{}
+
+/// Deliveries alone come to an end. This is a fact, and the call does nothing.
+///
+/// From each FIFO world that moves lead to from the opening of some programs, under either
+/// manager: whatever is delivered, in whatever order, while no node takes a turn and each message is
+/// delivered once, there are no more deliveries than `most_deliveries` of the nodes and of the work
+/// that the messages under way and put off make. And so in each world of strings that follows such an
+/// ordered one: whatever strings are delivered, in whatever order and however often, and whatever is
+/// sent again, no more of them than that are the next one for their node. It says nothing of time, nor
+/// of nodes that take turns meanwhile.
+pub fn deliveries_end()
+    ensures ordered { DeliveriesEnd managed_ops }
+    ensures strings { StringsEnd managed_ops }
+{}
+
+/// Deliveries answer the calls. This is a fact, and the call does nothing.
+///
+/// From each FIFO world that moves lead to from the opening of some programs, under either
+/// manager, and whatever is delivered: a message can be delivered next, or nothing is under way.
+/// Then each node has no call in progress, or a call that its next turn answers, or an await of a
+/// count that is below its least value; or an await of a count that has come to it, and its next turn
+/// asks for a copy of page 0, in which the counts lie, where the node has none.
+pub fn deliveries_answer()
+    ensures { DeliveriesAnswer managed_ops }
+{}

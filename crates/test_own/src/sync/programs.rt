@@ -1,0 +1,127 @@
+//! Whole programs. The other nodes run before the one that is tried, or their calls are made by hand.
+use crate::sync::common::{AsNode, expect_same, small};
+use example_programs::{AddsUp, Farm, Pipeline, Product, Stage};
+use ivy_calls::{SharedMemory, Work, advance_count, store};
+use ivy_sync::{Barrier, Lock, Queue};
+use std::process::Abort;
+use std::test::Fail;
+
+/// That a node of the program gives this. It gives the memory on.
+fn expect_given<W: Work<Out = u64>, M: SharedMemory>(
+    rt: &(impl Abort + Alloc),
+    work: &W,
+    me: u8,
+    memory: M,
+    wanted: u64,
+) -> M {
+    let mut node = AsNode::new(rt.alloc(), memory);
+    expect_same(rt, work.work(me, &mut node), Ok(wanted));
+    node.into_memory()
+}
+
+/// That a node of the program gives this list. It gives the memory on.
+fn expect_listed<W: Work<Out = Vec<u64>>, M: SharedMemory>(
+    rt: &(impl Abort + Alloc),
+    work: &W,
+    me: u8,
+    memory: M,
+    wanted: &[u64],
+) -> M {
+    let mut node = AsNode::new(rt.alloc(), memory);
+    let given = work.work(me, &mut node).expect(rt, "a list");
+    assert_eq!(rt; given.as_slice(), wanted);
+    node.into_memory()
+}
+
+/// A barrier of two at eventcount 0.
+const TWO: Barrier = Barrier {
+    count: 0,
+    nodes: 2,
+    passed: 0,
+};
+
+#[test]
+fn two_add_up(rt: HostRuntime) {
+    let mut memory = small(&rt, rt.alloc());
+    let work = AddsUp {
+        lock: Lock { addr: 64 },
+        sum: 72,
+        barrier: TWO,
+    };
+    expect_same(&rt, store(&mut memory, 72, 5u64), Ok(()));
+    expect_same(&rt, advance_count(&mut memory, 0), Ok(()));
+    let memory = expect_given(&rt, &work, 1, memory, 6);
+    let _memory = expect_given(&rt, &work, 0, memory, 6);
+}
+
+#[test]
+fn jobs_are_shared_out(rt: HostRuntime) {
+    let mut memory = small(&rt, rt.alloc());
+    let work = Farm {
+        next: 64,
+        jobs: 3,
+        alloc: rt.alloc(),
+    };
+    expect_same(&rt, store(&mut memory, 64, 1u64), Ok(()));
+    let memory = expect_listed(&rt, &work, 0, memory, &[1, 2]);
+    let _memory = expect_listed(&rt, &work, 1, memory, &[]);
+}
+
+/// Three times a number and one, modulo 2^64.
+#[derive(Drop)]
+struct TripledAndOne;
+
+impl Stage for TripledAndOne {
+    ghost use Rattle.std.specs.Prelude.{◌+◌, ◌*◌, ◌%◌, ◌^◌};
+
+    ghost gives = { λ _ n. (n * 3 % 2 ^ 64 + 1) % 2 ^ 64 };
+
+    fn apply(&self, number: u64) -> u64 {
+        number.wrapping_mul(3).wrapping_add(1)
+    }
+}
+
+#[test]
+fn three_stages(rt: HostRuntime) -> Result<(), Fail> {
+    let memory = small(&rt, rt.alloc());
+    let work = Pipeline {
+        values: vec![in rt.alloc(); 7, 0, u64::MAX]?,
+        stage: TripledAndOne,
+        first: Queue {
+            at: 64,
+            size: 3,
+            sent: 1,
+            taken: 2,
+        },
+        second: Queue {
+            at: 88,
+            size: 4,
+            sent: 3,
+            taken: 4,
+        },
+        alloc: rt.alloc(),
+    };
+    let memory = expect_listed(&rt, &work, 0, memory, &[]);
+    let memory = expect_listed(&rt, &work, 3, memory, &[]);
+    let memory = expect_listed(&rt, &work, 1, memory, &[]);
+    let _memory = expect_listed(&rt, &work, 2, memory, &[22, 1, 18446744073709551614]);
+    Ok(())
+}
+
+#[test]
+fn two_rows_of_a_product(rt: HostRuntime) -> Result<(), Fail> {
+    let mut memory = small(&rt, rt.alloc());
+    let work = Product {
+        left: vec![in rt.alloc(); 1, 2, 3, 4]?,
+        right: vec![in rt.alloc(); 5, 6, 7, 8]?,
+        addr: 64,
+        barrier: TWO,
+        alloc: rt.alloc(),
+    };
+    expect_same(&rt, store(&mut memory, 64, 5u64), Ok(()));
+    expect_same(&rt, store(&mut memory, 72, 6u64), Ok(()));
+    expect_same(&rt, advance_count(&mut memory, 0), Ok(()));
+    let memory = expect_listed(&rt, &work, 1, memory, &[43, 50]);
+    let _memory = expect_listed(&rt, &work, 0, memory, &[19, 22]);
+    Ok(())
+}

@@ -1,0 +1,291 @@
+//! Locks, barriers, queues, reductions, broadcasts, and what is done once. The other nodes' calls are made by
+//! hand, before those of the node that is tried.
+use crate::sync::common::{expect_same, small};
+use ivy_calls::{CallError, SharedMemory, advance_count, alloc, free, load, store};
+use ivy_model::{Call, Fault};
+use ivy_sync::{
+    Barrier, Broadcast, Lock, Once, Queue, Receiver, Reduction, Sender, SharedSender, SyncError,
+    TicketLock,
+};
+use std::process::Abort;
+
+/// That nobody else would ever end this await.
+fn unanswered(k: u64, least: u64) -> CallError {
+    CallError::Fault {
+        call: Call::Await { k, least },
+        fault: Fault::TurnLimit,
+    }
+}
+
+#[test]
+fn a_lock(rt: HostRuntime) {
+    let mut memory = small(&rt, rt.alloc());
+    let lock = Lock { addr: 64 };
+    for _ in 0..2 {
+        expect_same(&rt, lock.acquire(&mut memory), Ok(()));
+        expect_same(&rt, load(&mut memory, 64), Ok(1u64));
+        expect_same(&rt, lock.release(&mut memory), Ok(()));
+        expect_same(&rt, load(&mut memory, 64), Ok(0u64));
+    }
+    let misaligned = CallError::Refused {
+        call: Call::Swap {
+            width: 8,
+            addr: 65,
+            value: 1,
+        },
+        fault: Fault::Misaligned,
+    };
+    let nowhere = Lock { addr: 65 };
+    expect_same(
+        &rt,
+        nowhere.acquire(&mut memory),
+        Err(SyncError::Call(misaligned)),
+    );
+}
+
+#[test]
+fn a_lock_by_tickets(rt: HostRuntime) {
+    let mut memory = small(&rt, rt.alloc());
+    let lock = TicketLock { next: 64, turn: 3 };
+    expect_same(&rt, lock.acquire(&mut memory), Ok(0));
+    expect_same(&rt, lock.release(&mut memory), Ok(()));
+    expect_same(&rt, lock.acquire(&mut memory), Ok(1));
+    expect_same(&rt, lock.acquire(&mut memory), Err(unanswered(3, 2)));
+}
+
+#[test]
+fn a_barrier_over_and_over(rt: HostRuntime) {
+    let mut memory = small(&rt, rt.alloc());
+    let mut barrier = Barrier {
+        count: 1,
+        nodes: 2,
+        passed: 0,
+    };
+    for passed in [2, 4] {
+        expect_same(&rt, advance_count(&mut memory, 1), Ok(()));
+        expect_same(&rt, barrier.wait(&mut memory), Ok(()));
+        expect_same(&rt, barrier.passed, passed);
+    }
+    expect_same(
+        &rt,
+        barrier.wait(&mut memory),
+        Err(SyncError::Call(unanswered(1, 6))),
+    );
+    barrier.passed = u64::MAX;
+    expect_same(
+        &rt,
+        barrier.wait(&mut memory),
+        Err(SyncError::Spent { place: 1 }),
+    );
+}
+
+#[test]
+fn a_sum_of_two(rt: HostRuntime) {
+    let mut memory = small(&rt, rt.alloc());
+    expect_same(&rt, store(&mut memory, 72, 5u64), Ok(()));
+    expect_same(&rt, advance_count(&mut memory, 0), Ok(()));
+    let barrier = Barrier {
+        count: 0,
+        nodes: 2,
+        passed: 0,
+    };
+    let mut reduction = Reduction { addr: 64, barrier };
+    let sum = reduction.fold(&mut memory, 0, 7, 0u64, |sum: u64, value: u64| {
+        sum.wrapping_add(value)
+    });
+    expect_same(&rt, sum, Ok(12));
+}
+
+#[test]
+fn a_broadcast(rt: HostRuntime) {
+    let mut memory = small(&rt, rt.alloc());
+    let barrier = Barrier {
+        count: 2,
+        nodes: 2,
+        passed: 0,
+    };
+    let mut giver = Broadcast { addr: 64, barrier };
+    let mut getter = giver;
+    expect_same(&rt, advance_count(&mut memory, 2), Ok(()));
+    expect_same(&rt, giver.give(&mut memory, 9), Ok(()));
+    expect_same(&rt, getter.get(&mut memory), Ok(9));
+}
+
+/// That the values are sent one after another.
+fn expect_sent<M: SharedMemory>(
+    rt: &impl Abort,
+    memory: &mut M,
+    sender: &mut Sender,
+    values: [u64; 2],
+) {
+    for value in values {
+        assert!(rt; sender.queue.size == 2 && sender.queue.at == 64);
+        expect_same(rt, sender.send(memory, value), Ok(()));
+    }
+}
+
+/// That these values are taken.
+fn expect_taken<M: SharedMemory>(
+    rt: &impl Abort,
+    memory: &mut M,
+    receiver: &mut Receiver,
+    values: [u64; 2],
+) {
+    for value in values {
+        assert!(rt; receiver.queue.size == 2 && receiver.queue.at == 64);
+        expect_same(rt, receiver.take(memory), Ok(value));
+    }
+}
+
+#[test]
+fn a_queue_of_two_places(rt: HostRuntime) {
+    let mut memory = small(&rt, rt.alloc());
+    let queue = Queue {
+        at: 64,
+        size: 2,
+        sent: 4,
+        taken: 5,
+    };
+    let mut sender = Sender { queue, next: 0 };
+    let mut receiver = Receiver { queue, next: 0 };
+    for values in [[11, 12], [13, 14]] {
+        expect_sent(&rt, &mut memory, &mut sender, values);
+        expect_taken(&rt, &mut memory, &mut receiver, values);
+    }
+    expect_same(&rt, (sender.next, receiver.next), (4, 4));
+}
+
+#[test]
+fn a_queue_that_is_full_or_empty(rt: HostRuntime) {
+    let mut memory = small(&rt, rt.alloc());
+    let queue = Queue {
+        at: 64,
+        size: 1,
+        sent: 4,
+        taken: 5,
+    };
+    let mut sender = Sender { queue, next: 0 };
+    let mut receiver = Receiver { queue, next: 0 };
+    let empty = SyncError::Call(unanswered(4, 1));
+    expect_same(&rt, receiver.take(&mut memory), Err(empty));
+    expect_same(&rt, sender.send(&mut memory, 11), Ok(()));
+    let mut full = Sender { queue, next: 1 };
+    let no_room = SyncError::Call(unanswered(5, 1));
+    expect_same(&rt, full.send(&mut memory, 12), Err(no_room));
+    expect_same(&rt, full.next, 1);
+}
+
+/// That a value is sent by one of several senders.
+fn expect_shared<M: SharedMemory>(
+    rt: &impl Abort,
+    memory: &mut M,
+    sender: SharedSender,
+    value: u64,
+) {
+    assert!(rt; sender.queue.has_place());
+    expect_same(rt, sender.send(memory, value), Ok(()));
+}
+
+#[test]
+fn a_queue_of_two_senders(rt: HostRuntime) {
+    let mut memory = small(&rt, rt.alloc());
+    let queue = Queue {
+        at: 64,
+        size: 2,
+        sent: 4,
+        taken: 5,
+    };
+    let lock = Lock { addr: 80 };
+    let one = SharedSender { queue, lock };
+    let other = one;
+    let mut receiver = Receiver { queue, next: 0 };
+    for values in [[11, 12], [13, 14]] {
+        expect_shared(&rt, &mut memory, one, values[0]);
+        expect_shared(&rt, &mut memory, other, values[1]);
+        expect_taken(&rt, &mut memory, &mut receiver, values);
+    }
+    expect_same(&rt, load(&mut memory, 80), Ok(0u64));
+}
+
+#[test]
+fn what_is_made_in_a_used_block(rt: HostRuntime) {
+    let mut memory = small(&rt, rt.alloc());
+    expect_same(&rt, alloc(&mut memory, 24), Ok(64));
+    for addr in [64, 72, 80] {
+        expect_same(&rt, store(&mut memory, addr, 7u64), Ok(()));
+    }
+    expect_same(&rt, free(&mut memory, 64), Ok(()));
+    expect_same(&rt, Lock::alloc(&mut memory), Ok(Lock { addr: 64 }));
+    expect_same(
+        &rt,
+        TicketLock::alloc(&mut memory, 3),
+        Ok(TicketLock { next: 72, turn: 3 }),
+    );
+    expect_same(
+        &rt,
+        Once::alloc(&mut memory, 6),
+        Ok(Once { word: 80, done: 6 }),
+    );
+    for addr in [64, 72, 80] {
+        expect_same(&rt, load(&mut memory, addr), Ok(0u64));
+    }
+}
+
+#[test]
+fn what_is_made_of_several_words(rt: HostRuntime) {
+    let mut memory = small(&rt, rt.alloc());
+    let queue = Queue {
+        at: 64,
+        size: 3,
+        sent: 1,
+        taken: 2,
+    };
+    expect_same(&rt, Queue::alloc(&mut memory, 3, 1, 2), Ok(queue));
+    expect_same(&rt, queue.has_place(), true);
+    expect_same(&rt, Queue { size: 0, ..queue }.has_place(), false);
+    let barrier = Barrier {
+        count: 0,
+        nodes: 4,
+        passed: 0,
+    };
+    expect_same(
+        &rt,
+        Reduction::alloc(&mut memory, barrier),
+        Ok(Reduction { addr: 88, barrier }),
+    );
+    expect_same(
+        &rt,
+        Broadcast::alloc(&mut memory, barrier),
+        Ok(Broadcast { addr: 120, barrier }),
+    );
+}
+
+#[test]
+fn what_is_done_once(rt: HostRuntime) {
+    let mut memory = small(&rt, rt.alloc());
+    let once = Once { word: 64, done: 6 };
+    expect_same(&rt, once.begin(&mut memory), Ok(true));
+    expect_same(&rt, once.begin(&mut memory), Err(unanswered(6, 1)));
+    expect_same(&rt, once.finish(&mut memory), Ok(()));
+    expect_same(&rt, once.begin(&mut memory), Ok(false));
+}
+
+#[test]
+fn texts_of_errors(rt: HostRuntime) {
+    let texts = [
+        (SyncError::Spent { place: 3 }, "3 is spent"),
+        (
+            SyncError::Call(unanswered(3, 2)),
+            "Await { k: 3, least: 2 } was not answered: 21 TurnLimit",
+        ),
+    ];
+    for (error, wanted) in texts {
+        let text = format!(in rt.alloc(); "{error}").expect(&rt, "memory");
+        assert_eq!(rt; text.as_str(), wanted);
+    }
+    expect_same(
+        &rt,
+        Fault::from(SyncError::Spent { place: 3 }),
+        Fault::CountFull,
+    );
+}

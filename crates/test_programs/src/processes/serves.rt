@@ -1,0 +1,173 @@
+//! A node that serves over lines in memory.
+
+use crate::processes::common::{CONFIG, PROGRAMS, expect_same, expect_text, log_of, mail_of};
+use ivy_logs::LogKind;
+use ivy_model::Fault;
+use ivy_process::{Clockwork, Ending, Node, NodeFailure, NodeLimits, Streams, serve};
+use ivy_program::{Program, parse};
+use std::alloc::Global;
+use std::io::{self, Write};
+use std::process::Abort;
+use std::sync::Wait;
+
+const LIMITS: NodeLimits = NodeLimits {
+    pulse_millis: 20,
+    turns: 1000,
+    kept: 100,
+};
+
+/// A clock that stands.
+#[derive(Drop)]
+pub(crate) struct Stopped;
+
+impl Clockwork for Stopped {
+    fn millis(&self) -> u64 {
+        0
+    }
+}
+
+/// A log that has room for so many bytes.
+#[derive(Drop)]
+struct Paper {
+    bytes: Vec<u8>,
+    room: usize,
+}
+
+impl Write for Paper {
+    fn write(&mut self, bytes: &[u8]) -> io::Result<usize> {
+        let count = bytes.len().min(self.room.saturating_sub(self.bytes.len()));
+        self.bytes.extend_from_slice(&bytes[..count])?;
+        Ok(count)
+    }
+
+    fn flush(&mut self) -> io::Result<()> {
+        Ok(())
+    }
+}
+
+/// A node that serves, and what comes of it.
+#[derive(Clone, Copy)]
+struct Case<'a> {
+    me: u8,
+    /// The log that it is started again with, or nothing.
+    old: &'a str,
+    limits: NodeLimits,
+    /// How many bytes its log has room for.
+    room: usize,
+    lines: &'a [&'a str],
+    ending: Result<Ending, NodeFailure>,
+    /// So many lines had no frame.
+    bad_lines: u64,
+    /// What was written on its log, standard output and standard error.
+    log: &'a str,
+    out: &'a str,
+    err: &'a str,
+}
+
+/// Its input ends before it is answered.
+const WAITS: Case<'static> = Case {
+    me: 1,
+    old: "",
+    limits: LIMITS,
+    room: 1000,
+    lines: &[],
+    ending: Ok(Ending::Waits),
+    bad_lines: 0,
+    log: "ivy log 1 2 2 64 dynamic\nturns 2\n",
+    out: "0 REQUEST\n",
+    err: "",
+};
+
+const CASES: [Case<'static>; 6] = [
+    WAITS,
+    // A line without a frame, a frame for the other node, and one for this one.
+    Case {
+        me: 0,
+        lines: &["no frame", "1 REQUEST", "0 REQUEST"],
+        ending: Ok(Ending::Ended),
+        bad_lines: 1,
+        log: "ivy log 0 2 2 64 dynamic\ntook REQUEST\n",
+        out: "1 ANSWER\n",
+        err: "node 0 ended\n",
+        ..WAITS
+    },
+    // It was killed once it had asked.
+    Case {
+        old: "ivy log 1 2 2 64 dynamic\nturns 2\nto",
+        lines: &["1 ANSWER"],
+        ending: Ok(Ending::Ended),
+        log: "pulse 0\ntook ANSWER\nturns 2\n",
+        err: "node 1: 0\nnode 1 ended\n",
+        ..WAITS
+    },
+    // Nothing goes out where the log takes no more than its first line.
+    Case {
+        room: 25,
+        ending: Err(NodeFailure::Unlogged),
+        log: "ivy log 1 2 2 64 dynamic\n",
+        out: "",
+        ..WAITS
+    },
+    // Its program has made its last turn, and has not ended.
+    Case {
+        limits: NodeLimits { turns: 2, ..LIMITS },
+        ending: Err(NodeFailure::Refused(Fault::TurnLimit)),
+        ..WAITS
+    },
+    // Its request is not acknowledged.
+    Case {
+        limits: NodeLimits { kept: 0, ..LIMITS },
+        ending: Err(NodeFailure::Kept(0)),
+        ..WAITS
+    },
+];
+
+/// The program of a node.
+fn program_of(rt: &impl Abort, alloc: Global, me: u8) -> Program<Global> {
+    let mut programs = parse(alloc, PROGRAMS).expect(rt, "programs");
+    if me == 0 {
+        let _ = programs.pop();
+    }
+    programs.pop().expect(rt, "a program")
+}
+
+/// Has the node of a case serve, and asserts what comes of it.
+fn check_case<R: Abort + Wait>(rt: &R, alloc: Global, case: &Case<'_>) {
+    let (me, limits) = (case.me, case.limits);
+    assert!(rt; me < CONFIG.nodes);
+    let program = program_of(rt, alloc, me);
+    let mut log = Paper {
+        bytes: Vec::new(alloc),
+        room: case.room,
+    };
+    let inbox = mail_of(rt, alloc, case.lines);
+    let mut node = if case.old.is_empty() {
+        let begun = Node::start(alloc, &CONFIG, me, program, limits).expect(rt, "a node");
+        begun
+            .begin_log(LogKind::OfProgram, &mut log)
+            .expect(rt, "a log");
+        begun
+    } else {
+        let old = log_of(rt, alloc, case.old);
+        Node::restart(alloc, &CONFIG, me, program, limits, &old).expect(rt, "a node")
+    };
+    let mut streams = Streams {
+        inbox: &inbox,
+        log,
+        out: Vec::new(alloc),
+        err: Vec::new(alloc),
+    };
+    let ending = serve(rt, &Stopped, &mut node, &mut streams);
+    expect_same(rt, ending, case.ending);
+    expect_same(rt, node.told().bad_lines, case.bad_lines);
+    expect_text(rt, alloc, &streams.log.bytes, case.log);
+    expect_text(rt, alloc, &streams.out, case.out);
+    expect_text(rt, alloc, &streams.err, case.err);
+}
+
+#[test]
+fn nodes_serve(rt: HostRuntime) {
+    for case in &CASES {
+        check_case(&rt, rt.alloc(), case);
+    }
+}

@@ -1,0 +1,113 @@
+//! What is found in all orders of moves, and at standstills.
+
+use crate::scope::common::{Case, Told, check_each};
+use test_support::{File, programs};
+
+const FILES: [File; 5] = [
+    programs::STORE_BUFFERING,
+    // Each awaits what the other one advances after that.
+    File {
+        name: "deadlock.ivy",
+        text: "node 0\nset r1 1\nawait r2 r3 r1\nadvance r1\nnode 1\nset r1 1\nawait r2 r1 r1\nadvance r3\n",
+    },
+    // Nobody advances what node 0 awaits.
+    File {
+        name: "left.ivy",
+        text: "node 0\nset r1 7\nprint r1\nload 8 r2 r1\nawait r2 r0 r1\nnode 1\nadvance r0\n",
+    },
+    // Node 0 goes on for ever without a call.
+    File {
+        name: "circle.ivy",
+        text: "node 0\nset r1 7\nprint r1\nlabel a\njump a\nnode 1\n",
+    },
+    File {
+        name: "prints.ivy",
+        text: "node 0\nset r1 7\nprint r1\nnode 1\n",
+    },
+];
+
+const CASES: [Case<'static>; 9] = [
+    (
+        &["settle", "deadlock.ivy"],
+        5,
+        Told::Is(
+            "node 0, line 3: waits for count 0 to reach 1, and it is 0\n\
+             node 1, line 7: waits for count 1 to reach 1, and it is 0\n",
+        ),
+        Told::Is(""),
+    ),
+    (
+        &["settle", "prints.ivy"],
+        0,
+        Told::Is("node 0: 7\nnode 0 ended\nnode 1 ended\n"),
+        Told::Is(""),
+    ),
+    (
+        &["search", "prints.ivy", "--until", "node 0 prints 7"],
+        0,
+        Told::Is("# what was looked for, by 2 moves:\nturn 0\nturn 0\n"),
+        Told::Is(""),
+    ),
+    (
+        &["search", "prints.ivy", "--until", "node 0 says 7"],
+        2,
+        Told::Is(""),
+        Told::Is("ivyscope: `node 0 says 7` is not `node I prints X`\n"),
+    ),
+    // Of two nodes that store and load each other's word, at most one loads 0. Nobody waits at an end.
+    (
+        &["search", "store_buffering.ivy"],
+        0,
+        Told::HasBut(
+            &[
+                "outputs: node 0: 0, node 1: 1\n",
+                "outputs: node 0: 1, node 1: 0\n",
+                "outputs: node 0: 1, node 1: 1\n",
+                "at each of these ends all programs have ended\n",
+            ],
+            "node 0: 0, node 1: 0",
+        ),
+        Told::Is(""),
+    ),
+    // A text that deadlocks has an end at which a node waits.
+    (
+        &["search", "deadlock.ivy"],
+        0,
+        Told::Has(&["outputs: none\n", "# an end at which a node waits, by"]),
+        Told::Is(""),
+    ),
+    // A session that stands still ends at once.
+    (
+        &["run", "deadlock.ivy"],
+        5,
+        Told::Is(""),
+        Told::Is(
+            "node 0, line 3: waits for count 0 to reach 1, and it is 0\n\
+             node 1, line 7: waits for count 1 to reach 1, and it is 0\n",
+        ),
+    ),
+    // What was printed and refused before is told.
+    (
+        &["run", "left.ivy"],
+        5,
+        Told::Is("node 0: 7\n"),
+        Told::Is(
+            "node 0, line 4: load 8 at 7: 3 address no multiple of the width\n\
+             calls that were refused: 1\n\
+             node 0, line 5: waits for count 0 to reach 7, and it is 1\n\
+             node 1 ended\n",
+        ),
+    ),
+    // What was printed before the turns were used up is not lost.
+    (
+        &["run", "circle.ivy", "--turns", "200000"],
+        1,
+        Told::Is("node 0: 7\n"),
+        Told::Is("node 0 still going\nnode 1 ended\nivyscope: 21 TurnLimit\n"),
+    ),
+];
+
+#[test]
+fn searches(rt: HostRuntime) {
+    check_each(&rt, &FILES, &CASES);
+}

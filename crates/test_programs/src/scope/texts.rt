@@ -1,0 +1,149 @@
+//! What is said of texts and command lines: their faults, and where an order breaks.
+
+use crate::scope::common::{Case, Told, check_each};
+use test_support::File;
+
+const FILES: [File; 5] = [
+    File {
+        name: "four_faults.ivy",
+        text: "node 0\nlod 8 r1 r2   # a letter is missing\nset r16 1\nlabel a\njump b\nprint r1 r2\n",
+    },
+    File {
+        name: "sound.ivy",
+        text: "node 0\nnode 1\n",
+    },
+    File {
+        name: "short.schedule",
+        text: "trun 1\nturn 0\ndeliver 0\n",
+    },
+    File {
+        name: "odd.order",
+        text: "ivy order 2 2 64\n0 store 8 64 = done\n0 load 3 64 = value 0\n1 lod 8 64 = value 0\n",
+    },
+    File {
+        name: "stale.order",
+        text: "ivy order 2 2 64\n0 store 8 64 7 = done\n\n0 advance 0 = done\n1 load 8 64 = value 0\n",
+    },
+];
+
+const CASES: [Case<'static>; 14] = [
+    (
+        &["explain", "four_faults.ivy"],
+        2,
+        Told::Is(
+            "four_faults.ivy:2:1: expected a word that begins a line, perhaps `load`, found `lod`\n    \
+             lod 8 r1 r2   # a letter is missing\n    ^^^\n\
+             four_faults.ivy:3:5: expected a register, `r0` to `r15`, found `r16`\n    \
+             set r16 1\n        ^^^\n\
+             four_faults.ivy:5:6: expected the name of a label of this node, found `b`\n    \
+             jump b\n         ^\n\
+             four_faults.ivy:6:10: expected the end of the line, found `r2`\n    \
+             print r1 r2\n             ^^\n",
+        ),
+        Told::Is(""),
+    ),
+    (
+        &["explain", "sound.ivy"],
+        0,
+        Told::Is("sound.ivy: programs, and nothing is at fault\n"),
+        Told::Is(""),
+    ),
+    (
+        &["explain", "short.schedule"],
+        2,
+        Told::Is(
+            "short.schedule:1:1: expected a word that begins a line, perhaps `turn`, found `trun`\n    \
+             trun 1\n    ^^^^\n\
+             short.schedule:3:11: expected a number, 0 to 18446744073709551615, found the end of the line\n    \
+             deliver 0\n              ^\n",
+        ),
+        Told::Is(""),
+    ),
+    (
+        &["explain", "odd.order"],
+        2,
+        Told::Is(
+            "odd.order:2:14: expected a number, 0 to 18446744073709551615, found the end of the line\n    \
+             0 store 8 64 = done\n                 ^\n\
+             odd.order:3:8: expected a width: 1, 2, 4 or 8, found `3`\n    \
+             0 load 3 64 = value 0\n           ^\n\
+             odd.order:4:3: expected a call, perhaps `load`, found `lod`\n    \
+             1 lod 8 64 = value 0\n      ^^^\n",
+        ),
+        Told::Is(""),
+    ),
+    (
+        &["check", "stale.order"],
+        3,
+        Told::Is(
+            "not legal\nstale.order:5: 1 load 8 64 = value 0: one memory answers value 7 here\n",
+        ),
+        Told::Is(""),
+    ),
+    (
+        &["counts", "short.schedule"],
+        2,
+        Told::Is(""),
+        Told::Has(&[
+            "short.schedule:2:1: ",
+            "ivyscope: short.schedule is at fault\n",
+        ]),
+    ),
+    (
+        &["counts", "missing"],
+        2,
+        Told::Is(""),
+        Told::Is("ivyscope: cannot read missing\n"),
+    ),
+    (
+        &["--help"],
+        0,
+        Told::Has(&["  explain ", "  search ", "  settle "]),
+        Told::Is(""),
+    ),
+    (
+        &["search", "--help"],
+        0,
+        Told::Has(&[
+            "Usage: ivyscope search FILE [OPTIONS]\n",
+            "  --states ",
+            "(20000)\n",
+        ]),
+        Told::Is(""),
+    ),
+    (
+        &["chart", "--version"],
+        0,
+        Told::Is("ivyscope 1\n"),
+        Told::Is(""),
+    ),
+    (
+        &["shedule", "sound.ivy"],
+        2,
+        Told::Is(""),
+        Told::Is("ivyscope: bad command line: `shedule` is no command, perhaps `schedule`\n"),
+    ),
+    (
+        &["order", "sound.ivy", "--see", "1"],
+        2,
+        Told::Is(""),
+        Told::Is("ivyscope: bad command line: `order` has no option `--see`, perhaps `--seed`\n"),
+    ),
+    (
+        &["order", "sound.ivy", "--moves=1000001"],
+        2,
+        Told::Is(""),
+        Told::Is("ivyscope: bad command line: `--moves` is 1000000 at most\n"),
+    ),
+    (
+        &["run", "sound.ivy", "--manager", "dynamo"],
+        2,
+        Told::Is(""),
+        Told::Has(&["`dynamo`, perhaps `dynamic`\n"]),
+    ),
+];
+
+#[test]
+fn texts(rt: HostRuntime) {
+    check_each(&rt, &FILES, &CASES);
+}

@@ -1,0 +1,17 @@
+//! The programs of `first_load.ivy`. `tools/texts` writes this file from `examples/`.
+
+use crate::file::File;
+
+/// The text of `first_load.ivy`.
+pub const FIRST_LOAD: File = File {
+    name: "first_load.ivy",
+    text: "\
+# Node 1 loads a word that nobody wrote. Its page lies at node 0, so a copy is fetched.
+node 0
+
+node 1
+set r1 256          # the first word after page 0, where a page has 256 bytes
+load 8 r2 r1
+print r2
+",
+};

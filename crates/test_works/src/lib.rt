@@ -1,6 +1,0 @@
-//! Tests of the programs of `example_works`, each in the threads of a session. What two of them promise is proved there; of
-//! the others these tests hold that they work.
-#![tactic(auto)]
-
-#[cfg(test)]
-mod works;
