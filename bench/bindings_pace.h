@@ -7,7 +7,7 @@
 #include <stdlib.h>
 #include <time.h>
 
-enum { ROUNDS = 10, TIMES = 500 };
+enum { ROUNDS = 10, TIMES = 500, ROW = 200, PAGES = 256 };
 
 /* Microseconds, of all rounds. */
 typedef struct { double took[ROUNDS * TIMES]; int many; } samples;
@@ -72,6 +72,19 @@ static void miss(ivy_process *ivy, int me, uint64_t page, int round, samples *s)
   }
 }
 
+/* Node 0 stores in many pages and waits, and node 1 loads from one after another. */
+static void in_a_row(ivy_process *ivy, int me, uint64_t page, int round, samples *s) {
+  for (uint64_t k = 2; k < 2 + ROW && !me; k++) ivy_store(ivy, 8, k * page, k + (uint64_t)round);
+  if (!me) ivy_advance(ivy, 2);
+  ivy_await(ivy, me ? 2 : 3, (uint64_t)round + 1);
+  for (uint64_t k = 2; k < 2 + ROW && me; k++) {
+    double begun = now_us();
+    if (ivy_load(ivy, 8, k * page) != k + (uint64_t)round) wrong("a load of a row is wrong");
+    s->took[s->many++] = now_us() - begun;
+  }
+  if (me) ivy_advance(ivy, 3);
+}
+
 /* Each raises a number by turns, with the page in its hands: one fault that writes for each time that it goes over. */
 static void hand_over(ivy_process *ivy, int me, uint64_t page, int round, samples *s) {
   for (uint64_t i = (uint64_t)round * TIMES; i < ((uint64_t)round + 1) * TIMES; i++) {
@@ -97,6 +110,14 @@ static void plain(int me, size_t out, size_t back, double part, samples *s, void
 static void tell(const char *by, uint32_t page, const char *what, samples *ours, const char *beside, samples *plainly) {
   double own = median(ours), other = median(plainly);
   printf("%s, pages of %u: %s %.2f us, %s %.2f, ratio %.2f\n", by, page, what, own, beside, other, own / other);
+}
+
+/* What node 1 found. */
+static void tell_all(const char *by, uint32_t page, samples *missed, samples *rows, samples *exchanged) {
+  static samples again;
+  again = *exchanged;
+  tell(by, page, "a read miss", missed, "a request and its reply of the same bytes", exchanged);
+  tell(by, page, "a read miss of a row, whose owner waits", rows, "a request and its reply", &again);
 }
 
 #endif

@@ -1,5 +1,6 @@
 /* A read miss between two processes over UDP, beside the same bytes by a socket of its own with the same options, which
- * looks and then sleeps as bindings/c/ivy_udp.c does. Called with a port: it and three more are taken. */
+ * looks and then sleeps as bindings/c/ivy_udp.c does. Called with a port, of which it and three more are
+ * taken, the size of pages, and `thread` where progress is made by one. */
 #define _GNU_SOURCE
 #include "bindings_pace.h"
 #include <arpa/inet.h>
@@ -70,12 +71,13 @@ static void stay_at(int processor) {
   if (sched_setaffinity(0, sizeof one, &one)) fprintf(stderr, "bindings: processor %d is not to be had\n", processor);
 }
 
-static int run(int me, int port, uint32_t page) {
-  static samples missed, exchanged, handed, to_and_fro;
-  ivy_config config = { 2, 4, page, IVY_DYNAMIC };
+static int run(int me, int port, uint32_t page, ivy_progress progress) {
+  static samples missed, exchanged, rows, handed, to_and_fro;
+  const char *by = progress == IVY_BY_THREAD ? "UDP, by thread" : "UDP";
+  ivy_config config = { 2, PAGES, page, IVY_DYNAMIC };
   stay_at(me);
   open_own(port + 2, me);
-  ivy_process *ivy = ivy_join(&config, (uint32_t)me, measured(ivy_udp((uint32_t)me, 2, (uint16_t)port, 0, 0, 0)), IVY_IN_CALLS,
+  ivy_process *ivy = ivy_join(&config, (uint32_t)me, measured(ivy_udp((uint32_t)me, 2, (uint16_t)port, 0, 0, 0)), progress,
                               10000, 0);
   if (!ivy) return 2;
   for (int round = 0; round < ROUNDS; round++) {
@@ -83,15 +85,16 @@ static int run(int me, int port, uint32_t page) {
     if (me) both->asked = asked, both->answered = answered;
     settle(ivy);
     plain(me, both->asked, both->answered, 1, &exchanged, put, get);
+    in_a_row(ivy, me, page, round, &rows);
+    settle(ivy);
     hand_over(ivy, me, page, round, &handed);
     settle(ivy);
     plain(me, both->answered, both->answered, 0.5, &to_and_fro, put, get);
   }
   if (me) {
     printf("UDP: a request of %zu bytes, a reply of %zu\n", both->asked, both->answered);
-    tell("UDP", page, "a read miss", &missed, "a request and its reply of the same bytes", &exchanged);
-    tell("UDP", page, "a page handed to and fro by two that write by turns, one way", &handed, "a ping-pong one way",
-         &to_and_fro);
+    tell_all(by, page, &missed, &rows, &exchanged);
+    tell(by, page, "a page handed to and fro by two that write by turns, one way", &handed, "a ping-pong one way", &to_and_fro);
   }
   ivy_leave(ivy);
   return 0;
@@ -102,7 +105,8 @@ int main(int argc, char **argv) {
   uint32_t page = argc > 2 ? (uint32_t)atoi(argv[2]) : 1024;
   both = (volatile shared *)mmap(NULL, sizeof *both, PROT_READ | PROT_WRITE, MAP_SHARED | MAP_ANONYMOUS, -1, 0);
   if (both == MAP_FAILED) wrong("no memory");
-  int me = fork() == 0, mine = run(me, port, page);
+  ivy_progress progress = argc > 3 && !strcmp(argv[3], "thread") ? IVY_BY_THREAD : IVY_IN_CALLS;
+  int me = fork() == 0, mine = run(me, port, page, progress);
   if (!me) wait(&status);
   return mine || status;
 }

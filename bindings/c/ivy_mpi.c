@@ -1,27 +1,29 @@
 /* Strings over MPI. Not proved. */
 #define _POSIX_C_SOURCE 200809L
-#include "ivy_runtime.h"
-#include <mpi.h>
+#include "ivy_mpi.h"
+#include "ivy_inside.h"
 #include <stdlib.h>
 #include <time.h>
 
-enum { PLACES = 64, TAG = 1989 };
+enum { PLACES = 64, TAG_OF_STRINGS = 1989 };
 
-/* Who waits looks so often, and then sleeps so long between looks, since MPI has no wait that sleeps. It looks for 200
- * microseconds and more, so who asked while it slept, and sleeps too, finds it awake with the next request: a sleep takes 60.
- * To yield instead would give the other programs of a busy machine whole turns, while peers wait for a page. */
-enum { LOOKS = 2500, SLEEP_NS = 10000 };
+/* MPI has no wait that sleeps: who waits sleeps for so long a part of its time between looks, and no less or longer. */
+enum { PART = 20, LEAST_NAP_US = 10, MOST_NAP_US = 500 };
 
 /* A longer string goes in two pieces, the first of this length: Open MPI hands over what has at most 4,096 bytes with its own
  * head at once, and for more than that it asks the receiver first. */
 enum { PIECE = 4000 };
 
+/* Who closes waits so long at most for the others, of whom some may be dead. */
+static const double most_seconds = 5;
+
 /* Strings under way, with a place for one that is lost where all others are taken, and one that is to come beside the one
  * that came last. What is lost a pulse sends again. */
 typedef struct {
   uint8_t sent[PLACES + 1][IVY_STRING_MOST], came[2][IVY_STRING_MOST];
+  MPI_Comm own;
   MPI_Request under_way[PLACES][2], coming[2];
-  int place, next, looks;
+  int place, next;
 } mpi;
 
 /* The first place that is free, since its bytes are near the processor still. */
@@ -41,12 +43,12 @@ static void mpi_send(void *state, uint32_t to, size_t len) {
   uint8_t *bytes = m->sent[m->place];
   MPI_Request *under_way = m->under_way[m->place];
   int first = len < PIECE ? (int)len : PIECE;
-  MPI_Isend(bytes, first, MPI_BYTE, (int)to, TAG, MPI_COMM_WORLD, &under_way[0]);
-  if (first == PIECE) MPI_Isend(bytes + PIECE, (int)len - PIECE, MPI_BYTE, (int)to, TAG, MPI_COMM_WORLD, &under_way[1]);
+  MPI_Isend(bytes, first, MPI_BYTE, (int)to, TAG_OF_STRINGS, m->own, &under_way[0]);
+  if (first == PIECE) MPI_Isend(bytes + PIECE, (int)len - PIECE, MPI_BYTE, (int)to, TAG_OF_STRINGS, m->own, &under_way[1]);
 }
 
 /* A string that came, or null where none is there at this look. What follows a first piece is the next from its source. The
- * next string is asked for before it comes, so MPI puts it in its place at once. */
+ * next string is asked for before it comes, so MPI puts it in its place at once. One that names another source is none. */
 static const uint8_t *take(mpi *m, size_t *len) {
   MPI_Status status;
   int is_there = 0, first = 0, rest = 0;
@@ -54,27 +56,26 @@ static const uint8_t *take(mpi *m, size_t *len) {
   MPI_Test(&m->coming[m->next], &is_there, &status);
   if (!is_there) return NULL;
   MPI_Get_count(&status, MPI_BYTE, &first);
+  int from = status.MPI_SOURCE;
   if (first == PIECE) {
-    MPI_Recv(bytes + PIECE, IVY_STRING_MOST - PIECE, MPI_BYTE, status.MPI_SOURCE, TAG, MPI_COMM_WORLD, &status);
+    MPI_Recv(bytes + PIECE, IVY_STRING_MOST - PIECE, MPI_BYTE, from, TAG_OF_STRINGS, m->own, &status);
     MPI_Get_count(&status, MPI_BYTE, &rest);
   }
-  m->looks = LOOKS;
   m->next = !m->next;
   MPI_Start(&m->coming[m->next]);
   *len = (size_t)(first + rest);
-  return bytes;
+  return first > FROM_AT && bytes[FROM_AT] == from ? bytes : NULL;
 }
 
 static const uint8_t *mpi_receive(void *state, size_t *len, long wait_us) {
   mpi *m = (mpi *)state;
   const uint8_t *bytes = take(m, len);
   if (bytes || !wait_us) return bytes;
-  const struct timespec nap = { 0, SLEEP_NS };
+  long nap_us = wait_us / PART;
+  if (nap_us < LEAST_NAP_US) nap_us = LEAST_NAP_US;
+  if (nap_us > MOST_NAP_US) nap_us = MOST_NAP_US;
+  const struct timespec nap = { 0, nap_us * 1000 };
   double last = MPI_Wtime() + (double)wait_us / 1e6;
-  int is_main = 0;
-  MPI_Is_thread_main(&is_main);
-  if (is_main) m->looks = LOOKS; /* a thread beside the main one looks so often after a string alone: others compute */
-  for (; !bytes && m->looks > 0; m->looks--) bytes = take(m, len);
   while (!bytes && MPI_Wtime() < last) {
     nanosleep(&nap, NULL);
     bytes = take(m, len);
@@ -82,35 +83,91 @@ static const uint8_t *mpi_receive(void *state, size_t *len, long wait_us) {
   return bytes;
 }
 
-/* What is under way is received before all go: so each send ends. */
+/* What is under way is received before all go: so each send ends. Where others do not come, what MPI has of it stays. */
 static void mpi_close(void *state) {
   mpi *m = (mpi *)state;
   MPI_Request barrier;
+  double last = MPI_Wtime() + most_seconds;
   size_t len;
   int is_over = 0, is_sent = 0;
-  while (!is_sent) {
+  while (!is_sent && MPI_Wtime() < last) {
     MPI_Testall(2 * PLACES, m->under_way[0], &is_sent, MPI_STATUSES_IGNORE);
     take(m, &len);
   }
-  MPI_Ibarrier(MPI_COMM_WORLD, &barrier);
-  while (!is_over) {
+  MPI_Ibarrier(m->own, &barrier);
+  while (!is_over && MPI_Wtime() < last) {
     take(m, &len);
     MPI_Test(&barrier, &is_over, MPI_STATUS_IGNORE);
   }
+  if (!is_over || !is_sent) return;
   MPI_Cancel(&m->coming[m->next]);
   MPI_Wait(&m->coming[m->next], MPI_STATUS_IGNORE);
   for (int i = 0; i < 2; i++) MPI_Request_free(&m->coming[i]);
+  MPI_Comm_free(&m->own);
   free(m);
 }
 
-ivy_transport ivy_mpi(void) {
+ivy_transport ivy_mpi_over(MPI_Comm communicator) {
+  ivy_transport t = { NULL, NULL, NULL, NULL, NULL };
   mpi *m = (mpi *)malloc(sizeof *m);
-  if (!m) MPI_Abort(MPI_COMM_WORLD, 2);
+  int level = MPI_THREAD_SINGLE;
+  if (!m || MPI_Comm_dup(communicator, &m->own) != MPI_SUCCESS) {
+    fprintf(stderr, "ivy: mpi: the communicator is not to be had\n");
+    free(m);
+    return t;
+  }
+  MPI_Comm_set_errhandler(m->own, MPI_ERRORS_RETURN);
   for (int i = 0; i < PLACES; i++) m->under_way[i][0] = m->under_way[i][1] = MPI_REQUEST_NULL;
   for (int i = 0; i < 2; i++)
-    MPI_Recv_init(m->came[i], IVY_STRING_MOST, MPI_BYTE, MPI_ANY_SOURCE, TAG, MPI_COMM_WORLD, &m->coming[i]);
-  m->next = m->looks = 0;
+    MPI_Recv_init(m->came[i], IVY_STRING_MOST, MPI_BYTE, MPI_ANY_SOURCE, TAG_OF_STRINGS, m->own, &m->coming[i]);
+  m->next = 0;
   MPI_Start(&m->coming[0]);
-  ivy_transport t = { m, mpi_room, mpi_send, mpi_receive, mpi_close };
-  return t;
+  MPI_Query_thread(&level);
+  if (level < MPI_THREAD_MULTIPLE) ivy_in_for_one_thread = mpi_close;
+  const ivy_transport opened = { m, mpi_room, mpi_send, mpi_receive, mpi_close };
+  return opened;
+}
+
+uint32_t ivy_open_mpi(ivy_transport *transport, MPI_Comm communicator) {
+  *transport = ivy_mpi_over(communicator);
+  return transport->receive ? (uint32_t)IVY_DONE : (uint32_t)IVY_NO_TRANSPORT;
+}
+
+ivy_transport ivy_mpi(void) { return ivy_mpi_over(MPI_COMM_WORLD); }
+
+/* ---- By the environment ------------------------------------------------------------------------------------------------- */
+
+static int finalizes;
+
+/* Whether the launcher of some MPI has started this process. */
+static int is_by_mpi(void) {
+  int is_initialized = 0;
+  MPI_Initialized(&is_initialized);
+  return is_initialized || getenv("OMPI_COMM_WORLD_SIZE") || getenv("PMI_SIZE") || getenv("PMIX_RANK");
+}
+
+uint32_t ivy_init_mpi_as(int *argc, char ***argv, const ivy_config *config, ivy_process **process) {
+  int is_initialized = 0, level, me, nodes;
+  if (!is_by_mpi()) return ivy_init_as(argc, argv, config, process);
+  *process = NULL;
+  MPI_Initialized(&is_initialized);
+  if (!is_initialized) {
+    MPI_Init_thread(argc, argv, MPI_THREAD_MULTIPLE, &level);
+    finalizes = 1;
+  }
+  MPI_Comm_rank(MPI_COMM_WORLD, &me);
+  MPI_Comm_size(MPI_COMM_WORLD, &nodes);
+  return ivy_start_over(ivy_mpi(), (uint32_t)me, (uint32_t)nodes, config, process);
+}
+
+ivy_process *ivy_init_mpi(int *argc, char ***argv) {
+  ivy_process *process;
+  ivy_init_mpi_as(argc, argv, NULL, &process);
+  return process;
+}
+
+int ivy_finalize_mpi(ivy_process *process) {
+  int status = ivy_finalize(process);
+  if (finalizes) MPI_Finalize();
+  return status;
 }

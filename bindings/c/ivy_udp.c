@@ -1,17 +1,16 @@
 /* Strings over UDP on one machine, with loss, repeats and late ones drawn for tests. Not proved. */
 #define _POSIX_C_SOURCE 200809L
-#include "ivy_runtime.h"
+#include "ivy_inside.h"
 #include <arpa/inet.h>
+#include <errno.h>
 #include <netinet/in.h>
 #include <poll.h>
-#include <stdio.h>
 #include <stdlib.h>
 #include <string.h>
 #include <sys/socket.h>
 #include <unistd.h>
 
-/* Who waits looks so often, for longer than a reply takes, before it sleeps until a string comes. */
-enum { LOOKS = 50 };
+enum { MOST_PORT = 65535, BUFFER = 1 << 21 };
 
 typedef struct {
   int socket;
@@ -31,12 +30,17 @@ static unsigned draw(udp *u) {
   return (unsigned)(u->seed >> 33) % 100u;
 }
 
-static void put(udp *u, uint32_t to, const uint8_t *bytes, size_t len) {
+static struct sockaddr_in address_of(uint32_t port) {
   struct sockaddr_in address;
   memset(&address, 0, sizeof address);
   address.sin_family = AF_INET;
-  address.sin_port = htons((uint16_t)(u->port + to));
+  address.sin_port = htons((uint16_t)port);
   address.sin_addr.s_addr = htonl(INADDR_LOOPBACK);
+  return address;
+}
+
+static void put(udp *u, uint32_t to, const uint8_t *bytes, size_t len) {
+  struct sockaddr_in address = address_of(u->port + to);
   ssize_t sent = sendto(u->socket, bytes, len, MSG_DONTWAIT, (struct sockaddr *)&address, sizeof address);
   (void)sent; /* what is not sent is lost */
 }
@@ -63,20 +67,26 @@ static void udp_send(void *state, uint32_t to, size_t len) {
   }
 }
 
+/* Whether a string comes from the address and port of whom it names. */
+static int is_from(const udp *u, const struct sockaddr_in *address, size_t len) {
+  return address->sin_family == AF_INET && address->sin_addr.s_addr == htonl(INADDR_LOOPBACK) && len > FROM_AT
+         && ntohs(address->sin_port) == u->port + u->came[FROM_AT];
+}
+
 /* A string that came, or null. One that is longer than any of a node is none of a node still where it is cut. */
 static const uint8_t *take(udp *u, size_t *len) {
-  ssize_t came = recv(u->socket, u->came, sizeof u->came, MSG_DONTWAIT);
+  struct sockaddr_in address;
+  socklen_t room = sizeof address;
+  ssize_t came = recvfrom(u->socket, u->came, sizeof u->came, MSG_DONTWAIT, (struct sockaddr *)&address, &room);
   *len = (size_t)came;
-  return came > 0 ? u->came : NULL;
+  return came > 0 && is_from(u, &address, *len) ? u->came : NULL;
 }
 
 static const uint8_t *udp_receive(void *state, size_t *len, long wait_us) {
   udp *u = (udp *)state;
   const uint8_t *bytes = take(u, len);
-  if (!wait_us) return bytes;
-  for (int i = 0; !bytes && i < LOOKS; i++) bytes = take(u, len);
   struct pollfd one = { u->socket, POLLIN, 0 };
-  if (!bytes && poll(&one, 1, (int)((wait_us + 999) / 1000)) > 0) bytes = take(u, len);
+  if (!bytes && wait_us && poll(&one, 1, (int)((wait_us + 999) / 1000)) > 0) bytes = take(u, len);
   return bytes;
 }
 
@@ -86,26 +96,47 @@ static void udp_close(void *state) {
   free(u);
 }
 
-ivy_transport ivy_udp(uint32_t me, uint32_t nodes, uint16_t port, unsigned lost, unsigned twice, unsigned late) {
-  udp *u = (udp *)calloc(1, sizeof *u);
-  int room = 1 << 21;
-  struct sockaddr_in address;
-  (void)nodes;
-  memset(&address, 0, sizeof address);
-  address.sin_family = AF_INET;
-  address.sin_port = htons((uint16_t)(port + me));
-  address.sin_addr.s_addr = htonl(INADDR_LOOPBACK);
-  if (!u || (u->socket = socket(AF_INET, SOCK_DGRAM, 0)) < 0
-      || bind(u->socket, (struct sockaddr *)&address, sizeof address)) {
-    perror("ivy: udp");
-    exit(2);
+/* The port of node `me` is taken, and is kept from programs that this one starts. */
+static int open_socket(udp *u, uint32_t me, uint32_t port) {
+  struct sockaddr_in address = address_of(port + me);
+  int room = BUFFER;
+  u->socket = socket(AF_INET, SOCK_DGRAM | SOCK_CLOEXEC, 0);
+  if (u->socket < 0) return 0;
+  if (bind(u->socket, (struct sockaddr *)&address, sizeof address)) {
+    int why = errno;
+    close(u->socket);
+    errno = why;
+    return 0;
   }
   setsockopt(u->socket, SOL_SOCKET, SO_RCVBUF, &room, sizeof room);
-  u->port = port;
+  return 1;
+}
+
+uint32_t ivy_open_udp(ivy_transport *transport, uint32_t me, uint32_t nodes, uint32_t port, unsigned lost, unsigned twice,
+                      unsigned late) {
+  memset(transport, 0, sizeof *transport);
+  if (me >= nodes || nodes > MOST_NODES || port == 0 || port + nodes - 1 > MOST_PORT) {
+    fprintf(stderr, "ivy: udp: node %u of %u from port %u on: ports end at %d\n", me, nodes, port, MOST_PORT);
+    return IVY_NO_TRANSPORT;
+  }
+  udp *u = (udp *)calloc(1, sizeof *u);
+  if (!u || !open_socket(u, me, port)) {
+    fprintf(stderr, "ivy: udp: port %u: %s\n", port + me, strerror(errno));
+    free(u);
+    return IVY_NO_TRANSPORT;
+  }
+  u->port = (uint16_t)port;
   u->lost = lost;
   u->twice = twice;
   u->late = late;
   u->seed = 88172645463325252ull + me * 2654435761ull;
-  ivy_transport t = { u, udp_room, udp_send, udp_receive, udp_close };
-  return t;
+  const ivy_transport opened = { u, udp_room, udp_send, udp_receive, udp_close };
+  *transport = opened;
+  return IVY_DONE;
+}
+
+ivy_transport ivy_udp(uint32_t me, uint32_t nodes, uint16_t port, unsigned lost, unsigned twice, unsigned late) {
+  ivy_transport transport;
+  ivy_open_udp(&transport, me, nodes, port, lost, twice, late);
+  return transport;
 }

@@ -18,7 +18,7 @@ static void add_one(ivy_process *ivy, uint64_t address) { ivy_store(ivy, 8, addr
 
 static void add_up(example *e) {
   for (int round = 0; round < ROUNDS; round++) {
-    ivy_lock_acquire(e->ivy, spin);
+    if (!ivy_lock_try(e->ivy, spin)) ivy_lock_acquire(e->ivy, spin);
     add_one(e->ivy, by_spin);
     ivy_lock_release(e->ivy, spin);
     ivy_ticket_lock_acquire(e->ivy, tickets);
@@ -51,13 +51,14 @@ int main(int argc, char **argv) {
   expect(&e, "the sum under a lock", ivy_load(e.ivy, 8, by_spin), 1000 + ROUNDS * e.nodes);
   expect(&e, "the sum by tickets", ivy_load(e.ivy, 8, by_tickets), ROUNDS * e.nodes);
   send_and_take(&e);
-  ivy_broadcast number = { given, meet };
+  const ivy_broadcast number = { given, &meet };
   if (e.me == 0) ivy_broadcast_give(e.ivy, &number, 42);
   else expect(&e, "what was given", ivy_broadcast_get(e.ivy, &number), 42);
-  ivy_reduction all = { agreed, number.barrier };
+  const ivy_reduction all = { agreed, &meet };
   uint64_t greatest = ivy_reduction_fold(e.ivy, &all, e.me, e.me + 1, 0, ivy_greatest);
   expect(&e, "the greatest", greatest, e.nodes);
-  e.rounds = all.barrier.passed / e.nodes;
+  expect(&e, "the phases that passed", meet.passed, 3 * (uint64_t)e.nodes); /* of the one barrier, by whatever it was passed */
+  e.rounds = meet.passed / e.nodes;
   barrier(&e);
   if (e.me == 0) printf("together: %u nodes\n", e.nodes);
   end_example(&e);

@@ -26,7 +26,8 @@ static int bad_arguments(void) {
   if (ivy_next_frame(&node, small, 1, &len, &dest) != IVY_CLOSED || ivy_turns(&node, &value) != IVY_CLOSED) return 3;
   if (ivy_kept_set(&node, &what) != IVY_CLOSED || ivy_owed_set(&node, &what) != IVY_CLOSED) return 15;
   if (ivy_open(&node, 1, 16, 256, 0, 0) != IVY_BAD_CONFIG || ivy_open(&node, 257, 16, 256, 0, 0) != IVY_BAD_CONFIG) return 4;
-  if (ivy_open(&node, 2, 16, 100, 0, 0) != IVY_BAD_CONFIG || ivy_open(&node, 2, 16, 256, 7, 0) != IVY_BAD_CONFIG) return 5;
+  if (ivy_open(&node, 2, 16, 100, 0, 0) != IVY_BAD_CONFIG || ivy_open(&node, 2, 16, 256, 7, 0) != IVY_BAD_ARGUMENT) return 5;
+  if (ivy_open(&node, 2, 65537, 256, 0, 0) != IVY_BAD_CONFIG || ivy_open(&node, 2, 1, 256, 0, 0) != IVY_BAD_CONFIG) return 5;
   if (ivy_open(&node, 2, 16, 256, 0, 2) != IVY_BAD_ARGUMENT || ivy_open(&node, 2, 16, 256, 0, 256) != IVY_BAD_ARGUMENT) return 6;
   if (node.at || ivy_open(&node, 2, 16, 256, 0, 1) || ivy_open(&node, 2, 16, 256, 0, 1) != IVY_OPEN) return 7;
   if (ivy_begin(&node, 10, 8, 256, 0, 0, &value) != IVY_BAD_ARGUMENT) return 8;

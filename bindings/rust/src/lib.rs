@@ -2,6 +2,10 @@
 //! owes. The wrapper is tested and not proved; what it calls is proved.
 use std::fmt;
 
+mod process;
+
+pub use process::{Guard, Number, Process};
+
 mod header {
     #[repr(C)]
     pub struct Handle {
@@ -73,6 +77,13 @@ impl fmt::Display for Status {
             274 => "a call is in progress already",
             301 => "no call is in progress",
             304 => "no such kind, width, node or manager",
+            400 => "a peer is dead",
+            401 => "others are not here",
+            402 => "a peer has another configuration",
+            403 => "the others are in a run with another process as this node",
+            404 => "the log takes no more",
+            405 => "there is no transport",
+            407 => "the key cannot be used",
             _ => return write!(f, "status {}", self.0),
         };
         f.write_str(text)

@@ -40,7 +40,7 @@ part_most f (suc n) i l =
           let e : f i ≡ f n = ap f same in omega (arith, e)
     ]
 
-sum_most : (f : ℕ → ℕ) (n most : ℕ) → ((i : ℕ) → i < n → f i ≤ most) → sum_up_to f n ≤ n * most
+pub sum_most : (f : ℕ → ℕ) (n most : ℕ) → ((i : ℕ) → i < n → f i ≤ most) → sum_up_to f n ≤ n * most
 sum_most f zero most h = omega arith
 sum_most f (suc n) most h =
     let e = sum_most f n most (λ i l. h i (omega arith)) in

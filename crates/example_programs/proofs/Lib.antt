@@ -2,6 +2,9 @@ pub mod Summing
 pub mod Drawing
 pub mod Farming
 pub mod Piping
+pub mod Calling
+pub mod Making
+pub mod Turning
 pub mod Multiplying
 pub mod Elected
 pub mod Keeping

@@ -1,5 +1,6 @@
 -- A node that tries to enter.
-use Rattle.std.proofs.Common.{◌≡◌, ℕ, ◌+◌, ◌-◌, ◌^◌, ◌<◌, List, [], ◌∷◌, ◌++◌, refl, ap, append_assoc, ◌∙◌}
+use Rattle.std.proofs.Common.{◌≡◌, ◌≢◌, ℕ, ◌+◌, ◌-◌, ◌^◌, ◌<◌, inl, List, [], ◌∷◌, ◌++◌, refl, ap}
+use Rattle.std.proofs.Common.{append_assoc, ◌∙◌}
 use Rattle.std.specs.List.{AllByRecursion as Each}
 use Rattle.ivy_calls.specs.declared.answer.Answer.{Answer}
 use Rattle.ivy_sync.specs.Doing.{loads, stores}
@@ -38,6 +39,14 @@ tries_on lock me r old mid new h try more = record {
       ∙ append_assoc old (stores (wish_of lock me) 1 ∷ stores lock.turn (1 - me) ∷ h.tries)
       (r ∷ []);
 }
+
+-- the other node was found to want to enter
+pub tries_wish : (lock : Peterson) (me at wish : ℕ) (old mid new : List Answer)
+    → HasTried lock me old mid → at ≡ wish_of lock (1 - me) → wish ≢ 0
+    → new ≡ mid ++ loads at wish ∷ [] → HasTried lock me old new
+tries_wish lock me at wish old mid new h is wants more =
+    tries_on lock me (loads at wish) old mid new h (inl (wish, wants, ap (λ (x : ℕ). loads x wish) is))
+    more
 
 -- and it is let in
 pub is_let_in : (lock : Peterson) (me : ℕ) (r : Answer) (old mid new : List Answer)

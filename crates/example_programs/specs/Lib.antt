@@ -1,6 +1,9 @@
 pub mod AddsUp
 pub mod Farm
 pub mod Pipeline
+pub mod RollCall
+pub mod MadeLock
+pub mod Turns
 pub mod Matrices
 pub mod Product
 pub mod Adding

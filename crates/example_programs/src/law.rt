@@ -2,8 +2,11 @@
 //! these is a fact, and the call does nothing.
 ghost use Rattle.example_programs.specs.AddsUp.{AllReadTheSum};
 ghost use Rattle.example_programs.specs.Farm.{EachJobOnce};
+ghost use Rattle.example_programs.specs.MadeLock.{MadeLocksExclude};
 ghost use Rattle.example_programs.specs.Pipeline.{PipelinesMap};
 ghost use Rattle.example_programs.specs.Product.{ProductsByRows};
+ghost use Rattle.example_programs.specs.RollCall.{AllAreCalled};
+ghost use Rattle.example_programs.specs.Turns.{OneTicketAtATime, OneTurnAtATime};
 
 /// All nodes read the sum of their numbers.
 pub fn all_read_the_sum()
@@ -23,4 +26,24 @@ pub fn pipelines_map()
 /// Each node gives its row of the product of two matrices.
 pub fn products_by_rows()
     ensures { ProductsByRows }
+{}
+
+/// All give the address of one lock, at no point do two nodes hold it, and in the end it is free.
+pub fn made_locks_exclude()
+    ensures { MadeLocksExclude }
+{}
+
+/// Node 0 gives each node's number once, and nothing else.
+pub fn all_are_called()
+    ensures { AllAreCalled }
+{}
+
+/// At no point has the turn of two nodes come that drew tickets.
+pub fn one_ticket_at_a_time()
+    ensures { OneTicketAtATime }
+{}
+
+/// At no point are two nodes inside that come in by their numbers.
+pub fn one_turn_at_a_time()
+    ensures { OneTurnAtATime }
 {}

@@ -1,10 +1,9 @@
-//! Programs of own code, most with a theorem: sums, job farms, pipelines, matrices, an election.
+//! Programs of own code, most with a theorem: sums, farms, pipelines, roll calls, turns, locks, matrices, an election.
 //!
 //! They are written to be read: `docs/PROGRAMS.md` goes through one of them.
 //!
-//! Programs of own code, as a user of this library writes them: they name the public surface alone. Two have a theorem
-//! of their own, of every order that explains what the nodes were answered: that all nodes elect the same one, and that
-//! of two nodes which exclude each other by loads and stores no two are inside at once.
+//! They name the public surface alone, as a user's programs do. A theorem holds of every order that explains what the
+//! nodes were answered. Most follow from a law of `ivy_sync`.
 //!
 //! `crates/test_own` runs each in the threads of a session.
 #![tactic(auto)]
@@ -13,20 +12,29 @@ mod adds_up;
 mod election;
 mod farm;
 mod law;
+mod made_lock;
 mod matrix;
 mod peterson;
 mod pipeline;
 mod product;
 mod readers_writer;
+mod roll_call;
+mod turns;
 mod work_queue;
 
 pub use adds_up::AddsUp;
 pub use election::{Election, all_name_one, elect};
 pub use farm::Farm;
-pub use law::{all_read_the_sum, each_job_once, pipelines_map, products_by_rows};
+pub use law::{
+    all_are_called, all_read_the_sum, each_job_once, made_locks_exclude, one_ticket_at_a_time,
+    one_turn_at_a_time, pipelines_map, products_by_rows,
+};
+pub use made_lock::MadeLock;
 pub use matrix::Matrices;
 pub use peterson::{Peterson, TwoCount, count, no_two_inside, none_is_lost};
 pub use pipeline::{Pipeline, Stage};
 pub use product::Product;
 pub use readers_writer::{Ledger, ReadersWriter};
+pub use roll_call::RollCall;
+pub use turns::{ByNumbers, ByTickets};
 pub use work_queue::{Squares, WorkQueue};

@@ -43,7 +43,8 @@ uint32_t ivy_version(void); /* of the library: compare it with IVY_VERSION */
  * in the memory; it is over either way. IVY_PENDING says that a call is in progress, also one for which memory ran out as
  * it began. After each other status the node is as it was before the function was called, and what the pointers lead to
  * is not to be used. */
-typedef enum ivy_status {
+typedef uint32_t ivy_status;
+enum {
   IVY_DONE = 0,
   IVY_MISALIGNED = 3,       /* the address is no multiple of the width */
   IVY_OUT_OF_RANGE = 4,     /* the address is past the heap */
@@ -55,7 +56,7 @@ typedef enum ivy_status {
   IVY_NOT_A_BLOCK = 10,     /* no live block begins at the address */
   /* From here on: 256 and the number of a fault that is no reply of the memory. */
   IVY_MEMORY = 257,         /* malloc gave no memory: try again */
-  IVY_BAD_CONFIG = 258,
+  IVY_BAD_CONFIG = 258,     /* the configuration is out of its limits */
   IVY_SHORT_FRAME = 267,    /* 267 to 272: these bytes are no frame of this configuration */
   IVY_BAD_MAGIC = 268,
   IVY_BAD_VERSION = 269,
@@ -71,7 +72,7 @@ typedef enum ivy_status {
   IVY_BAD_ARGUMENT = 304,   /* no such kind, width, node or manager */
   IVY_CLOSED = 305,         /* the handle has no node */
   IVY_OPEN = 306            /* the handle has a node already */
-} ivy_status;
+};
 
 /* The name of a status; never null. */
 static inline const char *ivy_status_text(uint32_t status) {
@@ -86,7 +87,7 @@ static inline const char *ivy_status_text(uint32_t status) {
     case IVY_NO_ROOM: return "no room in the heap";
     case IVY_NOT_A_BLOCK: return "no live block begins at the address";
     case IVY_MEMORY: return "no memory";
-    case IVY_BAD_CONFIG: return "the configuration is out of its limits";
+    case IVY_BAD_CONFIG: return "not 2 to 32 nodes, 2 to 65536 pages, or a power of two from 64 to 4096 bytes a page";
     case IVY_SHORT_FRAME: return "no frame: too short";
     case IVY_BAD_MAGIC: return "no frame: other first bytes";
     case IVY_BAD_VERSION: return "no frame: another version";
@@ -109,7 +110,11 @@ static inline const char *ivy_status_text(uint32_t status) {
 /* ---- A node ----------------------------------------------------------------------------------------------------- */
 
 typedef struct { void *at; } ivy_node;
-#define IVY_NONE { 0 }
+#define IVY_NONE { 0 } /* what a node begins as; to be assigned it is ivy_none() */
+static inline ivy_node ivy_none(void) {
+  ivy_node none = IVY_NONE;
+  return none;
+}
 
 typedef enum ivy_manager {
   IVY_FIXED = 0,  /* a fixed node for each page keeps who owns it */
@@ -119,8 +124,10 @@ typedef enum ivy_manager {
 /* No frame of a configuration is longer. */
 #define IVY_FRAME_MOST(page_size) ((size_t)(page_size) + 41u)
 
-/* Opens node `me` of 2 to 32 `nodes`, with 2 to 256 pages of a power of two from 64 to 4,096 bytes: IVY_DONE, MEMORY,
- * BAD_CONFIG, BAD_ARGUMENT (no such node or manager), OPEN. After any but IVY_DONE the handle is as it was. */
+/* Opens node `me` of 2 to 32 `nodes`, with 2 to 65,536 pages of a power of two from 64 to 4,096 bytes; of more than 256
+ * pages each is made when it is first used. The first of these that holds: OPEN, BAD_ARGUMENT (no such manager),
+ * BAD_CONFIG (out of these limits), BAD_ARGUMENT (no such node); else IVY_DONE, or MEMORY. After any but IVY_DONE the
+ * handle is as it was. */
 uint32_t ivy_open(ivy_node *node, uint32_t nodes, uint32_t pages, uint32_t page_size, uint32_t manager, uint32_t me);
 
 /* Frees all that a node has. A handle without one stays as it is. */

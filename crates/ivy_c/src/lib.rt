@@ -3,12 +3,14 @@
 //! `include/ivy.h` says what a program in C owes, and what each status leaves.
 #![tactic(auto)]
 
-ghost use Rattle.std.specs.Prelude.{◌≡◌, ◌≢◌, None, Some, MatchOption, length};
+ghost use Rattle.std.specs.Prelude.{◌≡◌, ◌≢◌, ◌<◌, None, Some, MatchOption, length};
 ghost use Rattle.std.specs.Mem.{manually_drop_value};
 ghost use Rattle.ivy_model.specs.declared.Config.{Config};
 ghost use Rattle.ivy_model.specs.declared.Row.TheVariants.{Loads, Stores};
 ghost use Rattle.ivy_embedded.specs.Nodes.{first_embedded};
-ghost use Rattle.ivy_embedded.specs.Exports.{Answers, Begins, BeginsBlock, CarriesOut, Delivers, IsConfigOf, IsRequest, Polls, Pulses, RefusesCall, RefusesPoll, RefusesPulse, RefusesString, TakesAt, TakesBlock, TellsWant};
+ghost use Rattle.ivy_embedded.specs.Blocks.{BeginsAll, LoadsAll, StoresAll, TakesAll};
+ghost use Rattle.ivy_embedded.specs.Exports.{Answers, Begins, BeginsBlock, CarriesOut, Delivers, IsRequest, Polls, Pulses, RefusesCall, RefusesPoll, RefusesPulse, RefusesString, TakesAt, TakesBlock, TellsWant};
+ghost use Rattle.ivy_embedded.specs.Openings.{Names, RefusesOpening};
 ghost use Rattle.ivy_embedded.specs.Peers.{KeepsFor, OwesTo, TellsThose};
 ghost use Rattle.ivy_embedded.specs.Turns.{TellsTurns};
 
@@ -18,7 +20,7 @@ pub use handle::{Handle, Held};
 use handle::{end, held};
 use ivy_embedded::{
     BAD_ARGUMENT, BAD_CONFIG, CLOSED, DONE, Embedded, MEMORY, NO_CALL, NO_FRAME, OPEN, PENDING,
-    SHORT_BUFFER, TakenString, call_of, config_of, status_of, tell, verdict_number,
+    SHORT_BUFFER, TakenString, call_of, config_of, manager_of, status_of, tell, verdict_number,
 };
 use ivy_model::Row;
 use std::alloc::Global;
@@ -53,6 +55,9 @@ pub extern "C" fn ivy_version() -> u32
 }
 
 /// Opens node `me` of a configuration in a handle that has none. It has made no call yet.
+///
+/// OPEN where the handle has a node. Else the first that holds: BAD_ARGUMENT where there is no such manager, BAD_CONFIG where
+/// the configuration is out of its limits, BAD_ARGUMENT where it has no such node. Else DONE, or MEMORY.
 #[unsafe(no_mangle)]
 pub extern "C" fn ivy_open(
     alloc: Global,
@@ -63,12 +68,16 @@ pub extern "C" fn ivy_open(
     manager: u32,
     me: u32,
 ) -> u32
-    ensures done { result ≡ DONE → (c : Config) × IsConfigOf nodes pages page_size manager c × (handle.old.held ≡ None) × (handle.new.held ≡ Some (first_embedded c me)) }
+    ensures done { result ≡ DONE → (c : Config) × Names nodes pages page_size manager c × (me < c.nodes) × (handle.old.held ≡ None) × (handle.new.held ≡ Some (first_embedded c me)) }
     ensures same { result ≢ DONE → handle.new.held ≡ handle.old.held }
+    ensures refused { result ≢ DONE → RefusesOpening nodes pages page_size manager me result handle.old.held }
 {
     if let Some(node) = take(alloc, handle) {
         put(alloc, handle, node);
         return OPEN;
+    }
+    if manager_of(manager).is_none() {
+        return BAD_ARGUMENT;
     }
     let Some(config) = config_of(nodes, pages, page_size, manager) else {
         return BAD_CONFIG;
@@ -160,6 +169,7 @@ pub extern "C" fn ivy_load_block(
     words: &mut usize,
 ) -> u32
     ensures loads { Answers result handle.old.held handle.new.held (CarriesOut Loads addr into.new result words.new) (λ _. ⊥) }
+    ensures many { LoadsAll addr (length into.old) words.new handle.old.held }
     ensures sized { length into.new ≡ length into.old }
 {
     let Some(mut node) = take(alloc, handle) else {
@@ -180,7 +190,8 @@ pub extern "C" fn ivy_store_block(
     from: &[u8],
     words: &mut usize,
 ) -> u32
-    ensures { Answers result handle.old.held handle.new.held (CarriesOut Stores addr from.now result words.new) (λ _. ⊥) }
+    ensures stores { Answers result handle.old.held handle.new.held (CarriesOut Stores addr from.now result words.new) (λ _. ⊥) }
+    ensures many { StoresAll addr (length from.now) words.new handle.old.held }
 {
     let Some(mut node) = take(alloc, handle) else {
         return CLOSED;
@@ -200,7 +211,8 @@ fn begin_block(
     bytes: &[u8],
     words: &mut usize,
 ) -> u32
-    ensures { Answers result handle.old.held handle.new.held (BeginsBlock kind addr bytes.now result words.new) (λ _. TellsWant result) }
+    ensures begins { Answers result handle.old.held handle.new.held (BeginsBlock kind addr bytes.now result words.new) (λ _. TellsWant result) }
+    ensures many { BeginsAll kind addr (length bytes.now) result words.new handle.old.held }
 {
     let Some(mut node) = take(alloc, handle) else {
         return CLOSED;
@@ -227,7 +239,8 @@ pub extern "C" fn ivy_begin_load_block(
     room: &[u8],
     words: &mut usize,
 ) -> u32
-    ensures { Answers result handle.old.held handle.new.held (BeginsBlock Loads addr room.now result words.new) (λ _. TellsWant result) }
+    ensures begins { Answers result handle.old.held handle.new.held (BeginsBlock Loads addr room.now result words.new) (λ _. TellsWant result) }
+    ensures many { BeginsAll Loads addr (length room.now) result words.new handle.old.held }
 {
     begin_block(alloc, handle, Row::Loads, addr, room, words)
 }
@@ -242,7 +255,8 @@ pub extern "C" fn ivy_begin_store_block(
     from: &[u8],
     words: &mut usize,
 ) -> u32
-    ensures { Answers result handle.old.held handle.new.held (BeginsBlock Stores addr from.now result words.new) (λ _. TellsWant result) }
+    ensures begins { Answers result handle.old.held handle.new.held (BeginsBlock Stores addr from.now result words.new) (λ _. TellsWant result) }
+    ensures many { BeginsAll Stores addr (length from.now) result words.new handle.old.held }
 {
     begin_block(alloc, handle, Row::Stores, addr, from, words)
 }
@@ -258,6 +272,7 @@ pub extern "C" fn ivy_take_load_block(
     words: &mut usize,
 ) -> u32
     ensures taken { Answers result handle.old.held handle.new.held (TakesBlock Loads addr into.new result words.new) (λ _. ⊥) }
+    ensures many { TakesAll Loads addr into.old words.new handle.old.held }
     ensures sized { length into.new ≡ length into.old }
 {
     let Some(mut node) = take(alloc, handle) else {
@@ -278,7 +293,8 @@ pub extern "C" fn ivy_take_store_block(
     from: &[u8],
     words: &mut usize,
 ) -> u32
-    ensures { Answers result handle.old.held handle.new.held (TakesBlock Stores addr from.now result words.new) (λ _. ⊥) }
+    ensures taken { Answers result handle.old.held handle.new.held (TakesBlock Stores addr from.now result words.new) (λ _. ⊥) }
+    ensures many { TakesAll Stores addr from.now words.new handle.old.held }
 {
     let Some(mut node) = take(alloc, handle) else {
         return CLOSED;

@@ -1,11 +1,13 @@
 -- The memory that a program is tested on.
-use Rattle.std.specs.Prelude.{◌≡◌, ℕ, ◌<◌, ◌⊎◌, List, map, refl}
+use Rattle.std.specs.Prelude.{◌≡◌, ℕ, ◌<◌, ◌⊎◌, List, map, refl, slice_get, Some}
 use Rattle.std.specs.Coded.{Coded, code_by, coded×, coded_list}
+use Rattle.ivy_model.specs.declared.call.CallKind.{CallKind}
+use Rattle.ivy_model.specs.declared.call.CallKind.TheVariants.{Await}
 use Rattle.ivy_model.specs.declared.fault.Fault.{Fault}
-use Rattle.ivy_model.specs.declared.fault.Fault.TheVariants.{Memory, TurnLimit}
+use Rattle.ivy_model.specs.declared.fault.Fault.TheVariants as reason
 use Rattle.ivy_model.specs.Flat.{FlatState, flat_state_code}
 use Rattle.ivy_model.specs.stated.Legal.{ServesAll}
-use Rattle.ivy_model.specs.stated.Memory.{first}
+use Rattle.ivy_model.specs.stated.Memory.{Memory, first}
 use Rattle.ivy_calls.specs.declared.answer.Answer.{Answer}
 use Rattle.ivy_calls.specs.contracts.answer.Answer.{the_row}
 use Rattle.ivy_calls.specs.Answers.{by}
@@ -26,6 +28,11 @@ abbrev pub AreFlat : FlatState → List Answer → Type 0
 AreFlat flat answers = (me : ℕ) → me < flat.config.nodes
     → ServesAll flat.config (first flat.config) (map (by me) answers) flat.memory
 
+-- the call is an await of more than the count, which nobody else can end
+abbrev pub IsEndless : Memory → CallKind → Type 0
+IsEndless m (Await k least) = (count : ℕ) × (slice_get m.counts k ≡ Some count) × (count < least)
+IsEndless m _ = ⊥
+
 -- memory ran out, or the call is an await that nobody else can end
 abbrev pub IsLack : Fault → Type 0
-IsLack fault = (fault ≡ Memory) ⊎ (fault ≡ TurnLimit)
+IsLack fault = (fault ≡ reason.Memory) ⊎ (fault ≡ reason.TurnLimit)

@@ -1,4 +1,5 @@
-ghost use Rattle.std.specs.Prelude.{◌≡◌, [], IfOk, IsOkUnless};
+ghost use Rattle.std.specs.Prelude.{◌≡◌, [], IfErr, IfOk, IsOkUnless};
+ghost use Rattle.ivy_model.specs.stated.Accesses.{kind_of_call};
 ghost use Rattle.ivy_model.specs.stated.Config.{IsConfig};
 ghost use Rattle.ivy_model.specs.stated.Memory.{first};
 ghost use Rattle.ivy_calls.specs.Alone.{AreFlat};
@@ -12,8 +13,8 @@ use std::marker::Model;
 /// One flat memory with no other node, on which a program can be tested.
 ///
 /// Each reply is the flat memory's. An [`Call::Await`] of more than the count, which nobody else will ever
-/// advance, is not answered but fails with 21, as a session's does whose turns run out. Any call may fail
-/// with 1, where memory for a block or for the list of answers was refused.
+/// advance, is not answered but fails with 21, as a session's does whose turns run out. No other call does. Any
+/// call may fail with 1, where memory for a block or for the list of answers was refused.
 #[derive(Drop)]
 pub struct Alone<A: Allocator> {
     flat: Flat<A>,
@@ -55,13 +56,20 @@ impl<A: Allocator + Copy> Alone<A> {
 }
 
 impl<A: Allocator + Copy> SharedMemory for Alone<A> {
-    ghost use Rattle.ivy_calls.specs.Alone.{IsLack};
+    ghost use Rattle.ivy_model.specs.stated.Legal.{HasWidth};
+    ghost use Rattle.ivy_calls.specs.Alone.{IsEndless, IsLack};
+    ghost use Rattle.ivy_calls.specs.Answers.{Adds};
 
     ghost answers = { λ a. a.answers };
 
     ghost can_fail = { λ _ fault. IsLack fault };
 
-    fn call(&mut self, call: Call) -> Result<Reply, Fault> {
+    fn call(&mut self, call: Call) -> Result<Reply, Fault>
+        requires width { HasWidth call }
+        ensures made { IfOk result (λ reply. Adds call reply self.old.answers self.new.answers) }
+        ensures failed { IfErr result (λ fault. (self.new.answers ≡ self.old.answers) × IsLack fault) }
+        ensures endless { IfErr result (λ fault. fault ≡ Fault.TurnLimit → IsEndless self.old.flat.memory (kind_of_call call)) }
+    {
         self.answers.reserve(1)?;
         let Some(reply) = self.flat.serve(call)? else {
             return Err(Fault::TurnLimit);

@@ -1,1 +1,2 @@
 mod StringRuns
+mod Noting

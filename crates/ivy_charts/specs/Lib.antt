@@ -1,3 +1,4 @@
 pub mod Sent
 pub mod Tallies
 pub mod Heard
+pub mod Noted

@@ -54,7 +54,7 @@ fn about_of(message: &Message<&[u8]>) -> About {
 impl RunHead {
     /// What the frame of a string says [2, 11 to 16].
     pub fn read(config: &Config, bytes: &[u8]) -> Result<RunHead, Fault> {
-        config.check()?;
+        config.check_wide()?;
         let frame = read_frame(config, bytes)?;
         Ok(RunHead {
             kind: frame.kind(),

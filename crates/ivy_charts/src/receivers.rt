@@ -1,7 +1,8 @@
 //! Which messages each delivery brought to be served: the rule of the link, told from the strings alone.
-ghost use Rattle.std.specs.Prelude.{◌≡◌, ◌≢◌, ◌<◌, ◌+◌, ◌-◌, ◌^◌, IfOk, IfSome};
+ghost use Rattle.std.specs.Prelude.{◌≡◌, ◌≢◌, ◌<◌, ◌+◌, ◌-◌, ◌^◌, IfOk, IfSome, OnErr, OnOk};
 ghost use Rattle.ivy_link.specs.declared.Verdict.TheVariants.{Next};
 ghost use Rattle.ivy_charts.specs.Heard.{delivered_of, held_of, verdict_of, Follows, Serves};
+ghost use Rattle.ivy_charts.specs.Noted.{Delivers, Hears, Holds, NotesTheSame};
 
 use crate::head::RunHead;
 use ivy_link::{MOST_AHEAD, Verdict};
@@ -85,17 +86,26 @@ impl Receivers {
         }
     }
 
-    /// So many messages of a node were delivered to another: strings of their numbers are held no more.
-    fn deliver(&mut self, to: u64, source: u8, count: u64) -> Result<(), AllocError> {
+    /// So many messages of a node were delivered to another: strings of their numbers are held no more. Or nothing changes.
+    fn deliver(&mut self, to: u64, source: u8, count: u64) -> Result<(), AllocError>
+        ensures done { OnOk result (Delivers to source count self.old self.new) }
+        ensures refused { OnErr result (NotesTheSame self.old self.new) }
+    {
+        self.delivered.reserve(1)?;
         self.held.retain(|held| held.to != to || held.source != source || held.number > count);
         self.delivered
             .retain(|pair| pair.to != to || pair.source != source);
-        self.delivered.push(Delivered { to, source, count })?;
+        self.delivered
+            .push_reserved(Delivered { to, source, count });
         Ok(())
     }
 
-    /// Holds the string of a frame that came before its turn, where that is not too early.
-    fn hold(&mut self, to: u64, place: usize, head: &RunHead) -> Result<(), AllocError> {
+    /// Holds the string of a frame that came before its turn, where that is not too early. Or nothing changes.
+    fn hold(&mut self, to: u64, place: usize, head: &RunHead) -> Result<(), AllocError>
+        requires { 0 < head.now.number }
+        ensures done { OnOk result (Holds to place head.now self.old self.new) }
+        ensures refused { OnErr result (NotesTheSame self.old self.new) }
+    {
         let count = self.delivered(to, head.source);
         let is_near = head.number.saturating_sub(count) <= MOST_AHEAD as u64;
         let before = head.number.saturating_sub(1);
@@ -133,7 +143,7 @@ impl Receivers {
     }
 
     /// The string at a place among all sent comes to a node. The messages that the node serves then are added to those
-    /// served, by their places.
+    /// served, by their places; and it is noted how many messages came to the node so far, and which strings are held.
     pub fn hear(
         &mut self,
         to: u64,
@@ -144,6 +154,8 @@ impl Receivers {
         ensures verdict { IfOk result (λ verdict. verdict ≡ verdict_of self.old to head.now) }
         ensures others { IfOk result (λ verdict. verdict ≢ Next → served.new.items ≡ served.old.items) }
         ensures next { IfOk result (λ verdict. verdict ≡ Next → Serves self.old to place head.now served.old.items served.new.items) }
+        ensures notes { IfOk result (λ verdict. Hears verdict to place head.now served.old.items served.new.items self.old self.new) }
+        ensures refused { OnErr result (NotesTheSame self.old self.new) }
     {
         let verdict = self.verdict(to, head);
         match verdict {

@@ -1,16 +1,15 @@
 -- What the exports answer, and what they do to the node of a handle. A status below 256 is a reply
 -- of the memory; one from there on is none, and where it is no PENDING either, the node is as it
 -- was.
-use Rattle.std.specs.Prelude.{◌≡◌, ◌≢◌, ◌⊎◌, ℕ, ◌+◌, ◌*◌, ◌<◌, ◌≤◌, List, [], ◌∷◌, ◌++◌, take, length, slice_get, Option, None, Some, IfSome, MatchOption, MatchResult}
+use Rattle.std.specs.Prelude.{◌≡◌, ◌≢◌, ◌⊎◌, ℕ, ◌+◌, ◌*◌, ◌<◌, ◌≤◌, List, [], ◌∷◌, ◌++◌, take, length, slice_get, Option, None, Some, IfSome, IsSomeAnd, MatchResult}
 use Rattle.ivy_model.specs.declared.Call.{Call}
 use Rattle.ivy_model.specs.declared.Call.TheVariants.{Load, Store, Swap, Cas, FetchAdd, Count, Advance, Await, Alloc, Free}
-use Rattle.ivy_model.specs.declared.Config.{Config}
 use Rattle.ivy_model.specs.declared.Fault.{Fault}
-use Rattle.ivy_model.specs.declared.Kind.{Kind}
-use Rattle.ivy_model.specs.declared.Kind.TheVariants.{Fixed, Dynamic}
+use Rattle.ivy_model.specs.declared.Fault.TheVariants.{Busy, Memory}
 use Rattle.ivy_model.specs.declared.Reply.{Reply}
 use Rattle.ivy_model.specs.declared.Reply.TheVariants.{Value, Done, Refused}
 use Rattle.ivy_model.specs.declared.Row.{Row}
+use Rattle.ivy_model.specs.stated.Legal.{HasWidth}
 use Rattle.ivy_model.specs.stated.Numbers.{fault_number}
 use Rattle.ivy_model.specs.Rows.{calls_of, numbers_in, row}
 use Rattle.ivy_model.specs.Wants.{RanOut}
@@ -20,13 +19,14 @@ use Rattle.ivy_link.specs.declared.Verdict.{Verdict}
 use Rattle.ivy_link.specs.declared.Verdict.TheVariants as verdict
 use Rattle.ivy_moves.specs.stated.Nodes.{pulsing}
 use Rattle.ivy_program.specs.OwnCode.{IsFree}
-use Rattle.ivy_host.specs.stated.Hosts.{number_of}
+use Rattle.ivy_host.specs.stated.Hosts.{number_of, turn_of}
+use Rattle.ivy_host.specs.stated.Managers.{managed_ops}
 use Rattle.ivy_site.specs.Calls.{AreAnswered, AreTaken, BeginsRow, IsCallOf}
 use Rattle.ivy_site.specs.Handed.{site_handed}
 use Rattle.ivy_site.specs.SiteView.{SiteView, after_pulse_to}
 use Rattle.ivy_site.specs.Sites.{AfterDelivery, SiteTurns}
 use Rattle.ivy_embedded.specs.Nodes.{Embedded, waiting_in}
-use Rattle.ivy_embedded.specs.declared.status.TheConstants.{DONE, PENDING, CLOSED, MEMORY, BUSY, NO_CALL, BAD_ARGUMENT, NO_FRAME, SHORT_BUFFER, FIXED, DYNAMIC}
+use Rattle.ivy_embedded.specs.declared.status.TheConstants.{DONE, PENDING, CLOSED, MEMORY, BUSY, NO_CALL, BAD_ARGUMENT, NO_FRAME, SHORT_BUFFER}
 use Rattle.ivy_embedded.specs.declared.status.TheConstants.{LOAD, STORE, SWAP, COMPARE_AND_SWAP, FETCH_AND_ADD, COUNT, ADVANCE, AWAIT, ALLOCATE, FREE}
 
 -- these numbers ask for this call
@@ -49,15 +49,14 @@ IsRequest kind width place operand expected (Await k least) =
 IsRequest kind width place operand expected (Alloc size) = (kind ≡ ALLOCATE) × (size ≡ operand)
 IsRequest kind width place operand expected (Free addr) = (kind ≡ FREE) × (addr ≡ place)
 
--- the number names the kind of manager
-abbrev pub IsManager : ℕ → Kind → Type 0
-IsManager number Fixed = number ≡ FIXED
-IsManager number Dynamic = number ≡ DYNAMIC
+-- the kind is none of an access to a word
+abbrev pub IsNoAccess : ℕ → Type 0
+IsNoAccess kind = (kind ≢ LOAD) × (kind ≢ STORE) × (kind ≢ SWAP) × (kind ≢ COMPARE_AND_SWAP)
+    × (kind ≢ FETCH_AND_ADD)
 
--- the numbers are those of the configuration
-abbrev pub IsConfigOf : ℕ → ℕ → ℕ → ℕ → Config → Type 0
-IsConfigOf nodes pages page_size manager c = (c.nodes ≡ nodes) × (c.pages ≡ pages)
-    × (c.page_size ≡ page_size) × IsManager manager c.manager
+-- no call of a legal width is asked for
+abbrev pub AsksNone : (Call → Type 0) → Type 0
+AsksNone Asked = (call : Call) → Asked call → HasWidth call → ⊥
 
 -- a turn, after which the reply to this call is recorded, once
 pub record Replies (call : Call) (reply : Reply) (old new : SiteView) : Type 0 where
@@ -65,19 +64,24 @@ pub record Replies (call : Call) (reply : Reply) (old new : SiteView) : Type 0 w
   pub recorded : new.node.core.history ≡ old.node.core.history
       ++ record { node = number_of old.node.core; call = call; reply = reply } ∷ []
 
--- nothing changed, or a turn that recorded no reply
+-- a turn in which no reply is recorded
 abbrev pub Waits : SiteView → SiteView → Type 0
-Waits old new =
-    (new ≡ old) ⊎ (SiteTurns old new × (new.node.core.history ≡ old.node.core.history))
+Waits old new = SiteTurns old new × (new.node.core.history ≡ old.node.core.history)
 
--- a turn of a node that has a call: it gave this reply, or none yet
+-- the node's turn changes nothing, by the definitions
+abbrev pub IsIdle : SiteView → SiteView → Type 0
+IsIdle old new = (turn_of managed_ops old.node.core ≡ None) × (new ≡ old)
+
+-- the turn of a node that has a call: it gave this reply, or none yet
 abbrev pub AfterCall : Option Reply → SiteView → SiteView → Type 0
-AfterCall None old new = Waits old new
+AfterCall None old new = IsIdle old new ⊎ Waits old new
 AfterCall (Some reply) old new = (call : Call) × IsCallOf old call × Replies call reply old new
 
--- the call is handed in, and the node has a turn
+-- the call is handed in, and the node has a turn, or none where memory or numbers ran out: the next
+-- turn is its first then
 abbrev pub AfterBegin : Call → Option Reply → SiteView → SiteView → Type 0
-AfterBegin call None old new = Waits (site_handed ((call ∷ []) ∷ []) old) new
+AfterBegin call None old new =
+    (new ≡ site_handed ((call ∷ []) ∷ []) old) ⊎ Waits (site_handed ((call ∷ []) ∷ []) old) new
 AfterBegin call (Some reply) old new = Replies call reply (site_handed ((call ∷ []) ∷ []) old) new
 
 -- the status, and the value, which was the one before, tell the reply
@@ -112,27 +116,37 @@ TellsWant status = (fault : Fault) × RanOut fault × IsStatus status fault
 abbrev pub OfSite : (SiteView → SiteView → Type 0) → Embedded → Embedded → Type 0
 OfSite Does s t = (t.first ≡ s.first) × Does s.site t.site
 
--- the call of these numbers is handed in, and the status tells what came of it
+-- each call of the node has its reply
+abbrev pub HasNoCall : SiteView → Type 0
+HasNoCall s = IsFree s.node.core.process
+
+-- the call of these numbers is handed in, where each before has its reply, and the status tells what
+-- came of it
 abbrev pub Begins : (Call → Type 0) → ℕ → ℕ → ℕ → Embedded → Embedded → Type 0
 Begins Asked status before value s t = (call : Call) × Asked call × (progress : Option Reply)
     × TellsProgress progress status before value × OfSite (AfterBegin call progress) s t
+    × HasNoCall s.site
 
--- why a call is not begun: no memory; the one before is in progress; there is no such call
+-- with this fault: the one before is in progress; or there is no memory
+abbrev pub IsBeginFault : Fault → SiteView → Type 0
+IsBeginFault fault s =
+    ((fault ≡ Busy) × (HasNoCall s → ⊥)) ⊎ ((fault ≡ Memory) × HasNoCall s)
+
+-- why a call is not begun: there is no such call; the one before is in progress; no memory
 abbrev pub RefusesCall : (Call → Type 0) → ℕ → Embedded → Type 0
-RefusesCall Asked status s = (status ≡ MEMORY)
-    ⊎ ((status ≡ BUSY)
-    × ((IsFree s.site.node.core.process × (s.site.node.core.memory.asked ≡ None)) → ⊥))
-    ⊎ (status ≡ BAD_ARGUMENT)
+RefusesCall Asked status s = ((status ≡ BAD_ARGUMENT) × AsksNone Asked)
+    ⊎ ((status ≡ BUSY) × (HasNoCall s.site → ⊥))
+    ⊎ ((status ≡ MEMORY) × HasNoCall s.site)
 
 -- the call in progress is asked for its reply
 abbrev pub Polls : ℕ → ℕ → ℕ → Embedded → Embedded → Type 0
 Polls status before value s t = (progress : Option Reply)
     × TellsProgress progress status before value × OfSite (AfterCall progress) s t
+    × (HasNoCall s.site → ⊥)
 
 -- why it has none: memory or numbers ran out; each call has its reply
 abbrev pub RefusesPoll : ℕ → Embedded → Type 0
-RefusesPoll status s =
-    TellsWant status ⊎ ((status ≡ NO_CALL) × IsFree s.site.node.core.process)
+RefusesPoll status s = TellsWant status ⊎ ((status ≡ NO_CALL) × HasNoCall s.site)
 
 -- so many words in a row from the address on, whose bytes stand at the head of the buffer, were
 -- loaded or stored, each by a call that was answered in the turn in which it began, and the same
@@ -193,15 +207,16 @@ RefusesPulse to status s = (status ≡ MEMORY)
 abbrev pub ChangesWaiting : Embedded → Embedded → Type 0
 ChangesWaiting s t = t.site ≡ record s.site { waiting = t.site.waiting }
 
--- the first string that waits stands at the head of the buffer, and waits no more
+-- the first string that waits stands at the head of the buffer, of just this length, and waits no
+-- more
 abbrev pub Gives : List ℕ → ℕ → ℕ → Embedded → Embedded → Type 0
 Gives buffer len dest s t = (waiting_in s ≡ take len buffer ∷ waiting_in t)
-    × IfSome (dest_of (take len buffer)) (λ d. dest ≡ d)
+    × IfSome (dest_of (take len buffer)) (λ d. dest ≡ d) × (len ≤ length buffer)
 
--- the first string that waits is longer than the buffer, and all wait as before
+-- a string waits, the first has this length and is longer than the buffer, and all wait as before
 abbrev pub IsTooLong : List ℕ → ℕ → Embedded → Embedded → Type 0
 IsTooLong buffer len s t = (waiting_in t ≡ waiting_in s) × (length buffer < len)
-    × IfSome (slice_get (waiting_in s) 0) (λ string. len ≡ length string)
+    × IsSomeAnd (slice_get (waiting_in s) 0) (λ string. len ≡ length string)
 
 -- what came of a look for a string, at an open handle
 abbrev pub Takes : ℕ → List ℕ → ℕ → ℕ → Embedded → Embedded → Type 0

@@ -8,14 +8,15 @@ ghost use Rattle.ivy_model.specs.Wants.{RanOut};
 ghost use Rattle.ivy_moves.specs.stated.Nodes.{pulsing};
 ghost use Rattle.ivy_program.specs.OwnCode.{IsFree};
 ghost use Rattle.ivy_memory.specs.AtOnce.{IsStored, row_at_hand};
-ghost use Rattle.ivy_site.specs.Calls.{AreAnswered, AreTaken, BeginsRow, MayCallInRow, MayCallTogether, row_together};
+ghost use Rattle.ivy_memory.specs.BatchedReplies.{left_in};
+ghost use Rattle.ivy_site.specs.Calls.{AreAnswered, AreTaken, BeginsRow, MayCallInRow, MayCallTogether, MayTakeRow, row_together};
 ghost use Rattle.ivy_site.specs.SiteView.{after_pulse_to};
 ghost use Rattle.ivy_site.specs.Handed.{site_handed};
 ghost use Rattle.ivy_site.specs.Sites.{AfterDelivery, IsSpentTurn};
 ghost use Rattle.ivy_wire.specs.stated.DecodeErrors.{checked};
 ghost use Rattle.ivy_embedded.specs.Taking.{IsTaken};
 ghost use Rattle.ivy_embedded.specs.Nodes.{first_embedded, waiting_in};
-ghost use Rattle.ivy_embedded.specs.Exports.{AfterCall, AfterBegin, ChangesWaiting, OfSite};
+ghost use Rattle.ivy_embedded.specs.Exports.{AfterCall, AfterBegin, ChangesWaiting, IsBeginFault, OfSite};
 ghost use Rattle.ivy_embedded.specs.Turns.{CountsTurns};
 ghost use Rattle.ivy_embedded.specs.Peers.{AreThose, KeepsFor, OwesTo};
 ghost use Rattle.ivy_pagetable.specs.stated.NodeSets.{nodes_with};
@@ -89,8 +90,8 @@ fn begin(site: &mut Site<Global>, turns: &mut u64, call: Call) -> Result<Option<
     requires counts { CountsTurns turns.old site.old.events }
     ensures counted { CountsTurns turns.new site.new.events }
     ensures done { MatchResult result (λ progress. AfterBegin call progress site.old site.new) (λ _. site.new ≡ site.old) }
-    ensures busy { result ≡ Err Fault.Busy → (IsFree site.old.node.core.process × (site.old.node.core.memory.asked ≡ None)) → ⊥ }
-    ensures few { IfErr result (λ fault. (fault ≡ Fault.Memory) ⊎ (fault ≡ Fault.Busy)) }
+    ensures free { IfOk result (λ _. IsFree site.old.node.core.process) }
+    ensures refused { IfErr result (λ fault. IsBeginFault fault site.old) }
 {
     if !site.is_free() {
         return Err(Fault::Busy);
@@ -140,8 +141,8 @@ impl Embedded {
     pub fn begin(&mut self, call: Call) -> Result<Option<Reply>, Fault>
         requires width { HasWidth call }
         ensures done { MatchResult result (λ progress. OfSite (AfterBegin call progress) self.old self.new) (λ _. self.new ≡ self.old) }
-        ensures busy { result ≡ Err Fault.Busy → (IsFree self.old.site.node.core.process × (self.old.site.node.core.memory.asked ≡ None)) → ⊥ }
-        ensures few { IfErr result (λ fault. (fault ≡ Fault.Memory) ⊎ (fault ≡ Fault.Busy)) }
+        ensures free { IfOk result (λ _. IsFree self.old.site.node.core.process) }
+        ensures refused { IfErr result (λ fault. IsBeginFault fault self.old.site) }
     {
         begin(&mut self.site, &mut self.turns, call)
     }
@@ -223,6 +224,7 @@ impl Embedded {
     /// has room, and it says how many. Else it takes none, and nothing was done.
     #[tactic(auto, using(crate::proofs::Counting::counted_taken))]
     pub fn take_loads(&mut self, addr: u64, into: &mut [u8]) -> usize
+        ensures many { MayTakeRow Loads addr into.old self.old.site → result ≡ left_in self.old.site.node.core.memory }
         ensures taken { OfSite (AreTaken (row Loads self.old.site.me addr (numbers_in result into.new))) self.old self.new }
         ensures fits { 8 * result ≤ length into.new }
         ensures sized { length into.new ≡ length into.old }
@@ -237,6 +239,7 @@ impl Embedded {
     /// Takes the replies to stores of the words of the buffer in a row from an address on, as [`Embedded::take_loads`] does.
     #[tactic(auto, using(crate::proofs::Counting::counted_taken))]
     pub fn take_stores(&mut self, addr: u64, from: &[u8]) -> usize
+        ensures many { MayTakeRow Stores addr from.now self.old.site → result ≡ left_in self.old.site.node.core.memory }
         ensures taken { OfSite (AreTaken (row Stores self.old.site.me addr (numbers_in result from.now))) self.old self.new }
         ensures fits { 8 * result ≤ length from.now }
         ensures rests { result ≢ 0 → self.new.site.node.core.memory.asked ≡ None }

@@ -11,5 +11,6 @@ pub use embedded::{Embedded, TakenString};
 pub use status::{
     ADVANCE, ALLOCATE, AWAIT, BAD_ARGUMENT, BAD_CONFIG, BUSY, CLOSED, COMPARE_AND_SWAP, COUNT,
     DONE, DYNAMIC, FETCH_AND_ADD, FIXED, FREE, LOAD, MEMORY, NO_CALL, NO_FRAME, NO_REPLY, OPEN,
-    PENDING, SHORT_BUFFER, STORE, SWAP, call_of, config_of, status_of, tell, verdict_number,
+    PENDING, SHORT_BUFFER, STORE, SWAP, call_of, config_of, manager_of, status_of, tell,
+    verdict_number,
 };

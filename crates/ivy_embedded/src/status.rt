@@ -1,8 +1,8 @@
 //! The numbers that C knows statuses, calls and verdicts by.
-ghost use Rattle.std.specs.Prelude.{◌≡◌, ◌≢◌, ◌+◌, IfSome, MatchOption, MatchResult};
-ghost use Rattle.ivy_model.specs.stated.Config.{IsConfig};
+ghost use Rattle.std.specs.Prelude.{◌≡◌, ◌≢◌, ◌+◌, MatchOption, MatchResult};
 ghost use Rattle.ivy_model.specs.stated.Legal.{HasWidth, IsWidth};
-ghost use Rattle.ivy_embedded.specs.Exports.{IsConfigOf, IsRequest, IsStatus, Tells, TellsProgress, verdict_number};
+ghost use Rattle.ivy_embedded.specs.Exports.{AsksNone, IsNoAccess, IsRequest, IsStatus, Tells, TellsProgress, verdict_number};
+ghost use Rattle.ivy_embedded.specs.Openings.{IsManager, IsNoManager, Names, NamesNone};
 
 use ivy_model::{Call, Config, Fault, Kind, Reply};
 use ivy_site::Verdict;
@@ -34,7 +34,7 @@ pub const NO_FRAME: u32 = 302;
 /// The buffer is shorter than the string.
 pub const SHORT_BUFFER: u32 = 303;
 
-/// There is no such call, node, or kind of manager.
+/// There is no such call, node or kind of manager.
 pub const BAD_ARGUMENT: u32 = 304;
 
 /// The handle has no node.
@@ -79,28 +79,34 @@ pub const ALLOCATE: u32 = 8;
 /// A block of the heap is given back.
 pub const FREE: u32 = 9;
 
-/// The configuration of these numbers, where there is one within its limits.
-pub fn config_of(nodes: u32, pages: u32, page_size: u32, manager: u32) -> Option<Config>
-    ensures { IfSome result (λ c. IsConfigOf nodes pages page_size manager c × IsConfig c) }
+/// The kind of manager of this number, where there is one.
+pub fn manager_of(number: u32) -> Option<Kind>
+    ensures { MatchOption result (IsNoManager number) (IsManager number) }
 {
-    let manager = match manager {
-        FIXED => Kind::Fixed,
-        DYNAMIC => Kind::Dynamic,
-        _ => return None,
-    };
+    match number {
+        FIXED => Some(Kind::Fixed),
+        DYNAMIC => Some(Kind::Dynamic),
+        _ => None,
+    }
+}
+
+/// The configuration of these numbers, where there is one within the wide limits: up to 65,536 pages.
+pub fn config_of(nodes: u32, pages: u32, page_size: u32, manager: u32) -> Option<Config>
+    ensures { MatchOption result (NamesNone nodes pages page_size manager) (Names nodes pages page_size manager) }
+{
     let config = Config {
         nodes: u8::try_from(nodes).ok()?,
         pages,
         page_size,
-        manager,
+        manager: manager_of(manager)?,
     };
-    config.check().ok()?;
+    config.check_wide().ok()?;
     Some(config)
 }
 
 /// The width of a word, where it is one.
 fn width_of(width: u32) -> Option<u8>
-    ensures { IfSome result (λ w. (w ≡ width) × IsWidth w) }
+    ensures { MatchOption result (IsWidth width → ⊥) (λ w. (w ≡ width) × IsWidth w) }
 {
     match width {
         1 => Some(1),
@@ -111,10 +117,10 @@ fn width_of(width: u32) -> Option<u8>
     }
 }
 
-/// The access to a word that is asked for.
+/// The access to a word that is asked for, where the kind is one of an access.
 fn access_of(kind: u32, width: u8, addr: u64, value: u64, expected: u64) -> Option<Call>
     requires { IsWidth width }
-    ensures { IfSome result (λ call. IsRequest kind width addr value expected call × HasWidth call) }
+    ensures { MatchOption result (IsNoAccess kind) (λ call. IsRequest kind width addr value expected call × HasWidth call) }
 {
     match kind {
         LOAD => Some(Call::Load { width, addr }),
@@ -133,7 +139,7 @@ fn access_of(kind: u32, width: u8, addr: u64, value: u64, expected: u64) -> Opti
 
 /// The call that is asked for, if there is one.
 pub fn call_of(kind: u32, width: u32, place: u64, operand: u64, expected: u64) -> Option<Call>
-    ensures { IfSome result (λ call. IsRequest kind width place operand expected call × HasWidth call) }
+    ensures { MatchOption result (AsksNone (IsRequest kind width place operand expected)) (λ call. IsRequest kind width place operand expected call × HasWidth call) }
 {
     match kind {
         COUNT => Some(Call::Count { k: place }),

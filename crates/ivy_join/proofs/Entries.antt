@@ -20,6 +20,7 @@ use Rattle.ivy_site.specs.Handed.{site_handed}
 use Rattle.ivy_site.specs.SiteView.{SiteView}
 use Rattle.ivy_join.specs.ReplaySites.{program_in, taken_by, taken_in, CanGoOnBy, GoesOnBy}
 use Rattle.ivy_join.specs.Remade.{CanTake, GoesOnByEntries}
+use Rattle.ivy_join.proofs.Answered.{adds-further, adds-none}
 use Rattle.ivy_join.proofs.EventSteps.{took-further}
 use Rattle.ivy_join.proofs.Taken.{can-more-strings, taken-own}
 
@@ -39,6 +40,7 @@ module _ (sent : List (List ℕ)) where
     me = refl;
     config = refl;
     program = sym (handed_none (program_in s));
+    answered = adds-none s.node.core.history s.node.core.history refl;
     events = sym (append-nil s.events);
     took = took;
   }
@@ -50,6 +52,7 @@ module _ (sent : List (List ℕ)) where
     me = on.me;
     config = on.config;
     program = on.program ∙ sym (handed_none (program_in s));
+    answered = on.answered;
     events = listed ∙ ap (λ l. s.events ++ l) (sym (append-nil (marks_of event)));
     took = took-further sent s s' took on;
   }
@@ -60,6 +63,7 @@ module _ (sent : List (List ℕ)) where
     me = refl;
     config = refl;
     program = refl;
+    answered = adds-none s.node.core.history s.node.core.history refl;
     events = sym (append-nil s.events);
     took = took;
   })
@@ -70,6 +74,7 @@ module _ (sent : List (List ℕ)) where
     me = refl;
     config = refl;
     program = sym (handed_none (program_in s));
+    answered = adds-none s.node.core.history s.node.core.history refl;
     events = sym (append-nil s.events);
     took = took;
   }
@@ -82,6 +87,7 @@ module _ (sent : List (List ℕ)) where
         me = x.me;
         config = x.config;
         program = x.program;
+        answered = x.answered;
         events = x.events;
         took = x.took;
       } in
@@ -90,6 +96,7 @@ module _ (sent : List (List ℕ)) where
         me = there.me;
         config = there.config;
         program = there.program;
+        answered = there.answered;
         events = there.events;
         took = there.took;
       }
@@ -113,6 +120,8 @@ module _ (sent : List (List ℕ)) where
             (calls_in (entry ∷ []))))
             ∙ ap (λ l. handed (one_by_one l) (program_in a))
             (sym (flat_map-append call_in (take i entries) (entry ∷ [])));
+        answered = adds-further a.node.core.history b.node.core.history d.node.core.history x.answered
+            y.answered;
         events = y.events ∙ ap (λ l. l ++ marks (events_in (entry ∷ []))) x.events
             ∙ append_assoc a.events (marks (events_in (take i entries))) (marks (events_in (entry ∷ [])))
             ∙ ap (λ l. a.events ++ l)

@@ -20,7 +20,31 @@ use Rattle.ivy_site.specs.Inside.{Receives, Holds}
 use Rattle.ivy_site.specs.Sites.{AfterTurn, SiteDelivers}
 use Rattle.ivy_host.proofs.Programs.{turned-program, posting-core, delivered-program}
 use Rattle.ivy_logs.proofs.Entries.{turns-more}
-use Rattle.ivy_join.specs.ReplaySites.{program_in, GoesOnBy}
+use Rattle.ivy_join.specs.ReplaySites.{program_in, AddsRecords, GoesOnBy}
+use Rattle.ivy_join.proofs.Answered.{adds-further, adds-none, delivered-untold, turned-records}
+
+-- what was answered then
+
+pub same-records : (s s' : SiteView) → s' ≡ s → AddsRecords s.node.core.history s'.node.core.history
+same-records s s' same =
+    adds-none s.node.core.history s'.node.core.history (ap (λ (x : SiteView). x.node.core.history) same)
+
+pub turn-records : (s s' : SiteView) → AfterTurn Moved s s'
+    → AddsRecords s.node.core.history s'.node.core.history
+turn-records s s' after =
+    subst (AddsRecords s.node.core.history)
+    (sym (ap (λ (x : SiteView). x.node.core.history) after.after
+    ∙ ap (λ (k : Host Managed). k.history)
+    (posting-core s.node after.outcome.after after.outcome.posted after.effect after.sent)))
+    (turned-records s.node.core after.outcome after.turn)
+
+pub delivery-records : (bytes : List ℕ) (v w : Verdict) (s s' : SiteView) (d : SiteDelivers bytes v s s')
+    → s' ≡ after_hearing s bytes w d.frame.source d.effect
+    → AddsRecords s.node.core.history s'.node.core.history
+delivery-records bytes v w s s' d after =
+    adds-none s.node.core.history s'.node.core.history
+    (ap (λ (x : SiteView). x.node.core.history) after
+    ∙ (delivered-untold s.config s.node bytes d.effect d.delivered).history)
 
 module _ (sent : List (List ℕ)) where
   pub stays : (s s' : SiteView) → s' ≡ s → GoesOnBy sent s s'
@@ -29,6 +53,7 @@ module _ (sent : List (List ℕ)) where
     config = ap (λ (x : SiteView). x.config) same;
     program = ap program_in same;
     keep = ap (λ (x : SiteView). x.keep) same;
+    answered = same-records s s' same;
     more = [];
     events = ap (λ (x : SiteView). x.events) same ∙ sym (append-nil s.events);
     can = tt;
@@ -41,6 +66,7 @@ module _ (sent : List (List ℕ)) where
     config = y.config ∙ x.config;
     program = y.program ∙ x.program;
     keep = y.keep ∙ x.keep;
+    answered = adds-further a.node.core.history b.node.core.history d.node.core.history x.answered y.answered;
     more = x.more ++ y.more;
     events = y.events ∙ ap (λ l. l ++ y.more) x.events ∙ append_assoc a.events x.more y.more;
     can = can-append sent a.config.nodes a.me x.more y.more x.can
@@ -69,6 +95,7 @@ module _ (sent : List (List ℕ)) where
         (posting-core s.node after.outcome.after after.outcome.posted after.effect after.sent)
         ∙ turned-program s.node.core after.outcome after.turn;
     keep = ap (λ (x : SiteView). x.keep) after.after;
+    answered = turn-records s s' after;
     more = Turn ∷ [];
     events = ap (λ (x : SiteView). x.events) after.after;
     can = (tt, tt);
@@ -84,6 +111,7 @@ module _ (sent : List (List ℕ)) where
     program = ap program_in after
         ∙ delivered-program s.config limits s.node d.frame bytes d.effect d.spelled d.delivered;
     keep = ap (λ (x : SiteView). x.keep) after;
+    answered = delivery-records bytes v w s s' d after;
     more = Delivery bytes ∷ [];
     events = ap (λ (x : SiteView). x.events) after;
     can = (there, tt);
@@ -114,6 +142,8 @@ module _ (sent : List (List ℕ)) where
     config = ap (λ (x : SiteView). x.config) same;
     program = ap program_in same;
     keep = ap (λ (x : SiteView). x.keep) same;
+    answered = adds-none s.node.core.history s'.node.core.history
+        (ap (λ (x : SiteView). x.node.core.history) same);
     more = [];
     events = ap (λ (x : SiteView). x.events) same ∙ sym (append-nil s.events);
     can = tt;
@@ -146,6 +176,8 @@ module _ (sent : List (List ℕ)) where
     config = ap (λ (x : SiteView). x.config) after;
     program = ap program_in after;
     keep = ap (λ (x : SiteView). x.keep) after;
+    answered = adds-none s.node.core.history s'.node.core.history
+        (ap (λ (x : SiteView). x.node.core.history) after);
     more = pulse_marks to (pulsing s.node to).sent;
     events = ap (λ (x : SiteView). x.events) after;
     can = pulse_can to s.me s.config.nodes (pulsing s.node to).sent below
@@ -225,6 +257,8 @@ emptied sent s s' same = record {
   config = ap (λ (x : SiteView). x.config) same;
   program = ap program_in same;
   keep = ap (λ (x : SiteView). x.keep) same;
+  answered = adds-none s.node.core.history s'.node.core.history
+      (ap (λ (x : SiteView). x.node.core.history) same);
   more = [];
   events = ap (λ (x : SiteView). x.events) same ∙ sym (append-nil s.events);
   can = tt;

@@ -1,3 +1,4 @@
+pub mod Answered
 pub mod EventSteps
 pub mod Played
 pub mod Collected
@@ -7,6 +8,7 @@ pub mod HandedLogs
 pub mod Entries
 pub mod Calls
 pub mod AnswersLogged
+pub mod AnswersTold
 pub mod Ordered
 pub mod Others
 pub mod Within

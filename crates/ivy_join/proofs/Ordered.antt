@@ -12,6 +12,7 @@ use Rattle.ivy_moves.specs.Marks.{marks}
 use Rattle.ivy_moves.specs.stated.Explained.{IsExplainedBy, GoesOn}
 use Rattle.ivy_moves.specs.stated.Nodes.{Node}
 use Rattle.ivy_moves.specs.stated.Worlds.{World, Leads}
+use Rattle.ivy_moves.proofs.Moments.{explained_whole}
 use Rattle.ivy_host.specs.stated.Hosts.{Host, host_rules, answered_by}
 use Rattle.ivy_memory.specs.stated.Memories.{in_progress}
 use Rattle.ivy_host.specs.stated.Managers.{Managed, managed_ops}
@@ -27,14 +28,13 @@ use Rattle.ivy_join.proofs.AnswersLogged.{map-twice}
 
 -- the order at the end of a run
 explained_end : (c : Config) (w end : World (Host Managed)) (order : List Record) (moves : List Move)
-    → GoesOn (host_rules managed_ops) c answered_by w order moves
+    → GoesOn (host_rules managed_ops) c answered_by [] w order moves
     → Leads (host_rules managed_ops) c w moves end
     → (whole : List Record) × IsExplainedBy (host_rules managed_ops) c answered_by end whole
-explained_end c w end order [] on lead =
-    (order, subst (λ v. IsExplainedBy (host_rules managed_ops) c answered_by v order) (sym lead) on)
-explained_end c w end order (m ∷ moves) on lead =
-    let next = on.1 lead.0 lead.1 in
-    explained_end c lead.0 end (order ++ next.0) moves next.1 lead.2
+explained_end c w end order moves on lead =
+    let all =
+    explained_whole (host_rules managed_ops) c answered_by [] w end order moves on lead in
+    (all.0, all.1.now)
 
 -- nothing is owed where no call is in progress
 none_called : (rest : List Record) → map (λ (r : Record). r.call) rest ≡ [] → rest ≡ []

@@ -1,6 +1,7 @@
 -- Sites that make the events of logs again, while they are joined.
 use Rattle.std.specs.Prelude.{◌≡◌, ◌⊎◌, ℕ, ◌+◌, List, [], ◌∷◌, ◌++◌, length, slice_get, Option, Some, None, Contains, flat_map}
 use Rattle.ivy_model.specs.declared.Config.{Config}
+use Rattle.ivy_model.specs.declared.Record.{Record}
 use Rattle.ivy_model.specs.stated.Config.{IsConfig}
 use Rattle.ivy_moves.specs.Events.{Event}
 use Rattle.ivy_moves.specs.declared.Event.TheVariants.{Turns, Delivered, Pulsed}
@@ -53,12 +54,17 @@ taken_in (Pulsed to) = []
 abbrev pub taken_by : List Event → List (List ℕ)
 taken_by events = flat_map taken_in events
 
+-- what was answered stands first, and there may be more
+abbrev pub AddsRecords : List Record → List Record → Type 0
+AddsRecords old new = (more : List Record) × (new ≡ old ++ more)
+
 -- the site went on by further events, which deliver none but these strings, and pulse to other nodes
 pub record GoesOnBy (sent : List (List ℕ)) (old new : SiteView) : Type 0 where
   pub me : new.me ≡ old.me
   pub config : new.config ≡ old.config
   pub program : program_in new ≡ program_in old
   pub keep : new.keep ≡ old.keep
+  pub answered : AddsRecords old.node.core.history new.node.core.history
   pub more : List Mark
   pub events : new.events ≡ old.events ++ more
   pub can : AllCanBeMade sent old.config.nodes old.me more

@@ -13,17 +13,17 @@ use Rattle.ivy_program.specs.texts.TextWords.{is_blank, parted_words, words_of, 
 use Rattle.ivy_logs.specs.Spelled.{SpellsFrame}
 
 -- what stands in numbers and in digits, and nothing that parts words or ends them
-abbrev IsDigit : ℕ → Type 0
+abbrev pub IsDigit : ℕ → Type 0
 IsDigit b = 35 < b
 
 digit_large : (c : ℕ) → is_hex_digit c ≡ true → IsDigit c
 digit_large c h = grind (arith)
 
-number_large : (cs : List ℕ) → AllDigits 10 cs → All IsDigit cs
+pub number_large : (cs : List ℕ) → AllDigits 10 cs → All IsDigit cs
 number_large [] h = All-nil IsDigit
 number_large (c ∷ cs) h = All-cons IsDigit c cs (grind (arith, h)) (number_large cs h.1)
 
-digits_large : (cs : List ℕ) → AllPass is_hex_digit cs → All IsDigit cs
+pub digits_large : (cs : List ℕ) → AllPass is_hex_digit cs → All IsDigit cs
 digits_large [] h = All-nil IsDigit
 digits_large (c ∷ cs) h =
     All-cons IsDigit c cs (digit_large c (All-head (λ x. is_hex_digit x ≡ true) c cs h))

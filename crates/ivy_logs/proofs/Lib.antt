@@ -4,3 +4,6 @@ pub mod Frames
 pub mod Halves
 pub mod Pairs
 pub mod Texts
+pub mod Written
+pub mod ReadBack
+pub mod SpelledOnce

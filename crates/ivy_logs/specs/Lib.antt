@@ -2,3 +2,4 @@ pub mod Spelled
 pub mod Printed
 pub mod Entries
 pub mod Digits
+pub mod ReadBack

@@ -1,6 +1,6 @@
 //! The entries of logs: what a node did, called and was answered.
-ghost use Rattle.std.specs.Prelude.{[], ◌∷◌, codes, IfOk, IfSome, IsOkUnless, map};
-ghost use Rattle.ivy_logs.specs.Entries.{SpellsAnswered, SpellsDid, SpellsEntry, SpellsIn};
+ghost use Rattle.std.specs.Prelude.{◌≡◌, [], ◌∷◌, codes, length, IfOk, IfSome, IsOkUnless, map};
+ghost use Rattle.ivy_logs.specs.Entries.{answers_in, SpellsAnswered, SpellsDid, SpellsEntry, SpellsIn};
 ghost use Rattle.ivy_logs.specs.Spelled.{SpellsEvent};
 
 use crate::bytes_of;
@@ -22,6 +22,19 @@ pub enum LogEntry<B> {
     Asked(Call),
     /// The call was answered.
     Answered(Answer),
+}
+
+/// How many answers entries have.
+pub fn count_answers<A: Allocator>(entries: &[LogEntry<Bytes<A>>]) -> u64
+    ensures { result ≡ length (answers_in entries.now) }
+{
+    let mut count = 0u64;
+    for at in 0..entries.len() {
+        if let LogEntry::Answered(_) = &entries[at] {
+            count += 1;
+        }
+    }
+    count
 }
 
 /// So many turns, where the word is a number.

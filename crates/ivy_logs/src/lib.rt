@@ -18,13 +18,15 @@
 
 mod entry;
 mod frame;
+mod laws;
 mod log;
 mod print;
 mod read;
 mod write;
 
-pub use entry::LogEntry;
+pub use entry::{LogEntry, count_answers};
 pub use frame::{FrameLine, parse_frame};
+pub use laws::logs_read_back;
 pub use log::{Log, LogHead, LogKind, parse_log};
 pub use print::{push_entry, push_event, push_frame, push_head, push_log};
 pub use read::bytes_of;

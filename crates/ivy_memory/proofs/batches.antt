@@ -2,5 +2,6 @@
 pub mod Along
 pub mod AtOnce
 pub mod CallsLeft
+pub mod CallsTold
 pub mod RowBegins
 pub mod BatchedReplies

@@ -1,6 +1,7 @@
 //! Calls that are made along with the one in progress.
 ghost use Rattle.std.specs.Prelude.{◌≡◌, ◌+◌, ◌*◌, ◌^◌, ◌<◌, ◌≤◌, ℕ, true, List, [], length, take, drop, slice_get, IfOk};
 ghost use Rattle.ivy_model.specs.declared.Row.TheVariants.{Loads, Stores};
+ghost use Rattle.ivy_model.specs.Rows.{numbers_in};
 ghost use Rattle.ivy_memory.specs.BatchedCalls.{row_calls, first_call};
 
 use byteorder::{BigEndian, ByteOrder};
@@ -50,6 +51,17 @@ fn put(into: &mut [u8], from: &[u8], many: usize)
     into[..many].copy_from_slice(&from[..many]);
 }
 
+/// Whether so many words have the same bytes here and there, and so the same numbers.
+fn are_same(own: &[u8], from: &[u8], words: usize) -> bool
+    requires own { 8 * words ≤ length own.now }
+    requires from { 8 * words ≤ length from.now }
+    ensures bytes { result ≡ true → take (8 * words) own.now ≡ take (8 * words) from.now }
+    ensures each { numbers_in words own.now ≡ numbers_in words from.now → result ≡ true }
+{
+    let len = 8 * words;
+    own[..len] == from[..len]
+}
+
 impl<A: Allocator> Rest<A> {
     /// Room for the calls of a row in a page of this size; none is left. Err only where the allocator has no memory.
     pub(crate) fn new(alloc: A, page_size: u32) -> Result<Self, AllocError>
@@ -94,8 +106,10 @@ impl<A: Allocator> Rest<A> {
 
     /// Whether those that are left are loads of a row, behind a first one at this address.
     pub(crate) fn are_loads(&self, addr: u64) -> bool
-        ensures { result ≡ true → (bytes : List ℕ) →
+        ensures calls { result ≡ true → (bytes : List ℕ) →
             self.now.calls ≡ row_calls Loads (addr + 8) (length self.now.calls) bytes }
+        ensures each { (bytes : List ℕ) →
+            self.now.calls ≡ row_calls Loads (addr + 8) (length self.now.calls) bytes → result ≡ true }
     {
         if self.left == 0 {
             return true;
@@ -109,8 +123,10 @@ impl<A: Allocator> Rest<A> {
     /// Whether those that are left are stores of a row, behind a first one at this address; their numbers are in these bytes.
     pub(crate) fn are_stores(&self, addr: u64, from: &[u8]) -> bool
         requires many { 8 * length self.now.calls ≤ length from.now }
-        ensures { result ≡ true →
+        ensures calls { result ≡ true →
             self.now.calls ≡ row_calls Stores (addr + 8) (length self.now.calls) from.now }
+        ensures each { self.now.calls ≡ row_calls Stores (addr + 8) (length self.now.calls) from.now
+            → result ≡ true }
     {
         if self.left == 0 {
             return true;
@@ -118,10 +134,9 @@ impl<A: Allocator> Rest<A> {
         if self.addr < 8 || self.addr - 8 != addr {
             return false;
         }
-        let len = 8 * self.left;
         match self.kind {
             Row::Loads => false,
-            Row::Stores => self.bytes[self.at..self.at + len] == from[..len],
+            Row::Stores => are_same(&self.bytes[self.at..], from, self.left),
         }
     }
 

@@ -4,7 +4,8 @@ ghost use Rattle.ivy_model.specs.declared.Row.TheVariants.{Loads, Stores};
 ghost use Rattle.ivy_model.specs.Rows.{numbers_in, row};
 ghost use Rattle.ivy_memory.specs.stated.Memories.{in_progress};
 ghost use Rattle.ivy_memory.specs.BatchedCalls.{row_calls};
-ghost use Rattle.ivy_memory.specs.BatchedReplies.{TakesRecords, records_of};
+ghost use Rattle.ivy_coherence.specs.Takes.{are_given};
+ghost use Rattle.ivy_memory.specs.BatchedReplies.{HasReplies, TakesRecords, left_in, records_of};
 
 use crate::memory::Memory;
 use byteorder::{BigEndian, ByteOrder};
@@ -25,6 +26,8 @@ impl<M: Manager, A: Allocator + Copy> Memory<M, A> {
         ensures called { result ≡ true → IsSome self.now.asked }
         ensures calls { result ≡ true → (bytes : List ℕ) → in_progress self.now.asked self.now.along
             ≡ row_calls Loads addr (length self.now.along + 1) bytes }
+        ensures each { (bytes : List ℕ) → in_progress self.now.asked self.now.along
+            ≡ row_calls Loads addr (length self.now.along + 1) bytes → result ≡ true }
     {
         match self.asked {
             Some(
@@ -43,6 +46,8 @@ impl<M: Manager, A: Allocator + Copy> Memory<M, A> {
         ensures called { result ≡ true → IsSome self.now.asked }
         ensures calls { result ≡ true → in_progress self.now.asked self.now.along
             ≡ row_calls Stores addr (length self.now.along + 1) from.now }
+        ensures each { in_progress self.now.asked self.now.along
+            ≡ row_calls Stores addr (length self.now.along + 1) from.now → result ≡ true }
     {
         match self.asked {
             Some(
@@ -66,6 +71,8 @@ impl<M: Manager, A: Allocator + Copy> Memory<M, A> {
         requires called { IsSome self.old.asked }
         requires room { kind ≡ Loads → 8 * (length self.old.along + 1) ≤ length into.old }
         ensures many { (result ≡ 0) ⊎ (result ≡ length self.old.along + 1) }
+        ensures all { are_given kind (length self.old.along) self.old.coherence.done self.old.coherence.done_more ≡ true
+            → result ≡ length self.old.along + 1 }
         ensures taken { (node : ℕ) → TakesRecords M.ops
             (records_of kind node (in_progress self.old.asked self.old.along) (numbers_in result into.new))
             self.old self.new }
@@ -92,6 +99,7 @@ impl<M: Manager, A: Allocator + Copy> Memory<M, A> {
     ///
     /// Each is the reply that [`Memory::poll_reply`] would give. It takes no memory.
     pub fn take_loads(&mut self, addr: u64, into: &mut [u8]) -> usize
+        ensures many { HasReplies Loads addr into.old self.old → 8 * left_in self.old ≤ length into.old → result ≡ left_in self.old }
         ensures taken { (node : ℕ) → TakesRecords M.ops (row Loads node addr (numbers_in result into.new)) self.old self.new }
         ensures fits { 8 * result ≤ length into.old }
         ensures sized { length into.new ≡ length into.old }
@@ -110,6 +118,7 @@ impl<M: Manager, A: Allocator + Copy> Memory<M, A> {
     ///
     /// Each is the reply that [`Memory::poll_reply`] would give. It takes no memory.
     pub fn take_stores(&mut self, addr: u64, from: &[u8]) -> usize
+        ensures many { HasReplies Stores addr from.now self.old → 8 * left_in self.old ≤ length from.now → result ≡ left_in self.old }
         ensures taken { (node : ℕ) → TakesRecords M.ops (row Stores node addr (numbers_in result from.now)) self.old self.new }
         ensures fits { 8 * result ≤ length from.now }
         ensures rests { result ≢ 0 → self.new.asked ≡ None }

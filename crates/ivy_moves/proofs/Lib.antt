@@ -6,6 +6,7 @@ pub mod Opening
 pub mod Kept
 pub mod Parts
 pub mod Splitting
+pub mod Moments
 pub mod Early
 pub mod GoingOn
 pub mod Leading

@@ -1,4 +1,4 @@
-//! A command line reader driven by a table of commands and options, for ivyscope and ivynode.
+//! A command line reader driven by a table of commands and options, for ivyscope.
 //!
 //! A program states its commands in a constant [`CommandTable`]. [`read_line`] gives the command of a line, or that help is wanted;
 //! [`Given::of`] gives the files and options behind a command. What no row of the table allows is a [`Misuse`], whose text

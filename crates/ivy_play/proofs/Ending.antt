@@ -67,7 +67,9 @@ given_here done old new i (Gave out) same was = λ n there.
     let before = same i n there in
     subst (λ (h : Host Managed). (h.memory.asked ≡ None) × done i (answers h.history) out)
     (sym before.2) (was before.0 before.1)
-given_here done old new i (GaveUp fault) same was = tt
+given_here done old new i (GaveUp fault) same was = λ n there.
+    let before = same i n there in
+    subst (λ (h : Host Managed). h.memory.asked ≡ None) (sym before.2) (was before.0 before.1)
 given_here done old new i Waits same was = tt
 
 -- what works have given they have given then too

@@ -4,3 +4,5 @@ mod Playing
 pub mod Stops
 mod Reported
 mod Ending
+mod Ends
+mod Counting

@@ -1,5 +1,6 @@
 -- A play that goes on.
 use Rattle.std.proofs.Common.{◌≡◌, ◌≢◌, ℕ, zero, suc, List, [], ◌∷◌, ◌++◌, Result, Ok, Err, OnOk, OnErr, append-nil, refl, sym, ap, subst, ◌∙◌}
+use Rattle.std.specs.Prelude.{IfOk}
 use Rattle.ivy_model.specs.declared.Call.{Call}
 use Rattle.ivy_model.specs.declared.Config.{Config}
 use Rattle.ivy_model.specs.declared.Fault.{Fault}
@@ -16,6 +17,7 @@ use Rattle.ivy_world.specs.declared.rest.Rest.TheVariants.{Going, Still}
 use Rattle.ivy_world.specs.HandedWorlds.{BeginsBlock, BeginsTogether, run_handed}
 use Rattle.ivy_world.specs.stated.Runs.{IsSameRun}
 use Rattle.ivy_world.specs.Settling.{HasSettled}
+use Rattle.ivy_play.specs.declared.handed.Handed.{Handed}
 use Rattle.ivy_play.specs.Played.{Step, Calls, Makes, moves_in, with_world, PlaysTo, own_opening, IsPlayed, IsStillWhere}
 
 plays_more : (r mid end : Run) (steps : List Step) (s : Step) → PlaysTo r steps mid
@@ -68,11 +70,11 @@ played_calls c moves i calls old new is p = record {
 }
 
 -- one call more, where it was not refused
-pub played_hand : (c : Config) (moves : List Move) (i : ℕ) (call : Call) (old new : Run)
-    (r : Result (Unit {0}) Fault) → OnOk r (new ≡ run_handed i ((call ∷ []) ∷ []) old)
-    → OnErr r (new ≡ old) → IsPlayed c moves old → IsPlayed c moves new
-played_hand c moves i call old new (Ok u) ok err p = played_calls c moves i (call ∷ []) old new ok p
-played_hand c moves i call old new (Err e) ok err p = subst (IsPlayed c moves) (sym err) p
+pub played_hand : (c : Config) (moves : List Move) (i : ℕ) (old new : Run) (r : Result Handed Fault)
+    → IfOk r (λ h. new ≡ run_handed i ((h.call ∷ []) ∷ []) old) → OnErr r (new ≡ old)
+    → IsPlayed c moves old → IsPlayed c moves new
+played_hand c moves i old new (Ok h) ok err p = played_calls c moves i (h.call ∷ []) old new ok p
+played_hand c moves i old new (Err e) ok err p = subst (IsPlayed c moves) (sym err) p
 
 -- calls that are made together, and the turn in which they begin
 played_begun : (c : Config) (moves more : List Move) (i : ℕ) (calls : List Call) (old new : Run)

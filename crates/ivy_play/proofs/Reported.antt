@@ -16,6 +16,7 @@ use Rattle.ivy_moves.specs.declared.Move.{Move}
 use Rattle.ivy_moves.specs.stated.Explained.{GoesOn}
 use Rattle.ivy_moves.specs.stated.Nodes.{Node}
 use Rattle.ivy_moves.specs.stated.Worlds.{World, Leads}
+use Rattle.ivy_moves.proofs.Moments.{explained_whole}
 use Rattle.ivy_host.specs.stated.Hosts.{Host, host_rules, answered_by}
 use Rattle.ivy_host.specs.stated.Managers.{Managed, managed_ops}
 use Rattle.ivy_memory.specs.stated.Memories.{in_progress}
@@ -77,14 +78,13 @@ gave done w i asked history list out waits told none is d n there =
 
 -- the order at the end
 explained_at : (c : Config) (w end : World (Host Managed)) (order : List Record) (moves : List Move)
-    → GoesOn (host_rules managed_ops) c answered_by w order moves
+    → GoesOn (host_rules managed_ops) c answered_by [] w order moves
     → Leads (host_rules managed_ops) c w moves end
     → (all : List Record) × IsExplained c all (answered_in end)
-explained_at c w end order [] goes led =
-    (order, subst (λ x. IsExplained c order (answered_in x)) (sym led) goes.explained)
-explained_at c w end order (m ∷ moves) goes led =
-    let next = goes.1 led.0 led.1 in
-    explained_at c led.0 end (order ++ next.0) moves next.1 led.2
+explained_at c w end order moves goes led =
+    let all =
+    explained_whole (host_rules managed_ops) c answered_by [] w end order moves goes led in
+    (all.0, all.1.now.explained)
 
 none_called : (rest : List Record) → map (λ (r : Record). r.call) rest ≡ [] → rest ≡ []
 none_called [] is = refl

@@ -2,3 +2,4 @@ pub mod Faults
 pub mod Played
 pub mod Reports
 pub mod Endings
+pub mod Ends

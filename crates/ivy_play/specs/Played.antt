@@ -1,5 +1,5 @@
 -- How a play goes on: calls and moves.
-use Rattle.std.specs.Prelude.{◌≡◌, ℕ, ◌≤◌, List, [], ◌∷◌, ◌++◌, replicate, slice_get, Some, IfSome}
+use Rattle.std.specs.Prelude.{◌≡◌, ℕ, ◌+◌, ◌/◌, ◌≤◌, List, [], ◌∷◌, ◌++◌, length, replicate, slice_get, Some, IfSome}
 use Rattle.ivy_model.specs.declared.Call.{Call}
 use Rattle.ivy_model.specs.declared.Config.{Config}
 use Rattle.ivy_model.specs.declared.Kind.TheVariants.{Fixed}
@@ -59,6 +59,13 @@ pub record IsPlayed (c : Config) (moves : List Move) (r : Run) : Type 0 where
   pub made : moves_in steps ≡ moves
   pub plays : PlaysTo (own_opening c) steps r
   pub config : r.config ≡ c
+
+-- So many of the moves are drawn ones, or listed ones, or go with such a one: the others let the world
+-- settle. These are at most so many, and the turns of one row besides: that lies in one page, so it
+-- has a word of 8 bytes for each.
+pub record HasDrawn (c : Config) (settle : ℕ) (moves : List Move) (drawn : ℕ) : Type 0 where
+  pub within : drawn ≤ length moves
+  pub few : length moves ≤ drawn + settle + c.page_size / 8
 
 -- where it is said to stand still it does, and so would one flat memory
 abbrev pub IsStillWhere : Rest → Run → Type 0

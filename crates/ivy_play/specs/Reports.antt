@@ -23,19 +23,14 @@ abbrev pub answered_in : World (Host Managed) → List Answered
 answered_in w = map (λ (n : Node (Host Managed)). answered_by n.core) w.nodes
 
 -- Where the work of node i gave this it has no call in progress, and by exactly its history it has
--- done what it had to.
+-- done what it had to. Where it gave up it has none either.
 abbrev pub HasGiven : {Out : Type 0} → (ℕ → List Answer → Out → Type 0) → World (Host Managed) → ℕ
     → Outcome Out → Type 0
 HasGiven done w i (Gave out) = (n : Node (Host Managed)) → slice_get w.nodes i ≡ Some n
     → (n.core.memory.asked ≡ None) × done i (answers n.core.history) out
-HasGiven done w i (GaveUp fault) = Unit {0}
+HasGiven done w i (GaveUp fault) = (n : Node (Host Managed)) → slice_get w.nodes i ≡ Some n
+    → n.core.memory.asked ≡ None
 HasGiven done w i Waits = Unit {0}
-
--- the work gave nothing
-abbrev pub GivesNothing : {Out : Type 0} → Outcome Out → Type 0
-GivesNothing (Gave out) = ⊥
-GivesNothing (GaveUp fault) = Unit {0}
-GivesNothing Waits = Unit {0}
 
 -- so it is at each node
 abbrev pub HaveGiven : {Out : Type 0} → (ℕ → List Answer → Out → Type 0) → World (Host Managed)

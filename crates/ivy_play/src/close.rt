@@ -1,8 +1,9 @@
 //! The end of a play: what the work of each node gave, beside what its node was answered.
-ghost use Rattle.std.specs.Prelude.{◌≡◌, ◌<◌, ℕ, Some, IsTrue, IfErr, IfOk, map, slice_get, vec_len};
+ghost use Rattle.std.specs.Prelude.{◌≡◌, ◌<◌, ◌↔◌, ℕ, Some, IsTrue, IfErr, IfOk, MatchResult, map, slice_get, vec_len};
 ghost use Rattle.ivy_calls.specs.Answers.{answer, answers};
 ghost use Rattle.ivy_play.specs.Faults.{IsPlayStop};
-ghost use Rattle.ivy_play.specs.Reports.{GivesNothing, HasGiven, HaveGiven};
+ghost use Rattle.ivy_play.specs.Ends.{HasEnded, HasGivenUp};
+ghost use Rattle.ivy_play.specs.Reports.{HasGiven, HaveGiven};
 
 use crate::joined::{Ended, GivenUp};
 use crate::report::Outcome;
@@ -13,22 +14,21 @@ use std::alloc::Allocator;
 
 /// Whether an answer is of this call, with this reply.
 fn is_of(given: Answer, call: Call, reply: Reply) -> bool
-    ensures call { IsTrue result → given.call ≡ call }
-    ensures reply { IsTrue result → given.reply ≡ reply }
+    ensures { IsTrue result ↔ (given.call ≡ call) × (given.reply ≡ reply) }
 {
     given.call == call && given.reply == reply
 }
 
 /// Whether this is the answer of a record.
 fn is_same(given: Answer, past: Record) -> bool
-    ensures { IsTrue result → given ≡ answer past }
+    ensures { IsTrue result ↔ given ≡ answer past }
 {
     is_of(given, past.call, past.reply)
 }
 
 /// Whether these are the answers of a history.
 fn are_answers(given: &[Answer], history: &[Record]) -> bool
-    ensures { IsTrue result → given.now ≡ answers history.now }
+    ensures { IsTrue result ↔ given.now ≡ answers history.now }
 {
     if given.len() != history.len() {
         return false;
@@ -41,15 +41,20 @@ fn are_answers(given: &[Answer], history: &[Record]) -> bool
     true
 }
 
-/// How a node stands whose work gave up [1].
-fn outcome_of_given_up<T>(up: GivenUp) -> Result<Outcome<T>, Fault>
-    ensures given { IfOk result GivesNothing }
+/// How a node stands whose work gave up [1]. It waits where the work was cut off, or the node has a call in progress.
+fn outcome_of_given_up<A: Allocator + Copy, T>(
+    world: &World<A>,
+    node: u64,
+    up: GivenUp,
+) -> Result<Outcome<T>, Fault>
+    requires { node < world.now.config.nodes }
+    ensures stands { IfOk result (HasGivenUp world.now.world node up) }
     ensures stop { IfErr result IsPlayStop }
 {
     if up.fault == Fault::Memory {
         return Err(Fault::Memory);
     }
-    if up.is_cut {
+    if up.is_cut || world.asked(node).is_some() {
         return Ok(Outcome::Waits);
     }
     Ok(Outcome::GaveUp(up.fault))
@@ -64,7 +69,8 @@ fn outcome_of_ended<A: Allocator + Copy, W: Work>(
 ) -> Outcome<W::Out>
     requires node { node < world.now.config.nodes }
     requires done { W.done work.now node ended.answers.items ended.out }
-    ensures { HasGiven (W.done work.now) world.now.world node result }
+    ensures given { HasGiven (W.done work.now) world.now.world node result }
+    ensures stands { HasEnded world.now.world node ended.answers.items ended.is_cut ended.out result }
 {
     // for the proof: the clauses name the work
     let _ = work;
@@ -92,11 +98,12 @@ fn outcome_of<A: Allocator + Copy, W: Work>(
     requires node { node < world.now.config.nodes }
     requires done { IfOk given (λ ended. W.done work.now node ended.answers.items ended.out) }
     ensures given { IfOk result (HasGiven (W.done work.now) world.now.world node) }
+    ensures stands { IfOk result (λ outcome. MatchResult given (λ ended. HasEnded world.now.world node ended.answers.items ended.is_cut ended.out outcome) (λ up. HasGivenUp world.now.world node up outcome)) }
     ensures stop { IfErr result IsPlayStop }
 {
     match given {
         Ok(ended) => Ok(outcome_of_ended(world, work, node, ended)),
-        Err(up) => outcome_of_given_up(up),
+        Err(up) => outcome_of_given_up(world, node, up),
     }
 }
 
@@ -111,6 +118,7 @@ pub(crate) fn outcomes_of<A: Allocator + Copy, W: Work>(
     requires done { (i : ℕ) (r : _) → slice_get all.items i ≡ Some r → IfOk r (λ ended. W.done work.now i ended.answers.items ended.out) }
     ensures all { IfOk result (λ outcomes. vec_len outcomes ≡ world.now.config.nodes) }
     ensures given { IfOk result (λ outcomes. HaveGiven (W.done work.now) world.now.world outcomes.items) }
+    ensures stand { IfOk result (λ outcomes. (i : ℕ) (outcome : _) → slice_get outcomes.items i ≡ Some outcome → (r : _) → slice_get all.items i ≡ Some r → MatchResult r (λ ended. HasEnded world.now.world i ended.answers.items ended.is_cut ended.out outcome) (λ up. HasGivenUp world.now.world i up outcome)) }
     ensures stop { IfErr result IsPlayStop }
 {
     let mut outcomes = Vec::new(alloc);

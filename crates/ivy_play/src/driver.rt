@@ -69,9 +69,9 @@ impl<'r, 's, 'b, S: Setting, A: Allocator + Copy, R: Wait> Play<'r, 's, 'b, S, A
         self.settle(most)
     }
 
-    /// How many moves are left of so many that let the world settle.
-    fn left(&self, most: u64) -> u64 {
-        self.stage.lock(self.rt).left(most)
+    /// How many moves are left of those that let the world settle.
+    fn left(&self) -> u64 {
+        self.stage.lock(self.rt).left()
     }
 
     /// Delivers what is under way, with at most so many moves in all.
@@ -79,21 +79,20 @@ impl<'r, 's, 'b, S: Setting, A: Allocator + Copy, R: Wait> Play<'r, 's, 'b, S, A
         ensures { IfErr result IsPlayStop }
     {
         for _ in 0..most {
-            if self.left(most) == 0 || !self.stage.lock(self.rt).deliver_next()? {
+            if self.left() == 0 || !self.stage.lock(self.rt).deliver_next()? {
                 return Ok(());
             }
         }
         Ok(())
     }
 
-    /// Gives each node a turn, before which its work goes on, with at most so many moves in all. It says whether a turn did
-    /// anything.
-    fn turn_all(&self, nodes: u64, most: u64) -> Result<bool, Fault>
+    /// Gives each node a turn, before which its work goes on, as long as moves are left. It says whether a turn did anything.
+    fn turn_all(&self, nodes: u64) -> Result<bool, Fault>
         ensures { IfErr result IsPlayStop }
     {
         let mut stirred = false;
         for node in 0..nodes {
-            if self.left(most) > 0 && self.make(Move::Turn(node))? {
+            if self.left() > 0 && self.make(Move::Turn(node))? {
                 stirred = true;
             }
         }
@@ -108,8 +107,8 @@ impl<'r, 's, 'b, S: Setting, A: Allocator + Copy, R: Wait> Play<'r, 's, 'b, S, A
         let nodes = self.stage.lock(self.rt).nodes();
         for _ in 0..most {
             self.deliver_all(most)?;
-            let stirred = self.turn_all(nodes, most)?;
-            if self.left(most) < nodes {
+            let stirred = self.turn_all(nodes)?;
+            if self.left() < nodes {
                 return Ok(());
             }
             if !stirred && self.stage.lock(self.rt).stands_still()? {

@@ -9,9 +9,11 @@
 #![tactic(auto)]
 
 mod baton;
+mod budget;
 mod checks;
 mod close;
 mod driver;
+mod handed;
 mod joined;
 mod memory;
 mod named_moves;

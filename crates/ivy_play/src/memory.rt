@@ -1,11 +1,12 @@
 //! The memory of a play as the work of one node has it.
-ghost use Rattle.std.specs.Prelude.{◌≡◌, ◌+◌, ◌*◌, ◌^◌, ◌<◌, ◌≤◌, ◌++◌, ◌∷◌, [], false, length, vec_capacity, vec_len, IfErr, IsTrue};
+ghost use Rattle.std.specs.Prelude.{◌≡◌, ◌+◌, ◌*◌, ◌^◌, ◌<◌, ◌≤◌, ◌++◌, ◌∷◌, [], false, length, vec_capacity, vec_len, IfErr, IfOk, IsTrue};
 ghost use Rattle.ivy_model.specs.stated.Legal.{HasWidth};
 ghost use Rattle.ivy_model.specs.Rows.{numbers_in};
 ghost use Rattle.ivy_calls.specs.BlockAnswers.{in_row};
 ghost use Rattle.ivy_play.specs.Faults.{IsUnanswered};
 
 use crate::driver::Play;
+use crate::handed::Handed;
 use crate::stage::Setting;
 use ivy_calls::{Answer, SharedMemory};
 use ivy_model::{Call, Fault, Reply, Row};
@@ -67,10 +68,11 @@ where
         answers
     }
 
-    /// Makes the call, which the next turn of the node begins [1, 21].
-    fn hand(&self, call: Call) -> Result<(), Fault>
+    /// Makes this call, which the next turn of the node begins [1, 21].
+    fn hand(&self, call: Call) -> Result<Handed, Fault>
         requires { HasWidth call }
-        ensures { IfErr result IsUnanswered }
+        ensures own { IfOk result (λ handed. handed.call ≡ call) }
+        ensures unanswered { IfErr result IsUnanswered }
     {
         if self.play.baton.is_over() {
             return Err(Fault::TurnLimit);
@@ -96,10 +98,10 @@ where
         requires { HasWidth call }
         ensures { IfErr result IsUnanswered }
     {
-        self.hand(call)?;
+        let handed = self.hand(call)?;
         self.play.baton.give_back();
         self.play.baton.wait(self.play.rt, self.me);
-        self.take(call)
+        self.take(handed.call())
     }
 
     /// Makes calls of a row with no other move between, and says how many.

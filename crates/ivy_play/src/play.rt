@@ -1,8 +1,9 @@
 //! Own code in a world whose moves are drawn, or listed.
-ghost use Rattle.std.specs.Prelude.{◌≡◌, ◌↔◌, ℕ, Some, IsErrOf, IfErr, IfOk, slice_get, vec_len};
+ghost use Rattle.std.specs.Prelude.{◌≡◌, ◌↔◌, ℕ, Some, IsErrOf, IfErr, IfOk, MatchResult, slice_get, vec_len};
 ghost use Rattle.ivy_model.specs.stated.Config.{IsConfig};
 ghost use Rattle.ivy_play.specs.Faults.{IsPlayFault, IsPlayStop};
-ghost use Rattle.ivy_play.specs.Played.{own_opening};
+ghost use Rattle.ivy_play.specs.Ends.{HasEnded, HasGivenUp};
+ghost use Rattle.ivy_play.specs.Played.{HasDrawn, own_opening};
 ghost use Rattle.ivy_play.specs.Reports.{IsPlayReport};
 ghost use Rattle.ivy_play.specs.Endings.{ComesToRest};
 
@@ -31,10 +32,13 @@ fn close<S: Setting, A: Allocator + Copy, W: Work>(
     all: Vec<Result<Ended<W::Out, A>, GivenUp>, A>,
     settle: u64,
 ) -> Result<PlayReport<W::Out, A>, Fault>
+    requires settle { settle ≡ S.settle }
     requires all { vec_len all ≡ S.config.nodes }
     requires done { (i : ℕ) (r : _) → slice_get all.items i ≡ Some r → IfOk r (λ ended. W.done work.now i ended.answers.items ended.out) }
     ensures report { IfOk result (λ report. IsPlayReport S.config (W.done work.now) report.moves.items report.world report.outcomes.items report.rest) }
     ensures rests { IfOk result (λ report. ComesToRest S.config settle report.moves.items report.drawn report.world.world report.outcomes.items report.rest) }
+    ensures drawn { IfOk result (λ report. HasDrawn S.config settle report.moves.items report.drawn) }
+    ensures stand { IfOk result (λ report. (i : ℕ) (outcome : _) → slice_get report.outcomes.items i ≡ Some outcome → (r : _) → slice_get all.items i ≡ Some r → MatchResult r (λ ended. HasEnded report.world.world i ended.answers.items ended.is_cut ended.out outcome) (λ up. HasGivenUp report.world.world i up outcome)) }
     ensures stop { IfErr result IsPlayStop }
 {
     let played = stage.into_played();
@@ -59,12 +63,18 @@ fn close<S: Setting, A: Allocator + Copy, W: Work>(
     })
 }
 
-/// Plays the work of each node, from the opening world of own code at this configuration on [1, 17, 19].
+/// A configuration, and the opening world of own code at it.
+#[derive(Drop)]
+struct Opening<A: Allocator> {
+    config: Config,
+    world: World<A>,
+}
+
+/// Plays the work of each node, from this opening on [1, 17, 19].
 fn play<S, A, R, M, W>(
     rt: &R,
     alloc: A,
-    config: Config,
-    world: World<A>,
+    opening: Opening<A>,
     work: &W,
     source: M,
     settle: u64,
@@ -75,15 +85,18 @@ where
     R: Threads + Wait + Sync,
     M: MoveSource + Drop,
     W: Work + Sync,
-    requires config { config ≡ S.config }
-    requires opens { world ≡ own_opening S.config }
+    requires config { opening.config ≡ S.config }
+    requires opens { opening.world ≡ own_opening S.config }
+    requires settle { settle ≡ S.settle }
     ensures report { IfOk result (λ report. IsPlayReport S.config (W.done work.now) report.moves.items report.world report.outcomes.items report.rest) }
     ensures rests { IfOk result (λ report. ComesToRest S.config settle report.moves.items report.drawn report.world.world report.outcomes.items report.rest) }
+    ensures drawn { IfOk result (λ report. HasDrawn S.config settle report.moves.items report.drawn) }
     ensures stop { IfErr result IsPlayStop }
 {
+    let Opening { config, world } = opening;
     // for the proof: what holds of a world at every moment
     world.keeps();
-    let stage = Mutex::new(Stage::<S, A>::new(alloc, config, world));
+    let stage = Mutex::new(Stage::<S, A>::new(alloc, config, world, settle));
     let baton = Baton::new(alloc, config.nodes)?;
     let play = Play {
         rt,
@@ -122,11 +135,13 @@ where
     W: Work + Sync,
     ensures report { IfOk result (λ report. IsPlayReport config (W.done work.now) report.moves.items report.world report.outcomes.items report.rest) }
     ensures rests { IfOk result (λ report. ComesToRest config settle report.moves.items report.drawn report.world.world report.outcomes.items report.rest) }
+    ensures drawn { IfOk result (λ report. HasDrawn config settle report.moves.items report.drawn) }
     ensures bad { IsErrOf result Fault.BadConfig ↔ ¬ IsConfig config }
     ensures fault { IfErr result IsPlayFault }
 {
     let world = World::open(alloc, config)?;
-    play::<Brand, A, R, M, W>(rt, alloc, config, world, work, source, settle)
+    let opening = Opening { config, world };
+    play::<Brand, A, R, M, W>(rt, alloc, opening, work, source, settle)
 }
 
 /// The same, by so many moves that the generator of a seed draws [1, 2, 17].
@@ -145,6 +160,7 @@ where
     W: Work + Sync,
     ensures report { IfOk result (λ report. IsPlayReport config (W.done work.now) report.moves.items report.world report.outcomes.items report.rest) }
     ensures rests { IfOk result (λ report. ComesToRest config settle report.moves.items report.drawn report.world.world report.outcomes.items report.rest) }
+    ensures drawn { IfOk result (λ report. HasDrawn config settle report.moves.items report.drawn) }
     ensures bad { IsErrOf result Fault.BadConfig ↔ ¬ IsConfig config }
     ensures fault { IfErr result IsPlayFault }
 {
@@ -166,6 +182,7 @@ where
     W: Work + Sync,
     ensures report { IfOk result (λ report. IsPlayReport config (W.done work.now) report.moves.items report.world report.outcomes.items report.rest) }
     ensures rests { IfOk result (λ report. ComesToRest config settle report.moves.items report.drawn report.world.world report.outcomes.items report.rest) }
+    ensures drawn { IfOk result (λ report. HasDrawn config settle report.moves.items report.drawn) }
     ensures bad { IsErrOf result Fault.BadConfig ↔ ¬ IsConfig config }
     ensures fault { IfErr result IsPlayFault }
 {

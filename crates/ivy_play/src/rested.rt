@@ -1,8 +1,8 @@
 //! That a play goes on until its world stands still and each work that waits has a call in progress, or its moves run out.
-ghost use Rattle.std.specs.Prelude.{◌≡◌, ◌-◌, ◌+◌, ◌≤◌, ◌<◌, ◌↔◌, false, length, IfErr, IfOk, IsTrue, OnOk};
+ghost use Rattle.std.specs.Prelude.{◌≡◌, ◌-◌, ◌+◌, ◌≤◌, ◌<◌, ◌↔◌, false, length, max, IfErr, IfOk, IsTrue, OnOk};
 ghost use Rattle.ivy_model.specs.declared.Config.{Config};
 ghost use Rattle.ivy_play.specs.Faults.{IsPlayStop};
-ghost use Rattle.ivy_play.specs.Played.{IsPlayed, IsStillWhere};
+ghost use Rattle.ivy_play.specs.Played.{HasDrawn, IsPlayed, IsStillWhere};
 ghost use Rattle.ivy_play.specs.Endings.{AreWaiting, ComesToRest, HaveSameCores, IsWaiting};
 
 use crate::report::Outcome;
@@ -58,6 +58,8 @@ fn spend<A: Allocator + Copy>(
     ensures cores { HaveSameCores world.old.world world.new.world }
     ensures config { world.new.config ≡ world.old.config }
     ensures spent { IfOk result (λ _. most ≤ length moves.new.items - drawn) }
+    ensures few { length moves.new.items ≤ max (length moves.old.items) (drawn + most) }
+    ensures longer { length moves.old.items ≤ length moves.new.items }
     ensures stop { IfErr result IsPlayStop }
 {
     let made = (moves.len() - drawn) as u64;
@@ -75,10 +77,12 @@ pub(crate) fn rested<T, A: Allocator + Copy>(
     settle: u64,
 ) -> Result<Played<A>, Fault>
     requires count { length outcomes.now ≡ played.world.config.nodes }
+    requires within { played.drawn ≤ length played.moves.items }
     ensures played { (c : Config) → IsPlayed c played.moves.items played.world → IfOk result (λ p. IsPlayed c p.moves.items p.world) }
     ensures still { IsStillWhere played.rest played.world → IfOk result (λ p. IsStillWhere p.rest p.world) }
     ensures cores { IfOk result (λ p. HaveSameCores played.world.world p.world.world) }
     ensures config { IfOk result (λ p. p.world.config ≡ played.world.config) }
+    ensures drawn { (c : Config) → HasDrawn c settle played.moves.items played.drawn → IfOk result (λ p. HasDrawn c settle p.moves.items p.drawn) }
     ensures rests { IfOk result (λ p. ComesToRest p.world.config settle p.moves.items p.drawn p.world.world outcomes.now p.rest) }
     ensures stop { IfErr result IsPlayStop }
 {
@@ -88,7 +92,6 @@ pub(crate) fn rested<T, A: Allocator + Copy>(
         drawn,
         rest,
     } = played;
-    let drawn = drawn.min(moves.len());
     let left = settle.saturating_sub((moves.len() - drawn) as u64);
     if left < world.nodes() {
         return Ok(Played {

@@ -1,6 +1,8 @@
 //! Plays by many seeds.
 ghost use Rattle.std.specs.Prelude.{IfErr, IfOk, IfSome};
 ghost use Rattle.ivy_play.specs.Faults.{IsPlayFault};
+ghost use Rattle.ivy_play.specs.Endings.{ComesToRest};
+ghost use Rattle.ivy_play.specs.Played.{HasDrawn};
 ghost use Rattle.ivy_play.specs.Reports.{IsPlayReport};
 
 use crate::checks::Check;
@@ -50,6 +52,8 @@ where
     W: Work<Out = T> + Sync,
     F: Check<T>,
     ensures report { IfOk result (λ found. IfSome found (λ failing. IsPlayReport config (W.done work.now) failing.shorter.report.moves.items failing.shorter.report.world failing.shorter.report.outcomes.items failing.shorter.report.rest)) }
+    ensures rests { IfOk result (λ found. IfSome found (λ failing. ComesToRest config seeds.settle failing.shorter.report.moves.items failing.shorter.report.drawn failing.shorter.report.world.world failing.shorter.report.outcomes.items failing.shorter.report.rest)) }
+    ensures drawn { IfOk result (λ found. IfSome found (λ failing. HasDrawn config seeds.settle failing.shorter.report.moves.items failing.shorter.report.drawn)) }
     ensures fails { IfOk result (λ found. IfSome found (λ failing. F.fails check.now failing.shorter.report.outcomes.items)) }
     ensures fault { IfErr result IsPlayFault }
 {

@@ -1,6 +1,8 @@
 //! Schedules without the moves that are not needed for a play to fail.
 ghost use Rattle.std.specs.Prelude.{IfErr, IfOk, IfSome};
 ghost use Rattle.ivy_play.specs.Faults.{IsPlayFault, IsPlayStop};
+ghost use Rattle.ivy_play.specs.Endings.{ComesToRest};
+ghost use Rattle.ivy_play.specs.Played.{HasDrawn};
 ghost use Rattle.ivy_play.specs.Reports.{IsPlayReport};
 
 use crate::checks::Check;
@@ -60,6 +62,8 @@ where
     /// The play by these moves [1, 2, 17, 19].
     fn play(&self, named: &[Named]) -> Result<PlayReport<T, A>, Fault>
         ensures report { IfOk result (λ report. IsPlayReport self.now.config (W.done self.now.work.now) report.moves.items report.world report.outcomes.items report.rest) }
+        ensures rests { IfOk result (λ report. ComesToRest self.now.config self.now.settle report.moves.items report.drawn report.world.world report.outcomes.items report.rest) }
+        ensures drawn { IfOk result (λ report. HasDrawn self.now.config self.now.settle report.moves.items report.drawn) }
         ensures fault { IfErr result IsPlayFault }
     {
         let source = Renamed::new(self.alloc, self.config, named);
@@ -76,6 +80,8 @@ where
     /// The play by these moves, where it fails [1].
     fn failing(&self, named: &[Named]) -> Result<Option<PlayReport<T, A>>, Fault>
         ensures report { IfOk result (λ found. IfSome found (λ report. IsPlayReport self.now.config (W.done self.now.work.now) report.moves.items report.world report.outcomes.items report.rest)) }
+        ensures rests { IfOk result (λ found. IfSome found (λ report. ComesToRest self.now.config self.now.settle report.moves.items report.drawn report.world.world report.outcomes.items report.rest)) }
+        ensures drawn { IfOk result (λ found. IfSome found (λ report. HasDrawn self.now.config self.now.settle report.moves.items report.drawn)) }
         ensures fails { IfOk result (λ found. IfSome found (λ report. F.fails self.now.check.now report.outcomes.items)) }
         ensures stop { IfErr result IsPlayStop }
     {
@@ -178,6 +184,8 @@ where
         requires report { IsPlayReport self.now.config (W.done self.now.work.now) first.moves.items first.world first.outcomes.items first.rest }
         requires fails { F.fails self.now.check.now first.outcomes.items }
         ensures report { IfOk result (λ shorter. IsPlayReport self.now.config (W.done self.now.work.now) shorter.report.moves.items shorter.report.world shorter.report.outcomes.items shorter.report.rest) }
+        ensures rests { ComesToRest self.now.config self.now.settle first.moves.items first.drawn first.world.world first.outcomes.items first.rest → IfOk result (λ shorter. ComesToRest self.now.config self.now.settle shorter.report.moves.items shorter.report.drawn shorter.report.world.world shorter.report.outcomes.items shorter.report.rest) }
+        ensures drawn { HasDrawn self.now.config self.now.settle first.moves.items first.drawn → IfOk result (λ shorter. HasDrawn self.now.config self.now.settle shorter.report.moves.items shorter.report.drawn) }
         ensures fails { IfOk result (λ shorter. F.fails self.now.check.now shorter.report.outcomes.items) }
         ensures stop { IfErr result IsPlayStop }
     {
@@ -227,6 +235,8 @@ where
     requires report { IsPlayReport config (W.done work.now) report.moves.items report.world report.outcomes.items report.rest }
     requires fails { F.fails check.now report.outcomes.items }
     ensures report { IfOk result (λ shorter. IsPlayReport config (W.done work.now) shorter.report.moves.items shorter.report.world shorter.report.outcomes.items shorter.report.rest) }
+    ensures rests { ComesToRest config settle report.moves.items report.drawn report.world.world report.outcomes.items report.rest → IfOk result (λ shorter. ComesToRest config settle shorter.report.moves.items shorter.report.drawn shorter.report.world.world shorter.report.outcomes.items shorter.report.rest) }
+    ensures drawn { HasDrawn config settle report.moves.items report.drawn → IfOk result (λ shorter. HasDrawn config settle shorter.report.moves.items shorter.report.drawn) }
     ensures fails { IfOk result (λ shorter. F.fails check.now shorter.report.outcomes.items) }
     ensures stop { IfErr result IsPlayStop }
 {

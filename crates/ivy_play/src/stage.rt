@@ -10,26 +10,34 @@ ghost use Rattle.ivy_world.specs.WorldRounds.{DoesNothing};
 ghost use Rattle.ivy_world.specs.stated.Runs.{IsSameRun};
 ghost use Rattle.ivy_world.specs.Settling.{HasSettled};
 ghost use Rattle.ivy_play.specs.Faults.{IsPlayStop, IsUnanswered};
-ghost use Rattle.ivy_play.specs.Played.{IsPlayed, IsAnsweredAt, IsStillWhere, own_opening};
+ghost use Rattle.ivy_play.specs.Played.{HasDrawn, IsPlayed, IsAnsweredAt, IsStillWhere, own_opening};
 
+use crate::budget::Budget;
+use crate::handed::{Handed, hand};
 use crate::source::MoveSource;
-use crate::together::play_row;
+use crate::together::{RowCalls, play_row};
 use ivy_model::{CANNOT_HAPPEN, Call, Config, Fault, Reply, Row};
 use ivy_world::{Move, Rest, World};
 use std::alloc::Allocator;
 use std::marker::{Brand, Model, PhantomData};
 
-/// Names the configuration of a play. Whoever begins one picks it, at `Brand`.
+/// Names the configuration of a play, and how many moves may let its world settle. Whoever begins one picks both, at
+/// `Brand`.
 pub trait Setting {
+    ghost use Rattle.std.specs.Prelude.{ℕ};
     ghost use Rattle.ivy_model.specs.declared.Config.{Config};
 
     ghost config: { Config };
+
+    ghost settle: { ℕ };
 }
 
 impl Setting for Brand {
     ghost use Rattle.ivy_play.specs.Played.{no_config};
 
     ghost config = { no_config };
+
+    ghost settle = { 0 };
 }
 
 /// The reply that a node got to its call of this number, counted from 0, where it got one.
@@ -80,6 +88,8 @@ fn find_still<A: Allocator + Copy>(
 ) -> Result<bool, Fault>
     ensures played { (c : Config) → IsPlayed c moves.old.items world.old → IsPlayed c moves.new.items world.new }
     ensures still { result ≡ Ok true → HasSettled world.new }
+    ensures longer { length moves.old.items ≤ length moves.new.items }
+    ensures few { length moves.new.items ≤ length moves.old.items + world.old.config.nodes }
     ensures stop { IfErr result IsPlayStop }
 {
     for node in 0..world.nodes() {
@@ -106,8 +116,7 @@ fn rest_of(is_still: bool) -> Rest
 pub(crate) struct Stage<S: Setting, A: Allocator> {
     world: World<A>,
     moves: Vec<Move, A>,
-    /// So many of the moves were not made to let the world settle.
-    drawn: usize,
+    budget: Budget,
     rest: Rest,
     config: Config,
     /// So many turns of this node were made with the last row of its work, and are still to be asked for.
@@ -119,25 +128,27 @@ pub(crate) struct Stage<S: Setting, A: Allocator> {
 impl<S: Setting, A: Allocator> Model for Stage<S, A> {
     ghost use Rattle.std.specs.Prelude.{◌≡◌};
     ghost use Rattle.ivy_model.specs.stated.Config.{IsConfig};
-    ghost use Rattle.ivy_play.specs.Played.{IsPlayed, IsStillWhere};
+    ghost use Rattle.ivy_play.specs.Played.{HasDrawn, IsPlayed, IsStillWhere};
 
     ghost Value = { Unit {0} };
 
     ghost view = { λ _. tt };
 
-    ghost invariant = { λ s. IsPlayed S.config s.moves.items s.world × IsStillWhere s.rest s.world × IsConfig s.config };
+    ghost invariant = { λ s. IsPlayed S.config s.moves.items s.world × IsStillWhere s.rest s.world × IsConfig s.config × (s.config ≡ S.config) × (s.budget.most ≡ S.settle) × HasDrawn S.config S.settle s.moves.items s.budget.drawn };
 }
 
 impl<S: Setting, A: Allocator + Copy> Stage<S, A> {
-    /// The opening world of own code.
-    pub(crate) fn new(alloc: A, config: Config, world: World<A>) -> Self
+    /// The opening world of own code. So many moves may let it settle at last.
+    pub(crate) fn new(alloc: A, config: Config, world: World<A>, settle: u64) -> Self
         requires opens { world ≡ own_opening S.config }
         requires limits { IsConfig config }
+        requires config { config ≡ S.config }
+        requires settle { settle ≡ S.settle }
     {
         Stage {
             world,
             moves: Vec::new(alloc),
-            drawn: 0,
+            budget: Budget::new(settle),
             rest: Rest::Going,
             config,
             ahead: 0,
@@ -163,10 +174,11 @@ impl<S: Setting, A: Allocator + Copy> Stage<S, A> {
         self.world.nodes()
     }
 
-    /// The work of a node makes a call [1, 21].
-    pub(crate) fn hand(&mut self, node: u8, call: Call) -> Result<(), Fault>
+    /// The work of a node makes this call [1, 21].
+    pub(crate) fn hand(&mut self, node: u8, call: Call) -> Result<Handed, Fault>
         requires { HasWidth call }
-        ensures { IfErr result IsUnanswered }
+        ensures own { IfOk result (λ handed. handed.call ≡ call) }
+        ensures unanswered { IfErr result IsUnanswered }
     {
         let node = u64::from(node);
         if node >= self.world.nodes() {
@@ -176,7 +188,7 @@ impl<S: Setting, A: Allocator + Copy> Stage<S, A> {
             return Err(CANNOT_HAPPEN);
         }
         self.rest = Rest::Going;
-        self.world.hand(node, call)
+        hand(&mut self.world, node, call)
     }
 
     /// The work of a node makes calls of a row, on words of 8 bytes from `addr` on, with no other move between [1, 17]. It says
@@ -193,20 +205,19 @@ impl<S: Setting, A: Allocator + Copy> Stage<S, A> {
         ensures stop { IfErr result IsPlayStop }
     {
         let node = u64::from(node);
-        if node >= self.world.nodes() {
+        let made = self.moves.len();
+        if node >= self.world.nodes() || self.budget.is_spent(made) {
             return Ok(0);
         }
         self.rest = Rest::Going;
-        let made = self.moves.len();
-        let calls = play_row(
-            &mut self.world,
-            &mut self.moves,
-            &self.config,
+        let row = RowCalls {
             node,
             kind,
             addr,
             bytes,
-        )?;
+        };
+        let calls = play_row(&mut self.world, &mut self.moves, &self.config, row)?;
+        self.budget = self.budget.after(self.moves.len());
         self.ahead = self.moves.len().saturating_sub(made);
         self.of_node = node;
         Ok(calls)
@@ -225,7 +236,7 @@ impl<S: Setting, A: Allocator + Copy> Stage<S, A> {
     }
 
     /// Makes a move, or changes nothing [1, 17, 19]. It says whether it did anything. The turns that were made with a row are
-    /// not made again.
+    /// not made again. Nor is a move that is to let the world settle, where none is left.
     pub(crate) fn make(&mut self, step: Move) -> Result<bool, Fault>
         ensures { IfErr result IsPlayStop }
     {
@@ -233,19 +244,24 @@ impl<S: Setting, A: Allocator + Copy> Stage<S, A> {
             self.ahead = self.ahead.saturating_sub(1);
             return Ok(true);
         }
+        if self.budget.is_spent(self.moves.len()) {
+            return Ok(false);
+        }
         self.ahead = 0;
         self.rest = Rest::Going;
-        play_move(&mut self.world, &mut self.moves, step)
+        let did = play_move(&mut self.world, &mut self.moves, step)?;
+        self.budget = self.budget.after(self.moves.len());
+        Ok(did)
     }
 
     /// The moves from here on let the world settle.
     pub(crate) fn begin_settling(&mut self) {
-        self.drawn = self.moves.len();
+        self.budget = self.budget.settling(self.moves.len());
     }
 
-    /// How many moves are left of so many that let the world settle.
-    pub(crate) fn left(&self, most: u64) -> u64 {
-        most.saturating_sub(self.moves.len().saturating_sub(self.drawn) as u64)
+    /// How many moves are left of those that let the world settle.
+    pub(crate) fn left(&self) -> u64 {
+        self.budget.left(self.moves.len())
     }
 
     /// Delivers the first string that is under way [1, 17]. It says whether one was.
@@ -259,10 +275,13 @@ impl<S: Setting, A: Allocator + Copy> Stage<S, A> {
         Ok(true)
     }
 
-    /// Whether the world stands still, which a turn of each node shows [1, 17].
+    /// Whether the world stands still, which a turn of each node shows, where so many moves are left [1, 17].
     pub(crate) fn stands_still(&mut self) -> Result<bool, Fault>
         ensures { IfErr result IsPlayStop }
     {
+        if self.budget.left(self.moves.len()) < self.world.nodes() {
+            return Ok(false);
+        }
         self.ahead = 0;
         self.rest = Rest::Going;
         let is_still = find_still(&mut self.world, &mut self.moves)?;
@@ -272,12 +291,12 @@ impl<S: Setting, A: Allocator + Copy> Stage<S, A> {
 
     /// What was played.
     pub(crate) fn into_played(self) -> Played<A>
-        ensures { IsPlayed S.config result.moves.items result.world × IsStillWhere result.rest result.world }
+        ensures { IsPlayed S.config result.moves.items result.world × IsStillWhere result.rest result.world × HasDrawn S.config S.settle result.moves.items result.drawn }
     {
         let Stage {
             world,
             moves,
-            drawn,
+            budget,
             rest,
             config: _,
             ahead: _,
@@ -287,7 +306,7 @@ impl<S: Setting, A: Allocator + Copy> Stage<S, A> {
         Played {
             world,
             moves,
-            drawn,
+            drawn: budget.drawn,
             rest,
         }
     }
@@ -298,6 +317,7 @@ impl<S: Setting, A: Allocator + Copy> Stage<S, A> {
 pub(crate) struct Played<A: Allocator> {
     pub(crate) world: World<A>,
     pub(crate) moves: Vec<Move, A>,
+    /// So many of the moves were not made to let the world settle.
     pub(crate) drawn: usize,
     pub(crate) rest: Rest,
 }

@@ -13,11 +13,21 @@ use ivy_site::words_together;
 use ivy_world::{Move, World};
 use std::alloc::Allocator;
 
+/// A row of calls that the work of a node makes, on words of 8 bytes from `addr` on.
+#[derive(Clone, Copy)]
+pub(crate) struct RowCalls<'b> {
+    pub(crate) node: u64,
+    pub(crate) kind: Row,
+    pub(crate) addr: u64,
+    pub(crate) bytes: &'b [u8],
+}
+
 /// How many words a row of so many bytes has in the page of its address; none where the first is no word of the heap.
 fn words_of(config: &Config, addr: u64, len: usize) -> usize
     requires { IsConfig config.now }
     ensures fits { 8 * result ≤ len }
     ensures below { addr + 8 * result < 2 ^ 64 }
+    ensures page { 8 * result ≤ config.now.page_size }
 {
     if access_refusal(config, 8, addr).is_some() {
         return 0;
@@ -30,26 +40,24 @@ fn words_of(config: &Config, addr: u64, len: usize) -> usize
 fn play_block<A: Allocator + Copy>(
     world: &mut World<A>,
     moves: &mut Vec<Move, A>,
-    node: u64,
-    kind: Row,
-    addr: u64,
+    asked: RowCalls,
     words: usize,
-    bytes: &[u8],
 ) -> Result<usize, Fault>
-    requires { node < world.old.config.nodes }
+    requires { asked.node < world.old.config.nodes }
     ensures played { (c : Config) → IsPlayed c moves.old.items world.old → IsPlayed c moves.new.items world.new }
-    ensures fits { IfOk result (λ calls. 8 * calls ≤ length bytes.now) }
-    ensures turns { IfOk result (λ calls. AddsTurns node calls moves.old.items moves.new.items) }
+    ensures fits { IfOk result (λ calls. 8 * calls ≤ length asked.entry.bytes.now) }
+    ensures few { IfOk result (λ calls. calls ≤ words) }
+    ensures turns { IfOk result (λ calls. AddsTurns asked.entry.node calls moves.old.items moves.new.items) }
     ensures none { result ≡ Ok 0 → (world.new ≡ world.old) × (moves.new.items ≡ moves.old.items) }
     ensures refused { OnErr result ((world.new ≡ world.old) × (moves.new.items ≡ moves.old.items)) }
     ensures stop { IfErr result IsPlayStop }
 {
     moves.reserve(1)?;
-    let calls = world.hand_block(node, kind, addr, words, bytes)?;
+    let calls = world.hand_block(asked.node, asked.kind, asked.addr, words, asked.bytes)?;
     if calls == 0 {
         return Ok(0);
     }
-    moves.push_reserved(Move::Turn(node));
+    moves.push_reserved(Move::Turn(asked.node));
     Ok(calls)
 }
 
@@ -84,26 +92,24 @@ fn hand_word<A: Allocator + Copy>(
 fn play_words<A: Allocator + Copy>(
     world: &mut World<A>,
     moves: &mut Vec<Move, A>,
-    node: u64,
-    kind: Row,
-    addr: u64,
+    asked: RowCalls,
     words: usize,
-    bytes: &[u8],
 ) -> usize
-    requires node { node < world.old.config.nodes }
-    requires fits { 8 * words ≤ length bytes.now }
-    requires below { addr + 8 * words < 2 ^ 64 }
+    requires node { asked.node < world.old.config.nodes }
+    requires fits { 8 * words ≤ length asked.bytes.now }
+    requires below { asked.addr + 8 * words < 2 ^ 64 }
     ensures played { (c : Config) → IsPlayed c moves.old.items world.old → IsPlayed c moves.new.items world.new }
-    ensures turns { AddsTurns node result moves.old.items moves.new.items }
+    ensures turns { AddsTurns asked.entry.node result moves.old.items moves.new.items }
     ensures few { result ≤ words }
 {
     for word in 0..words {
         let at = 8 * word;
-        if !hand_word(world, node, kind, addr + at as u64, &bytes[at..at + 8]) {
+        let bytes = &asked.bytes[at..at + 8];
+        if !hand_word(world, asked.node, asked.kind, asked.addr + at as u64, bytes) {
             return word;
         }
         // a turn that is refused leaves the call to a later one of the node
-        let _ = play_move(world, moves, Move::Turn(node));
+        let _ = play_move(world, moves, Move::Turn(asked.node));
     }
     words
 }
@@ -116,23 +122,21 @@ pub(crate) fn play_row<A: Allocator + Copy>(
     world: &mut World<A>,
     moves: &mut Vec<Move, A>,
     config: &Config,
-    node: u64,
-    kind: Row,
-    addr: u64,
-    bytes: &[u8],
+    asked: RowCalls,
 ) -> Result<usize, Fault>
-    requires node { node < world.old.config.nodes }
+    requires node { asked.node < world.old.config.nodes }
     requires limits { IsConfig config.now }
     ensures played { (c : Config) → IsPlayed c moves.old.items world.old → IsPlayed c moves.new.items world.new }
-    ensures fits { IfOk result (λ calls. 8 * calls ≤ length bytes.now) }
-    ensures turns { IfOk result (λ calls. AddsTurns node calls moves.old.items moves.new.items) }
+    ensures fits { IfOk result (λ calls. 8 * calls ≤ length asked.entry.bytes.now) }
+    ensures page { IfOk result (λ calls. 8 * calls ≤ config.now.page_size) }
+    ensures turns { IfOk result (λ calls. AddsTurns asked.entry.node calls moves.old.items moves.new.items) }
     ensures refused { OnErr result ((world.new ≡ world.old) × (moves.new.items ≡ moves.old.items)) }
     ensures stop { IfErr result IsPlayStop }
 {
-    let words = words_of(config, addr, bytes.len());
-    let calls = play_block(world, moves, node, kind, addr, words, bytes)?;
+    let words = words_of(config, asked.addr, asked.bytes.len());
+    let calls = play_block(world, moves, asked, words)?;
     if calls > 0 {
         return Ok(calls);
     }
-    Ok(play_words(world, moves, node, kind, addr, words, bytes))
+    Ok(play_words(world, moves, asked, words))
 }

@@ -1,21 +1,28 @@
 -- A node goes on by events whose lines it notes, one after another, and writes them.
-use Rattle.std.proofs.Common.{◌≡◌, ℕ, List, [], ◌∷◌, ◌++◌, Option, refl, sym, ap, subst, ◌∙◌, append-nil, append_assoc}
+use Rattle.std.proofs.Common.{◌≡◌, ℕ, List, [], ◌∷◌, ◌++◌, length, Option, refl, sym, arith, ap, subst, ◌∙◌, append-nil, append_assoc}
 use Rattle.std.specs.Io.KnownBytes.{Appends}
 use Rattle.std.proofs.KnownBytes.{Appends-nil, Appends-trans}
 use Rattle.std.proofs.lemmas.List.Concat.{flat_map-append}
 use Rattle.ivy_moves.specs.Events.{Event}
 use Rattle.ivy_moves.specs.Marks.{Delivery, marks, marks_of}
+use Rattle.ivy_link.specs.declared.Verdict.{Verdict}
 use Rattle.ivy_link.specs.declared.Verdict.TheVariants as verdict
+use Rattle.ivy_moves.specs.stated.Nodes.{pulsing}
+use Rattle.ivy_moves.specs.Parts.{pulse_marks}
+use Rattle.ivy_site.specs.Inside.{Holds, Receives}
 use Rattle.ivy_logs.specs.Printed.{event_line}
-use Rattle.ivy_site.specs.SiteView.{SiteView}
+use Rattle.ivy_site.specs.SiteView.{SiteView, after_delivery, after_pulse_to}
 use Rattle.ivy_site.specs.Sites.{GoesOnOnce, without_ready}
 use Rattle.ivy_logs.proofs.Entries.{marks-append}
 use Rattle.ivy_join.proofs.EventSteps.{received-listed}
-use Rattle.ivy_process.specs.NodeLogs.{Served, served, lines_of, AddsEvents, IsEmptied, IsLogged, StreamsPart, StreamsWhole}
+use Rattle.ivy_process.specs.NodeLogs.{Served, served, lines_of, AddsEvents, IsEmptied, IsLogged, KeepsCalls, StreamsPart, StreamsWhole}
+use Rattle.ivy_process.proofs.Kept.{keeps-further, keeps-same, keeps-waiting}
 
 -- no event
-pub stays : (s s' : Served) → s'.site.events ≡ s.site.events → s'.unlogged ≡ s.unlogged → AddsEvents s s'
-stays s s' listed noted = record {
+pub stays : (s s' : Served) → s'.site.events ≡ s.site.events → s'.unlogged ≡ s.unlogged
+    → KeepsCalls s.site s'.site → AddsEvents s s'
+stays s s' listed noted kept = record {
+  kept = kept;
   events = [];
   listed = listed ∙ sym (append-nil s.site.events);
   noted = noted ∙ sym (append-nil s.unlogged);
@@ -23,8 +30,9 @@ stays s s' listed noted = record {
 
 -- one event
 pub goes_one : (e : Event) (s s' : Served) → s'.site.events ≡ s.site.events ++ marks_of e
-    → s'.unlogged ≡ s.unlogged ++ event_line e → AddsEvents s s'
-goes_one e s s' listed noted = record {
+    → s'.unlogged ≡ s.unlogged ++ event_line e → KeepsCalls s.site s'.site → AddsEvents s s'
+goes_one e s s' listed noted kept = record {
+  kept = kept;
   events = e ∷ [];
   listed = listed ∙ ap (λ l. s.site.events ++ l) (sym (append-nil (marks_of e)));
   noted = noted ∙ ap (λ l. s.unlogged ++ l) (sym (append-nil (event_line e)));
@@ -33,6 +41,7 @@ goes_one e s s' listed noted = record {
 -- first these events, then those
 pub goes_further : (a b d : Served) → AddsEvents a b → AddsEvents b d → AddsEvents a d
 goes_further a b d x y = record {
+  kept = keeps-further a.site b.site d.site x.kept y.kept;
   events = x.events ++ y.events;
   listed = y.listed ∙ ap (λ l. l ++ marks y.events) x.listed
       ∙ append_assoc a.site.events (marks x.events) (marks y.events)
@@ -42,13 +51,41 @@ goes_further a b d x y = record {
       ∙ ap (λ l. a.unlogged ++ l) (sym (flat_map-append event_line x.events y.events));
 }
 
+-- nothing at all
+pub stays-as : (s s' : Served) → s' ≡ s → AddsEvents s s'
+stays-as s s' same =
+    stays s s' (ap (λ (x : Served). x.site.events) same) (ap (λ (x : Served). x.unlogged) same)
+    (keeps-same s.site s'.site (ap (λ (x : Served). x.site) same))
+
+-- a frame for another node is no event
+pub not-mine : (bytes : List ℕ) (v : Verdict) (source : ℕ) (s s' : SiteView) → Receives bytes v source s s'
+    → v ≡ verdict.NotMine → s' ≡ s
+not-mine bytes v source s s' r is =
+    subst (λ w. Holds w r.first.frame bytes r.mid s') is r.holds
+    ∙ (r.first.after ∙ ap (λ w. after_delivery s bytes w r.first.frame.source r.first.effect) is)
+
+nil-second : {X : Type 0} (xs ys : List X) → xs ++ ys ≡ [] → ys ≡ []
+nil-second [] ys is = is
+nil-second (x ∷ xs) ys is = absurd (let long = ap length is in omega (arith, long))
+
+-- nor is a pulse that sent nothing
+pub not-sent : (to : ℕ) (s s' : SiteView) → s' ≡ after_pulse_to s to (pulsing s.node to) → s'.waiting ≡ []
+    → s'.events ≡ s.events
+not-sent to s s' after none =
+    ap (λ (x : SiteView). x.events) after
+    ∙ ap (λ l. s.events ++ pulse_marks to l)
+    (nil-second s.waiting (pulsing s.node to).sent (sym (ap (λ (x : SiteView). x.waiting) after) ∙ none))
+    ∙ append-nil s.events
+
 -- the strings that wait are no events
 pub emptied : (s s' : Served) → IsEmptied s s' → AddsEvents s s'
-emptied s s' e = stays s s' (ap (λ (x : SiteView). x.events) e.site) e.unlogged
+emptied s s' e =
+    stays s s' (ap (λ (x : SiteView). x.events) e.site) e.unlogged (keeps-waiting s.site s'.site e.site)
 
 module _ (a b d : Served) (first second third : Option (List ℕ)) where
   pub streams-on : StreamsPart a b first second → AddsEvents b d → StreamsPart a d first second
   streams-on x y = record {
+    kept = keeps-further a.site b.site d.site x.kept y.kept;
     events = x.events ++ y.events;
     listed = y.listed ∙ ap (λ l. l ++ marks y.events) x.listed
         ∙ append_assoc a.site.events (marks x.events) (marks y.events)
@@ -64,6 +101,7 @@ module _ (a b d : Served) (first second third : Option (List ℕ)) where
 
   pub streams-logged : StreamsPart a b first second → IsLogged b d second third → StreamsPart a d first third
   streams-logged x y = record {
+    kept = keeps-further a.site b.site d.site x.kept y.kept;
     events = x.events;
     listed = y.listed ∙ x.listed;
     part = x.part ++ b.unlogged;
@@ -74,6 +112,7 @@ module _ (a b d : Served) (first second third : Option (List ℕ)) where
   pub streams-whole : StreamsPart a b first second → IsLogged b d second third
       → StreamsWhole a d first third
   streams-whole x y = record {
+    kept = keeps-further a.site b.site d.site x.kept y.kept;
     events = x.events;
     listed = y.listed ∙ x.listed;
     written = subst (Appends first third) x.all
@@ -84,6 +123,7 @@ module _ (a b d : Served) (first second third : Option (List ℕ)) where
   -- first this service, then that
   pub streams-further : StreamsPart a b first second → StreamsPart b d second third → StreamsPart a d first third
   streams-further x y = record {
+    kept = keeps-further a.site b.site d.site x.kept y.kept;
     events = x.events ++ y.events;
     listed = y.listed ∙ ap (λ l. l ++ marks y.events) x.listed
         ∙ append_assoc a.site.events (marks x.events) (marks y.events)
@@ -100,6 +140,7 @@ module _ (a b d : Served) (first second third : Option (List ℕ)) where
 -- nothing was written yet
 pub streams-begin : (a b : Served) (log : Option (List ℕ)) → AddsEvents a b → StreamsPart a b log log
 streams-begin a b log x = record {
+  kept = x.kept;
   events = x.events;
   listed = x.listed;
   part = [];
@@ -110,13 +151,15 @@ streams-begin a b log x = record {
 -- one event at the node's site, whose line is noted
 pub noted-one : (e : Event) (old new : Served) (site site' : SiteView) (lines : List ℕ)
     → old ≡ served site lines → site'.events ≡ site.events ++ marks_of e
-    → new ≡ served site' (lines ++ event_line e) → AddsEvents old new
-noted-one e old new site site' lines was listed is =
+    → new ≡ served site' (lines ++ event_line e) → KeepsCalls site site' → AddsEvents old new
+noted-one e old new site site' lines was listed is kept =
     goes_one e old new
     (ap (λ (x : Served). x.site.events) is ∙ listed
     ∙ ap (λ (x : Served). x.site.events ++ marks_of e) (sym was))
     (ap (λ (x : Served). x.unlogged) is
     ∙ ap (λ (x : Served). x.unlogged ++ event_line e) (sym was))
+    (subst (λ (x : Served). KeepsCalls old.site x.site) (sym is)
+    (subst (λ (x : Served). KeepsCalls x.site site') (sym was) kept))
 
 -- a string that a site held is delivered
 pub once-listed : (source : ℕ) (bytes : List ℕ) (s s' : SiteView) → GoesOnOnce source bytes s s'

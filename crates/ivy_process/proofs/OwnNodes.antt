@@ -1,23 +1,33 @@
 -- A node with own code goes on by events, calls and answers, whose lines it notes and writes.
-use Rattle.std.proofs.Common.{◌≡◌, ℕ, ◌<◌, ◌≤◌, List, [], ◌∷◌, ◌++◌, length, take, Option, None, map, refl, sym, ap, subst, ◌∙◌, append-nil, append_assoc, arith}
+use Rattle.std.proofs.Common.{◌≡◌, ℕ, ◌+◌, ◌<◌, ◌≤◌, List, [], ◌∷◌, ◌++◌, length, take, Option, None, Result, Ok, Err, IfOk, map, refl, sym, ap, subst, ◌∙◌, append-nil, append_assoc, arith}
 use Rattle.std.specs.Io.KnownBytes.{Appends}
 use Rattle.std.proofs.KnownBytes.{Appends-nil, Appends-trans}
-use Rattle.std.proofs.lemmas.List.{take_all}
+use Rattle.std.proofs.lemmas.List.{length-append, map-append, take_all}
 use Rattle.std.proofs.lemmas.List.Concat.{flat_map-append}
 use Rattle.ivy_model.specs.declared.Call.{Call}
+use Rattle.ivy_model.specs.declared.Record.{Record}
 use Rattle.ivy_model.specs.declared.Reply.{Reply}
 use Rattle.ivy_calls.specs.declared.Answer.{Answer}
+use Rattle.ivy_calls.specs.Answers.{answers}
 use Rattle.ivy_moves.specs.Events.{Event}
 use Rattle.ivy_moves.specs.Marks.{marks}
-use Rattle.ivy_logs.specs.declared.entry.LogEntry.TheVariants.{Did}
-use Rattle.ivy_logs.specs.Entries.{LogEntry, answer_in, answers_in, entry_line, event_in, events_in, entry_lines}
+use Rattle.ivy_program.specs.stated.Programs.{Program}
+use Rattle.ivy_program.specs.Programs.{handed, one_by_one}
+use Rattle.ivy_host.proofs.HandedHosts.{handed_none}
+use Rattle.ivy_logs.specs.declared.entry.LogEntry.TheVariants.{Did, Asked, Answered}
+use Rattle.ivy_logs.specs.Entries.{LogEntry, answer_in, answers_in, call_in, calls_in, entry_line, event_in, events_in, entry_lines}
 use Rattle.ivy_logs.specs.Printed.{event_line}
 use Rattle.ivy_logs.proofs.Entries.{marks-append}
+use Rattle.ivy_site.specs.SiteView.{SiteView}
+use Rattle.ivy_join.specs.ReplaySites.{program_in, AddsRecords}
+use Rattle.ivy_join.specs.Remade.{IsAnsweredLast, StandFirst}
+use Rattle.ivy_join.proofs.Answered.{adds-further, adds-none, first-all, first-and-last, first-longer, first-whole}
+use Rattle.ivy_join.proofs.Entries.{handed-further}
 use Rattle.ivy_process.specs.declared.failure.NodeFailure.{NodeFailure}
 use Rattle.ivy_process.specs.declared.past.Recalled.{Recalled}
 use Rattle.ivy_process.specs.declared.past.Recalled.TheVariants.{Known, Open, New}
-use Rattle.ivy_process.specs.NodeLogs.{Served, lines_of, AddsEvents, StreamsPart, StreamsWhole}
-use Rattle.ivy_process.specs.OwnNodes.{Begun, begun, HasResumed, HasWorked, IsRecalled, Notes, OwnStreams, Replies, RepliesFrom, Resumes, ResumesUnless}
+use Rattle.ivy_process.specs.NodeLogs.{Served, lines_of, AddsEvents, KeepsCalls, StreamsPart, StreamsWhole}
+use Rattle.ivy_process.specs.OwnNodes.{Begun, begun, HasResumed, HasWorked, IsRecalled, NotesAnswer, NotesCall, OwnStreams, Replies, RepliesFrom, Resumes, ResumesUnless}
 use Rattle.ivy_process.proofs.Logged.{streams-begin}
 
 did-events : (events : List Event) → events_in (map Did events) ≡ events
@@ -27,6 +37,10 @@ did-events (e ∷ es) = ap (λ l. e ∷ l) (did-events es)
 did-answers : (events : List Event) → answers_in (map Did events) ≡ []
 did-answers [] = refl
 did-answers (e ∷ es) = did-answers es
+
+did-calls : (events : List Event) → calls_in (map Did events) ≡ []
+did-calls [] = refl
+did-calls (e ∷ es) = did-calls es
 
 did-lines : (events : List Event) → entry_lines (map Did events) ≡ lines_of events
 did-lines [] = refl
@@ -38,24 +52,46 @@ pub streams-own : (past : List LogEntry) (b d : Served) (log log' : Option (List
 streams-own past b d log log' x = record {
   entries = map Did x.events;
   answers = did-answers x.events;
+  called = x.kept.program ∙ sym (handed_none (program_in b.site))
+      ∙ ap (λ l. handed (one_by_one l) (program_in b.site)) (sym (did-calls x.events));
+  answered = x.kept.answered;
   listed = x.listed ∙ ap (λ l. b.site.events ++ marks l) (sym (did-events x.events));
   part = x.part;
   written = x.written;
   all = x.all ∙ ap (λ l. b.unlogged ++ l) (sym (did-lines x.events));
 }
 
--- a call or an answer
-pub noted-own : (past : List LogEntry) (entry : LogEntry) (b d : Served) (log : Option (List ℕ))
-    → event_in entry ≡ [] → Notes entry b d → OwnStreams (begun past b log) d log (answer_in entry)
-noted-own past entry b d log none n = record {
-  entries = entry ∷ [];
-  answers = append-nil (answer_in entry);
-  listed = n.listed ∙ sym (append-nil b.site.events)
-      ∙ ap (λ l. b.site.events ++ marks l) (sym (append-nil (event_in entry) ∙ none));
+-- a call
+pub called-own : (past : List LogEntry) (call : Call) (b d : Served) (log : Option (List ℕ)) → NotesCall call b d
+    → OwnStreams (begun past b log) d log []
+called-own past call b d log n = record {
+  entries = Asked call ∷ [];
+  answers = refl;
+  called = ap program_in n.made;
+  answered = adds-none b.site.node.core.history d.site.node.core.history
+      (ap (λ (x : SiteView). x.node.core.history) n.made);
+  listed = ap (λ (x : SiteView). x.events) n.made ∙ sym (append-nil b.site.events);
   part = [];
   written = Appends-nil log;
-  all = n.noted ∙ ap (λ l. b.unlogged ++ l) (sym (append-nil (entry_line entry)));
+  all = n.noted ∙ ap (λ l. b.unlogged ++ l) (sym (append-nil (entry_line (Asked call))));
 }
+
+-- an answer
+pub answered-own : (past : List LogEntry) (count : ℕ) (call : Call) (reply : Reply) (b d : Served)
+    (log : Option (List ℕ)) → NotesAnswer count call reply b d
+    → OwnStreams (begun past b log) d log (record { call = call; reply = reply } ∷ [])
+answered-own past count call reply b d log n =
+    let entry : LogEntry = Answered (record { call = call; reply = reply }) in record {
+      entries = entry ∷ [];
+      answers = refl;
+      called = ap program_in n.same ∙ sym (handed_none (program_in b.site));
+      answered = adds-none b.site.node.core.history d.site.node.core.history
+          (ap (λ (x : SiteView). x.node.core.history) n.same);
+      listed = ap (λ (x : SiteView). x.events) n.same ∙ sym (append-nil b.site.events);
+      part = [];
+      written = Appends-nil log;
+      all = n.noted ∙ ap (λ l. b.unlogged ++ l) (sym (append-nil (entry_line entry)));
+    }
 
 -- first this, then that
 pub own-further : (from : Begun) (past : List LogEntry) (b d : Served) (log log' : Option (List ℕ))
@@ -65,6 +101,12 @@ own-further from past b d log log' told more x y = record {
   entries = x.entries ++ y.entries;
   answers = flat_map-append answer_in x.entries y.entries
       ∙ ap (λ l. l ++ answers_in y.entries) x.answers ∙ ap (λ l. told ++ l) y.answers;
+  called = y.called ∙ ap (handed (one_by_one (calls_in y.entries))) x.called
+      ∙ handed-further (one_by_one (calls_in x.entries)) (one_by_one (calls_in y.entries)) from.program
+      ∙ ap (λ l. handed l from.program)
+      (sym (map-append (λ (call : Call). call ∷ []) (calls_in x.entries) (calls_in y.entries)))
+      ∙ ap (λ l. handed (one_by_one l) from.program) (sym (flat_map-append call_in x.entries y.entries));
+  answered = adds-further from.history b.site.node.core.history d.site.node.core.history x.answered y.answered;
   listed = y.listed ∙ ap (λ l. l ++ marks (events_in y.entries)) x.listed
       ∙ append_assoc from.events (marks (events_in x.entries)) (marks (events_in y.entries))
       ∙ ap (λ l. from.events ++ l)
@@ -82,6 +124,7 @@ own-further from past b d log log' told more x y = record {
 streams-of : (b d : Served) (log log' : Option (List ℕ)) → StreamsWhole b d log log'
     → StreamsPart b d log log'
 streams-of b d log log' x = record {
+  kept = x.kept;
   events = x.events;
   listed = x.listed;
   part = b.unlogged ++ lines_of x.events;
@@ -92,8 +135,11 @@ streams-of b d log log' x = record {
 
 -- its work was told nothing yet, and the node went on
 resumes-begin : (past : List LogEntry) (b d : Served) (log : Option (List ℕ)) → AddsEvents b d
-    → Resumes (begun past b log) 0 d log []
+    → Resumes (begun past b log) 0 (length (answers_in past)) d log []
 resumes-begin past b d log on = record {
+  many = ap length (sym (append-nil (answers_in past)));
+  first = λ told. subst (λ l. StandFirst l d.site.node.core.history) (sym (append-nil (answers_in past)))
+      (first-longer (answers_in past) b.site.node.core.history d.site.node.core.history told on.kept.answered);
   within = omega arith;
   fresh = [];
   streams = streams-own past b d log log (streams-begin b d log on);
@@ -102,10 +148,11 @@ resumes-begin past b d log on = record {
 }
 
 -- so it is where the beginning has a name
-pub resumes-woken : (from : Begun) (past : List LogEntry) (b d : Served) (log : Option (List ℕ))
-    → begun past b log ≡ from → AddsEvents b d → Resumes from 0 d log []
-resumes-woken from past b d log is on =
-    subst (λ f. Resumes f 0 d log []) is (resumes-begin past b d log on)
+pub resumes-woken : (from : Begun) (past : List LogEntry) (count : ℕ) (b d : Served) (log : Option (List ℕ))
+    → begun past b log ≡ from → count ≡ length (answers_in past) → AddsEvents b d → Resumes from 0 count d log []
+resumes-woken from past count b d log is many on =
+    subst (λ n. Resumes from 0 n d log []) (sym many)
+    (subst (λ f. Resumes f 0 (length (answers_in past)) d log []) is (resumes-begin past b d log on))
 
 -- the log has no answer more
 abbrev HasNoAnswer : List LogEntry → ℕ → Type 0
@@ -115,45 +162,60 @@ none-recalled : (past : List LogEntry) (place : ℕ) (call : Call) (recalled : R
     → ((reply : Reply) (next : ℕ) → recalled ≡ Known reply next → ⊥) → IsRecalled past place call recalled
     → HasNoAnswer past place
 none-recalled past place call (Known reply next) other is = absurd (other reply next refl)
-none-recalled past place call Open other is = is
-none-recalled past place call New other is = is
+none-recalled past place call Open other is = is.0
+none-recalled past place call New other is = is.0
+
+-- what the node was answered first, with one answer more
+first-more : (told : List Answer) (count : ℕ) (one : Answer) (b d : List Record) → StandFirst told b
+    → count ≡ length told → AddsRecords b d → IsAnsweredLast count one d → StandFirst (told ++ one ∷ []) d
+first-more told count one b d first many adds last =
+    first-all (told ++ one ∷ []) d
+    (first-and-last told one d (first-longer told b d first adds)
+    (subst (λ n. IsAnsweredLast n one d) many last))
 
 -- it is answered by the node
-answered-now : (from : Begun) (place end : ℕ) (b d : Served) (log log' : Option (List ℕ))
-    (told : List Answer) (call : Call) (reply : Reply) → Resumes from place b log told
-    → HasNoAnswer from.past place → end ≡ length from.past → Replies call reply b d log log'
-    → Resumes from end d log' (told ++ record { call = call; reply = reply } ∷ [])
-answered-now from place end b d log log' told call reply x none at replies =
-    let one : List Answer = record { call = call; reply = reply } ∷ [] in
-    let all : take end from.past ≡ from.past = take_all end from.past (omega (arith, at)) in record {
+answered-now : (from : Begun) (place end count : ℕ) (b d : Served) (log log' : Option (List ℕ))
+    (told : List Answer) (call : Call) (reply : Reply) → Resumes from place count b log told
+    → HasNoAnswer from.past place → end ≡ length from.past → Replies call reply count b d log log'
+    → Resumes from end (count + 1) d log' (told ++ record { call = call; reply = reply } ∷ [])
+answered-now from place end count b d log log' told call reply x none at replies =
+    let a : Answer = record { call = call; reply = reply } in
+    let all : take end from.past ≡ from.past = take_all end from.past (omega (arith, at)) in
+    let past : List Answer = answers_in from.past in
+    let more : (past ++ x.fresh) ++ a ∷ [] ≡ past ++ (x.fresh ++ a ∷ []) = append_assoc past x.fresh (a ∷ []) in
+    record {
       within = omega (arith, at);
-      fresh = x.fresh ++ one;
-      streams = own-further from [] b d log log' x.fresh one x.streams replies;
-      are = ap (λ l. l ++ one) (x.are ∙ ap (λ l. l ++ x.fresh) (sym none))
-          ∙ append_assoc (answers_in from.past) x.fresh one
-          ∙ ap (λ l. answers_in l ++ (x.fresh ++ one)) (sym all);
+      fresh = x.fresh ++ a ∷ [];
+      streams = own-further from [] b d log log' x.fresh (a ∷ []) x.streams replies.streams;
+      are = ap (λ l. l ++ a ∷ []) (x.are ∙ ap (λ l. l ++ x.fresh) (sym none))
+          ∙ append_assoc (answers_in from.past) x.fresh (a ∷ [])
+          ∙ ap (λ l. answers_in l ++ (x.fresh ++ a ∷ [])) (sym all);
       again = λ below. absurd (omega (arith, at, below));
+      many = ap (λ n. n + 1) x.many ∙ sym (length-append (past ++ x.fresh) (a ∷ [])) ∙ ap length more;
+      first = λ said. subst (λ l. StandFirst l d.site.node.core.history) more
+          (first-more (past ++ x.fresh) count a b.site.node.core.history d.site.node.core.history (x.first said)
+          x.many replies.streams.answered replies.last);
     }
 
 -- the log has no answer to the call, and it is answered by the node
-pub replied-now : (past : List LogEntry) (place end : ℕ) (b d : Served) (log log' : Option (List ℕ))
+pub replied-now : (past : List LogEntry) (place end count : ℕ) (b d : Served) (log log' : Option (List ℕ))
     (call : Call) (reply : Reply) (recalled : Recalled)
     → ((reply : Reply) (next : ℕ) → recalled ≡ Known reply next → ⊥) → IsRecalled past place call recalled
-    → end ≡ length past → Replies call reply b d log log'
-    → RepliesFrom past call reply place end b d log log'
-replied-now past place end b d log log' call reply recalled other said at replies =
+    → end ≡ length past → Replies call reply count b d log log'
+    → RepliesFrom past call reply place end count (count + 1) b d log log'
+replied-now past place end count b d log log' call reply recalled other said at replies =
     let none : HasNoAnswer past place = none-recalled past place call recalled other said in record {
       within = omega (arith, at);
       resumes = λ from told same x.
-          answered-now from place end b d log log' told call reply x
+          answered-now from place end count b d log log' told call reply x
           (subst (λ l. HasNoAnswer l place) (sym same) none) (at ∙ ap length (sym same)) replies;
     }
 
 -- the log has the answer
-pub replied-again : (past : List LogEntry) (place next : ℕ) (b : Served) (log : Option (List ℕ))
+pub replied-again : (past : List LogEntry) (place next count : ℕ) (b : Served) (log : Option (List ℕ))
     (call : Call) (reply : Reply) → IsRecalled past place call (Known reply next)
-    → RepliesFrom past call reply place next b b log log
-replied-again past place next b log call reply said =
+    → RepliesFrom past call reply place next count count b b log log
+replied-again past place next count b log call reply said =
     let one : List Answer = record { call = call; reply = reply } ∷ [] in record {
       within = said.1;
       resumes = λ from told same x.
@@ -164,6 +226,8 @@ replied-again past place next b log call reply said =
             within = subst (λ l. next ≤ length l) (sym same) said.1;
             fresh = x.fresh;
             streams = x.streams;
+            many = x.many;
+            first = x.first;
             are = ap (λ l. l ++ one)
                 (x.are ∙ ap (λ l. answers_in (take place from.past) ++ l) none
                 ∙ append-nil (answers_in (take place from.past)))
@@ -174,30 +238,37 @@ replied-again past place next b log call reply said =
     }
 
 -- no call failed, and one more was answered
-pub replied-unless : (failure : Option NodeFailure) (from : Begun) (past : List LogEntry) (place place' : ℕ)
+pub replied-unless : (failure : Option NodeFailure) (from : Begun) (past : List LogEntry) (place place' count count' : ℕ)
     (b d : Served) (log log' : Option (List ℕ)) (told told' : List Answer) (call : Call) (reply : Reply)
     → failure ≡ None
-    → (past ≡ from.past) × (place ≤ length past) × ResumesUnless failure from place b log told
+    → (past ≡ from.past) × (place ≤ length past) × ResumesUnless failure from place count b log told
     → told' ≡ told ++ record { call = call; reply = reply } ∷ []
-    → RepliesFrom past call reply place place' b d log log'
-    → (past ≡ from.past) × (place' ≤ length past) × ResumesUnless failure from place' d log' told'
-replied-unless failure from past place place' b d log log' told told' call reply ok is more r =
-    let before : Resumes from place b log told =
-    subst (λ f. ResumesUnless f from place b log told) ok is.2 in
-    let after : Resumes from place' d log' (told ++ record { call = call; reply = reply } ∷ []) =
+    → RepliesFrom past call reply place place' count count' b d log log'
+    → (past ≡ from.past) × (place' ≤ length past) × ResumesUnless failure from place' count' d log' told'
+replied-unless failure from past place place' count count' b d log log' told told' call reply ok is more r =
+    let before : Resumes from place count b log told =
+    subst (λ f. ResumesUnless f from place count b log told) ok is.2 in
+    let after : Resumes from place' count' d log' (told ++ record { call = call; reply = reply } ∷ []) =
     r.resumes from told (sym is.0) before in (
       is.0,
       r.within,
-      subst (λ f. ResumesUnless f from place' d log' told') (sym ok)
-          (subst (λ l. Resumes from place' d log' l) (sym more) after),
+      subst (λ f. ResumesUnless f from place' count' d log' told') (sym ok)
+          (subst (λ l. Resumes from place' count' d log' l) (sym more) after),
     )
+
+-- what follows of three facts of a result
+pub all-ok : {T E : Type 0} (r : Result T E) (P Q R S : T → Type 0)
+    → ((x : T) → P x → Q x → R x → S x) → IfOk r P → IfOk r Q → IfOk r R → IfOk r S
+all-ok (Ok x) P Q R S h p q r = h x p q r
+all-ok (Err e) P Q R S h p q r = tt
 
 -- the work is done, and then the node serves until its input has ended
 pub has-worked : {Out : Type 0} (done : ℕ → List Answer → Out → Type 0) (past : List LogEntry)
-    (old mid new : Served) (log log' log'' : Option (List ℕ)) (told : List Answer) (out : Out)
-    → HasResumed (begun past old log) mid log' told → StreamsWhole mid new log' log''
-    → done old.site.me told out → HasWorked done past old new log log'' out
-has-worked done past old mid new log log' log'' told out x y did =
+    (count : ℕ) (old mid new : Served) (log log' log'' : Option (List ℕ)) (told : List Answer) (out : Out)
+    → HasResumed (begun past old log) count mid log' told → StreamsWhole mid new log' log''
+    → length new.site.node.core.history ≡ count → done old.site.me told out
+    → HasWorked done past old new log log'' out
+has-worked done past count old mid new log log' log'' told out x y long did =
     let z : OwnStreams (begun past old log) new log'' (x.fresh ++ []) =
     own-further (begun past old log) past mid new log' log'' x.fresh [] x.streams
     (streams-own past mid new log' log'' (streams-of mid new log' log'' y)) in
@@ -209,6 +280,11 @@ has-worked done past old mid new log log' log'' told out x y did =
     record {
       entries = z.entries;
       listed = z.listed;
+      called = z.called;
+      answered = λ said.
+          first-whole (answers_in past ++ x.fresh) new.site.node.core.history
+          (first-longer (answers_in past ++ x.fresh) mid.site.node.core.history new.site.node.core.history
+          (x.first said) y.kept.answered) (long ∙ x.many) ∙ sym x.are ∙ sym answered;
       written = subst (Appends log log'') all z.written;
       whole = y.whole;
       did = subst (λ l. done old.site.me l out) (sym answered) did;

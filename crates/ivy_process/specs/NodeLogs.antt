@@ -1,16 +1,17 @@
 -- What a node in a process has in its log, and what it lacks there.
-use Rattle.std.specs.Prelude.{◌≡◌, ℕ, List, [], ◌++◌, Option, flat_map}
+use Rattle.std.specs.Prelude.{◌≡◌, ℕ, List, [], ◌++◌, Option, flat_map, unwrap_or}
 use Rattle.std.specs.Io.KnownBytes.{Appends}
 use Rattle.ivy_model.specs.declared.Config.{Config}
+use Rattle.ivy_wire.specs.Destinations.{dest_of}
 use Rattle.ivy_moves.specs.Events.{Event}
 use Rattle.ivy_moves.specs.Marks.{marks}
 use Rattle.ivy_program.specs.stated.Programs.{Program}
 use Rattle.ivy_logs.specs.Entries.{LogEntry, events_in}
-use Rattle.ivy_logs.specs.Printed.{event_line}
+use Rattle.ivy_logs.specs.Printed.{event_line, frame_line}
 use Rattle.ivy_site.specs.SiteView.{SiteView}
 use Rattle.ivy_site.specs.Sites.{IsMadeByEvents}
 use Rattle.ivy_join.specs.Remade.{IsMadeByLog}
-use Rattle.ivy_join.specs.ReplaySites.{program_in}
+use Rattle.ivy_join.specs.ReplaySites.{program_in, AddsRecords}
 
 -- a node, and the lines of those of its events that its log lacks yet
 pub record Served : Type 0 where
@@ -24,17 +25,33 @@ served site unlogged = record { site = site; unlogged = unlogged }
 abbrev pub lines_of : List Event → List ℕ
 lines_of events = flat_map event_line events
 
+-- the line of a string that waits, for the node that its header names
+abbrev pub waiting_line : List ℕ → List ℕ
+waiting_line bytes = frame_line (unwrap_or (dest_of bytes) 0) bytes
+
+-- the lines of all that wait, the first first
+abbrev pub waiting_lines : List (List ℕ) → List ℕ
+waiting_lines strings = flat_map waiting_line strings
+
+-- the code at the site made no call, and what it was answered before stands first in what it was answered
+-- since
+pub record KeepsCalls (old new : SiteView) : Type 0 where
+  pub program : program_in new ≡ program_in old
+  pub answered : AddsRecords old.node.core.history new.node.core.history
+
 -- the node went on by events, and their lines are what its log lacks besides
 pub record AddsEvents (old new : Served) : Type 0 where
   pub events : List Event
   pub listed : new.site.events ≡ old.site.events ++ marks events
   pub noted : new.unlogged ≡ old.unlogged ++ lines_of events
+  pub kept : KeepsCalls old.site new.site
 
 -- what the log lacked is written behind it, and the node made no event
 pub record IsLogged (old new : Served) (log log' : Option (List ℕ)) : Type 0 where
   pub listed : new.site.events ≡ old.site.events
   pub written : Appends log log' old.unlogged
   pub whole : new.unlogged ≡ []
+  pub kept : KeepsCalls old.site new.site
 
 -- the node went on by events: what was written behind the log, and what it lacks now, are what it lacked
 -- before, and their lines
@@ -44,6 +61,7 @@ pub record StreamsPart (old new : Served) (log log' : Option (List ℕ)) : Type 
   pub part : List ℕ
   pub written : Appends log log' part
   pub all : part ++ new.unlogged ≡ old.unlogged ++ lines_of events
+  pub kept : KeepsCalls old.site new.site
 
 -- and it lacks nothing
 pub record StreamsWhole (old new : Served) (log log' : Option (List ℕ)) : Type 0 where
@@ -51,6 +69,7 @@ pub record StreamsWhole (old new : Served) (log log' : Option (List ℕ)) : Type
   pub listed : new.site.events ≡ old.site.events ++ marks events
   pub written : Appends log log' (old.unlogged ++ lines_of events)
   pub whole : new.unlogged ≡ []
+  pub kept : KeepsCalls old.site new.site
 
 -- the site, which had made no event, was made again by this log, and the log lacks nothing
 pub record IsMadeAgain (log : List LogEntry) (site : SiteView) (new : Served) : Type 0 where

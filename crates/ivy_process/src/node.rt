@@ -1,16 +1,16 @@
 //! A node that notes each event that it makes in lines for its log.
-ghost use Rattle.std.specs.Prelude.{◌≡◌, ◌↔◌, ◌++◌, ◌<◌, [], IfOk, IsTrue, OnOk};
+ghost use Rattle.std.specs.Prelude.{◌≡◌, ◌↔◌, ◌++◌, ◌<◌, [], length, IfOk, IsTrue, None, OnOk};
 ghost use Rattle.std.specs.Io.KnownBytes.{Appends};
 ghost use Rattle.ivy_model.specs.stated.Config.{IsConfig};
 ghost use Rattle.ivy_model.specs.stated.Legal.{HasWidth};
 ghost use Rattle.ivy_program.specs.OwnCode.{IsFree};
 ghost use Rattle.ivy_moves.specs.declared.keep.Keep.TheVariants.{Nothing};
 ghost use Rattle.ivy_logs.specs.Printed.{head_line};
-ghost use Rattle.ivy_logs.specs.declared.entry.LogEntry.TheVariants.{Asked, Answered};
 ghost use Rattle.ivy_logs.specs.Entries.{entry_line};
-ghost use Rattle.ivy_site.specs.Sites.{first_keeping};
+ghost use Rattle.ivy_site.specs.Sites.{first_keeping, GoesAsFar};
+ghost use Rattle.ivy_join.specs.Remade.{IsAnsweredLast};
 ghost use Rattle.ivy_process.specs.NodeLogs.{AddsEvents, IsEmptied, IsLogged, IsMadeAgain, IsRestarted, served};
-ghost use Rattle.ivy_process.specs.OwnNodes.{IsOpened, Notes};
+ghost use Rattle.ivy_process.specs.OwnNodes.{IsOpened, NotesAnswer, NotesCall};
 
 use crate::failure::NodeFailure;
 use crate::limits::{NodeLimits, Untaken};
@@ -239,11 +239,12 @@ impl Node {
     /// Goes on with the strings of a node that it holds, one after another, until none of them is the next one.
     fn go_on(&mut self, from: u8) -> Result<(), NodeFailure>
         requires { from < self.old.site.config.nodes }
-        ensures { OnOk result (AddsEvents self.old self.new) }
+        ensures on { OnOk result (AddsEvents self.old self.new) }
+        ensures far { OnOk result (GoesAsFar from None self.old.site self.new.site) }
     {
         for _ in 0..MOST_AHEAD {
             let Some(string) = self.site.go_on_with(from)? else {
-                break;
+                return Ok(());
             };
             self.note(LogEntry::Did(Event::Delivered(string)))?;
         }
@@ -390,7 +391,7 @@ impl Node {
     /// Its code makes a call, which is noted, where the call before has its reply.
     pub(crate) fn ask(&mut self, call: Call) -> Result<(), NodeFailure>
         requires { HasWidth call }
-        ensures { OnOk result (Notes (Asked call) self.old self.new) }
+        ensures { OnOk result (NotesCall call self.old self.new) }
     {
         if !self.is_free() {
             return Err(NodeFailure::Unanswered);
@@ -399,14 +400,35 @@ impl Node {
         self.note(LogEntry::Asked(call))
     }
 
-    /// The reply to this call of its code, which is noted.
-    pub(crate) fn answer(&mut self, call: Call) -> Result<Reply, NodeFailure>
-        ensures { IfOk result (λ reply. Notes (Answered (record { call = call; reply = reply })) self.old self.new) }
+    /// How many calls of its code were answered.
+    pub(crate) fn answered(&self) -> u64
+        ensures { result ≡ length self.now.site.node.core.history }
+    {
+        self.site.records()
+    }
+
+    /// The reply to this call of its code, where that is what it was answered last, after so many answers.
+    fn reply_to(&self, call: Call, told: u64) -> Result<Reply, NodeFailure>
+        ensures { IfOk result (λ reply. IsAnsweredLast told (record { call = call; reply = reply }) self.now.site.node.core.history) }
     {
         let Some(record) = self.site.last_record() else {
             return Err(NodeFailure::Unanswered);
         };
-        let reply = record.reply;
+        if record.call != call {
+            return Err(NodeFailure::Unanswered);
+        }
+        let before = self.site.records().saturating_sub(1);
+        if before != told {
+            return Err(NodeFailure::Unanswered);
+        }
+        Ok(record.reply)
+    }
+
+    /// The reply to this call of its code, which was answered so many before; it is noted.
+    pub(crate) fn answer(&mut self, call: Call, told: u64) -> Result<Reply, NodeFailure>
+        ensures { IfOk result (λ reply. NotesAnswer told call reply self.old self.new) }
+    {
+        let reply = self.reply_to(call, told)?;
         self.note(LogEntry::Answered(Answer { call, reply }))?;
         Ok(reply)
     }

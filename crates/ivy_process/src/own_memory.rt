@@ -1,5 +1,5 @@
 //! Own code at a node in a process: the memory that its work has, and the service around it.
-ghost use Rattle.std.specs.Prelude.{◌≡◌, ◌≤◌, [], IfOk, None, OnOk, length, take};
+ghost use Rattle.std.specs.Prelude.{◌≡◌, ◌+◌, ◌≤◌, [], IfOk, None, Ok, OnOk, length, take};
 ghost use Rattle.ivy_logs.specs.Entries.{answers_in};
 ghost use Rattle.ivy_model.specs.stated.Legal.{HasWidth};
 ghost use Rattle.ivy_process.specs.NodeLogs.{StreamsWhole};
@@ -13,7 +13,7 @@ use crate::service::{Clockwork, Service, awake, serve, serve_on};
 use crate::story::Story;
 use crate::streams::Streams;
 use ivy_calls::{Answer, SharedMemory, Work};
-use ivy_logs::Log;
+use ivy_logs::{Log, count_answers};
 use ivy_model::{Call, Fault, Reply};
 use std::alloc::Global;
 use std::io::Write;
@@ -29,8 +29,9 @@ pub trait Beginning {
 
 impl Beginning for Brand {
     ghost use Rattle.std.specs.Prelude.{[], None};
+    ghost use Rattle.ivy_program.specs.stated.Programs.{Called};
 
-    ghost begun = { record { past = []; events = []; unlogged = []; log = None } };
+    ghost begun = { record { past = []; program = Called []; history = []; events = []; unlogged = []; log = None } };
 }
 
 /// A node that serves its own code, with what it hears and speaks to.
@@ -39,6 +40,8 @@ struct ServedNode<'a, I, L, O, E> {
     node: Node,
     service: Service,
     streams: Streams<'a, I, L, O, E>,
+    /// So many answers its log has.
+    answered: u64,
 }
 
 /// The memory of a node in a process as its work has it. A work that is begun again makes its calls again: those that the
@@ -67,7 +70,7 @@ impl<'a, S: Beginning, R, C, I, L: Write, O, E> Model for OwnMemory<'a, S, R, C,
 
     ghost view = { λ m. m.told };
 
-    ghost invariant = { λ m. (m.past.now.entries.items ≡ S.begun.past) × (m.place ≤ length m.past.now.entries.items) × ResumesUnless m.failure S.begun m.place m.served.node (L.contents m.served.streams.log) m.told };
+    ghost invariant = { λ m. (m.past.now.entries.items ≡ S.begun.past) × (m.place ≤ length m.past.now.entries.items) × ResumesUnless m.failure S.begun m.place m.served.answered m.served.node (L.contents m.served.streams.log) m.told };
 }
 
 /// Serves until the call that was made has its reply.
@@ -77,7 +80,8 @@ fn hear_reply<R: Wait, C: Clockwork, I: Inbox, L: Write, O: Write, E: Write>(
     served: &mut ServedNode<'_, I, L, O, E>,
     call: Call,
 ) -> Result<Reply, NodeFailure>
-    ensures { IfOk result (λ reply. Replies call reply served.old.node served.new.node (L.contents served.old.streams.log) (L.contents served.new.streams.log)) }
+    ensures replies { IfOk result (λ reply. Replies call reply served.old.answered served.old.node served.new.node (L.contents served.old.streams.log) (L.contents served.new.streams.log)) }
+    ensures one { OnOk result (served.new.answered ≡ served.old.answered + 1) }
 {
     let is_free = serve_on(
         rt,
@@ -90,7 +94,9 @@ fn hear_reply<R: Wait, C: Clockwork, I: Inbox, L: Write, O: Write, E: Write>(
     if !is_free {
         return Err(NodeFailure::Unanswered);
     }
-    served.node.answer(call)
+    let reply = served.node.answer(call, served.answered)?;
+    served.answered = served.node.answered();
+    Ok(reply)
 }
 
 /// Makes a call, and serves until it has its reply.
@@ -101,7 +107,8 @@ fn ask<R: Wait, C: Clockwork, I: Inbox, L: Write, O: Write, E: Write>(
     call: Call,
 ) -> Result<Reply, NodeFailure>
     requires width { HasWidth call }
-    ensures { IfOk result (λ reply. Replies call reply served.old.node served.new.node (L.contents served.old.streams.log) (L.contents served.new.streams.log)) }
+    ensures replies { IfOk result (λ reply. Replies call reply served.old.answered served.old.node served.new.node (L.contents served.old.streams.log) (L.contents served.new.streams.log)) }
+    ensures one { OnOk result (served.new.answered ≡ served.old.answered + 1) }
 {
     served.node.ask(call)?;
     hear_reply(rt, clock, served, call)
@@ -116,7 +123,8 @@ fn reply_to<R: Wait, C: Clockwork, I: Inbox, L: Write, O: Write, E: Write>(
     recalled: Recalled,
 ) -> Result<Reply, NodeFailure>
     requires width { HasWidth call }
-    ensures { IfOk result (λ reply. Replies call reply served.old.node served.new.node (L.contents served.old.streams.log) (L.contents served.new.streams.log)) }
+    ensures replies { IfOk result (λ reply. Replies call reply served.old.answered served.old.node served.new.node (L.contents served.old.streams.log) (L.contents served.new.streams.log)) }
+    ensures one { OnOk result (served.new.answered ≡ served.old.answered + 1) }
 {
     match recalled {
         Recalled::New => ask(rt, clock, served, call),
@@ -155,7 +163,7 @@ fn reply_from<R: Wait, C: Clockwork, I: Inbox, L: Write, O: Write, E: Write>(
 ) -> Result<(Reply, usize), NodeFailure>
     requires width { HasWidth call }
     requires within { place ≤ length past.now.entries.items }
-    ensures { IfOk result (λ r. RepliesFrom past.now.entries.items call r.0 place r.1 served.old.node served.new.node (L.contents served.old.streams.log) (L.contents served.new.streams.log)) }
+    ensures { IfOk result (λ r. RepliesFrom past.now.entries.items call r.0 place r.1 served.old.answered served.new.answered served.old.node served.new.node (L.contents served.old.streams.log) (L.contents served.new.streams.log)) }
 {
     let recalled = match recall(&past.entries, place, call) {
         Ok(recalled) => recalled,
@@ -220,7 +228,7 @@ where
 {
     /// The node and its streams, where no call failed, and the work has made all calls that the log has.
     fn into_served(self) -> Result<ServedNode<'a, I, L, O, E>, NodeFailure>
-        ensures { IfOk result (λ served. HasResumed S.begun served.node (L.contents served.streams.log) self.entry) }
+        ensures { IfOk result (λ served. HasResumed S.begun served.answered served.node (L.contents served.streams.log) self.entry) }
     {
         check_done(self.past, self.place, self.failure)?;
         Ok(self.served)
@@ -249,7 +257,7 @@ where
     S: Beginning,
     L: Write,
     requires past { past.now.entries.items ≡ S.begun.past }
-    requires began { Resumes S.begun 0 served.node (L.contents served.streams.log) [] }
+    requires began { Resumes S.begun 0 served.answered served.node (L.contents served.streams.log) [] }
     ensures { result ≡ [] }
 {
     let memory = OwnMemory::<S, R, C, I, L, O, E> {
@@ -265,7 +273,7 @@ where
     memory
 }
 
-/// Where a work gave something, serves until the input has ended.
+/// Where a work gave something, serves until the input has ended. The log has all that its node was answered.
 fn finish<R, C, I, T, L, O, E>(
     rt: &R,
     clock: &C,
@@ -280,7 +288,9 @@ where
     L: Write + Drop,
     O: Write + Drop,
     E: Write + Drop,
-    ensures { IfOk result (λ worked. (gave ≡ Ok worked.gave) × StreamsWhole served.entry.node worked.node (L.contents served.entry.streams.log) (L.contents worked.log)) }
+    ensures gave { IfOk result (λ worked. gave ≡ Ok worked.gave) }
+    ensures went { IfOk result (λ worked. StreamsWhole served.entry.node worked.node (L.contents served.entry.streams.log) (L.contents worked.log)) }
+    ensures told { IfOk result (λ worked. length worked.node.site.node.core.history ≡ served.entry.answered) }
 {
     let gave = match gave {
         Ok(gave) => gave,
@@ -290,8 +300,12 @@ where
         mut node,
         service: _,
         mut streams,
+        answered,
     } = served;
     serve(rt, clock, &mut node, &mut streams)?;
+    if node.answered() != answered {
+        return Err(NodeFailure::Unanswered);
+    }
     Ok(Worked {
         gave,
         node,
@@ -328,6 +342,7 @@ where
         node,
         service,
         streams,
+        answered: count_answers(&past.entries),
     };
     let mut memory = memory_of::<S, R, C, I, L, O, E>(rt, clock, past, served);
     let gave = work.work(me, &mut memory);
@@ -340,8 +355,8 @@ where
 /// `past` is the log of the node as it was found, of which [`Node::open`] made it; without entries where the node is new.
 /// A work that is begun again is answered as that log says, as long as it has the call: it has to make the same calls where
 /// it is answered the same, and else the line is named of the call that it does not make. What the node did since, what its
-/// work called and what it was answered stand in the log, and before a frame of it goes out. By all these answers the work
-/// has done what it had to.
+/// work called and what it was answered stand in the log, and before a frame of it goes out. These are the calls that the
+/// node made and the answers that it had, and by all of them the work has done what it had to.
 pub fn serve_work<R, C, I, W, L, O, E>(
     rt: &R,
     clock: &C,

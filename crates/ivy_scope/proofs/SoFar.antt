@@ -1,7 +1,8 @@
 -- What the starter was told of nodes that need not have ended is a report so far.
-use Rattle.std.proofs.Common.{◌≡◌, ℕ, List, [], length, map, slice_get, Some, sym, ap}
+use Rattle.std.proofs.Common.{◌≡◌, ℕ, List, length, map, slice_get, Some, sym, ap}
 use Rattle.std.proofs.Common.{subst, ◌∙◌, arith, inl, inr}
-use Rattle.std.proofs.lemmas.Option.{same_Some, slice_get_cases, slice_get_within}
+use Rattle.ivy_model.specs.stated.Explains.{Answered}
+use Rattle.std.proofs.lemmas.Option.{same_Some, get_or_from_slice_get, slice_get_cases, slice_get_within}
 use Rattle.std.specs.Prelude.{Result, Ok, Err, IfOk, All}
 use Rattle.ivy_model.specs.declared.Call.{Call}
 use Rattle.ivy_model.specs.declared.Config.{Config}
@@ -17,7 +18,7 @@ use Rattle.ivy_moves.specs.stated.Worlds.{World}
 use Rattle.ivy_moves.proofs.Parts.{runs_are_their_parts}
 use Rattle.ivy_moves.proofs.Splitting.{same-effect}
 use Rattle.ivy_host.specs.Handing.{handing}
-use Rattle.ivy_host.specs.stated.Hosts.{Host, host_rules}
+use Rattle.ivy_host.specs.stated.Hosts.{Host, answered_by, host_rules}
 use Rattle.ivy_host.specs.stated.Managers.{Managed, managed_ops}
 use Rattle.ivy_ether.specs.Programs.{beginning, all_handed, Told}
 use Rattle.ivy_ether.specs.Rule.{IsNode}
@@ -26,12 +27,13 @@ use Rattle.ivy_ether.proofs.Advancing.{same_start, list_over}
 use Rattle.ivy_ether.proofs.Hosts.{length-all_handed, opened, from_start}
 use Rattle.proof_worlds.proofs.headline.Headline.{keeps-reached, explained-along}
 use Rattle.proof_table.proofs.transitions.Places.{get_map}
-use Rattle.proof_worlds.specs.stated.Still.{HasNothingUnderWay}
+use Rattle.proof_worlds.specs.stated.Still.{HasNothingUnderWay, IsStill}
 use Rattle.ivy_session.proofs.Reported.{explained_end, map_get, written_from}
 use Rattle.ivy_site.specs.SiteView.{SiteView}
 use Rattle.ivy_scope.specs.declared.watched.watch.End.{End}
-use Rattle.ivy_scope.specs.declared.watched.watch.End.TheVariants.{Standstill}
+use Rattle.ivy_scope.specs.declared.watched.watch.End.TheVariants.{Programs, Standstill}
 use Rattle.ivy_scope.specs.Delivered.{AreSitesDelivered}
+use Rattle.ivy_scope.specs.Ends.{HasNoTurn, HaveEnded, HaveNoTurn, IsStandstill, AreSettledSoFar}
 use Rattle.ivy_scope.specs.Played.{IsPlayed}
 use Rattle.ivy_scope.specs.SoFar.{NodeSoFar, so_far_of, AllKeepSoFar, IsNodeSoFar, IsReportSoFar, IsHandedSoFar, at_world, AreDelivered, AreUnblockedSoFar}
 use Rattle.ivy_scope.specs.CollectedSoFar.{AreToldSoFar}
@@ -61,7 +63,7 @@ module _ (c : Config) (programs : List Program) (limits : IsConfig c)
       → ((i : ℕ) (n : NodeSoFar) → slice_get nodes i ≡ Some n → parts i ≡ n.events)
       → IsReportSoFar c programs nodes
   so_far_as nodes count came parts end run lists =
-      let order = explained_end c (beginning c programs) end [] run.moves
+      let order = explained_end c (beginning c programs) end run.moves
       (explained-along c programs limits each run.moves) run.leads in record {
         all = count;
         parts = parts;
@@ -137,6 +139,13 @@ delivered_so_far sites all i j n m apart a b =
     let t = get_map so_far_of sites m j b in
     rw s.2 (rw t.2 (all i j s.0 t.0 apart s.1 t.1))
 
+-- where no node has a turn, none of them has
+no_turn_at : (nodes : List NodeSoFar) (i : ℕ) (x : NodeSoFar) → slice_get nodes i ≡ Some x
+    → HaveNoTurn nodes → HasNoTurn x.node
+no_turn_at nodes i x there none =
+    subst (λ (y : NodeSoFar). HasNoTurn y.node) (get_or_from_slice_get nodes i x x there)
+    (none i x (slice_get_within nodes i x there))
+
 module _ (c : Config) (programs : List Program) (nodes : List NodeSoFar)
     (r : IsReportSoFar c programs nodes) where
   -- each node of the run's end is one of the report
@@ -152,15 +161,17 @@ module _ (c : Config) (programs : List Program) (nodes : List NodeSoFar)
         | inr past ↦ absurd (let far = past.0 in omega (arith, within, count, each, all, far))
       ]
 
-  -- where all is delivered no node is blocked
-  pub unblocked_so_far : AreDelivered nodes → AreUnblockedSoFar c nodes
-  unblocked_so_far delivered =
-      let quiet : HasNothingUnderWay r.end =
-      (λ i j n m apart a b.
+  -- where all is delivered nothing is under way at the end of the run
+  nothing_under_way : AreDelivered nodes → HasNothingUnderWay r.end
+  nothing_under_way delivered i j n m apart a b =
       let x = of_report i n a in
       let y = of_report j m b in
-      rw x.2 (rw y.2 (delivered i j x.0 y.0 apart x.1 y.1))) in
-      let u = r.keeps.quiet quiet in record {
+      rw x.2 (rw y.2 (delivered i j x.0 y.0 apart x.1 y.1))
+
+  -- so no node is blocked
+  pub unblocked_so_far : AreDelivered nodes → AreUnblockedSoFar c nodes
+  unblocked_so_far delivered =
+      let u = r.keeps.quiet (nothing_under_way delivered) in record {
         order = u.order;
         last = u.last;
         legal = u.legal;
@@ -171,11 +182,56 @@ module _ (c : Config) (programs : List Program) (nodes : List NodeSoFar)
             (r.each i x.0 x.1)));
       }
 
--- so it is where a standstill is told
+  -- the run ends where it stands still
+  still_so_far : IsStandstill nodes → IsStill managed_ops r.end
+  still_so_far s = record {
+    delivered = nothing_under_way s.delivered;
+    turns = λ i n there. let x = of_report i n there in rw x.2 (no_turn_at nodes i x.0 x.1 s.turns);
+  }
+
+  -- so nobody could be answered
+  pub settled_so_far : IsStandstill nodes → AreSettledSoFar c nodes
+  settled_so_far s =
+      let u = r.keeps.still (still_so_far s) in
+      let at : (i : ℕ) (a : Answered)
+      → slice_get (map (λ (y : NodeSoFar). answered_by y.node.core) nodes) i ≡ Some a
+      → slice_get (map (λ (y : Node (Host Managed)). answered_by y.core) r.end.nodes) i ≡ Some a =
+      (λ i a there.
+      let x = get_map (λ (y : NodeSoFar). answered_by y.node.core) nodes a i there in
+      rw x.2 (map_get (λ (y : Node (Host Managed)). answered_by y.core) r.end.nodes i x.0.node
+      (r.each i x.0 x.1))) in record {
+        order = u.order;
+        last = u.last;
+        legal = u.legal;
+        parts = λ i a there. u.parts i a (at i a there);
+        waits = λ i a there. u.waits i a (at i a there);
+      }
+
+-- what is told of the end of a session holds of it
+pub if_ended : (c : Config) (programs : List Program) (keep : Keep)
+    (r : Result (List NodeSoFar × End) Fault) → IfOk r (IsPlayed c programs keep)
+    → IfOk r (λ x. x.1 ≡ Programs → HaveEnded x.0)
+if_ended c programs keep (Ok x) played = played.ended
+if_ended c programs keep (Err fault) played = tt
+
 pub if_still : (c : Config) (programs : List Program) (keep : Keep)
+    (r : Result (List NodeSoFar × End) Fault) → IfOk r (IsPlayed c programs keep)
+    → IfOk r (λ x. x.1 ≡ Standstill → IsStandstill x.0)
+if_still c programs keep (Ok x) played = played.still
+if_still c programs keep (Err fault) played = tt
+
+pub if_unblocked : (c : Config) (programs : List Program) (keep : Keep)
     (r : Result (List NodeSoFar × End) Fault) → All IsWritten programs
     → IfOk r (IsPlayed c programs keep) → IfOk r (λ x. x.1 ≡ Standstill → AreUnblockedSoFar c x.0)
-if_still c programs keep (Ok x) all played = λ is.
+if_unblocked c programs keep (Ok x) all played = λ is.
     unblocked_so_far c programs x.0 (so_far_written c programs x.0 all played.handed)
+    (played.still is).delivered
+if_unblocked c programs keep (Err fault) all played = tt
+
+pub if_settled : (c : Config) (programs : List Program) (keep : Keep)
+    (r : Result (List NodeSoFar × End) Fault) → All IsWritten programs
+    → IfOk r (IsPlayed c programs keep) → IfOk r (λ x. x.1 ≡ Standstill → AreSettledSoFar c x.0)
+if_settled c programs keep (Ok x) all played = λ is.
+    settled_so_far c programs x.0 (so_far_written c programs x.0 all played.handed)
     (played.still is)
-if_still c programs keep (Err fault) all played = tt
+if_settled c programs keep (Err fault) all played = tt

@@ -4,12 +4,14 @@ use Rattle.ivy_model.specs.declared.Config.{Config}
 use Rattle.ivy_moves.specs.declared.keep.Keep.{Keep}
 use Rattle.ivy_program.specs.stated.Programs.{Program}
 use Rattle.ivy_scope.specs.declared.watched.watch.End.{End}
-use Rattle.ivy_scope.specs.declared.watched.watch.End.TheVariants.{Standstill}
-use Rattle.ivy_scope.specs.SoFar.{NodeSoFar, AllKeepSoFar, AreDelivered, IsHandedSoFar}
+use Rattle.ivy_scope.specs.declared.watched.watch.End.TheVariants.{Programs, Standstill}
+use Rattle.ivy_scope.specs.Ends.{HaveEnded, IsStandstill}
+use Rattle.ivy_scope.specs.SoFar.{NodeSoFar, AllKeepSoFar, IsHandedSoFar}
 
--- the nodes, which kept these lists, and why the session ended: all was delivered where it stood still
+-- the nodes, which kept these lists, and why the session ended
 pub record IsPlayed (c : Config) (programs : List Program) (keep : Keep)
     (r : List NodeSoFar × End) : Type 0 where
   pub handed : IsHandedSoFar c programs r.0
   pub kept : AllKeepSoFar keep r.0
-  pub still : r.1 ≡ Standstill → AreDelivered r.0
+  pub ended : r.1 ≡ Programs → HaveEnded r.0
+  pub still : r.1 ≡ Standstill → IsStandstill r.0

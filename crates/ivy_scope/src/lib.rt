@@ -17,4 +17,4 @@ mod watched;
 pub use command::run_command;
 pub use ivy_explain::ScopeFailure;
 pub use logs::Logs;
-pub use watched::{End, ReportSoFar, Watch, run_watched};
+pub use watched::{End, ReportSoFar, Watch, WatchTerms, run_watched};

@@ -1,11 +1,15 @@
 //! The moves of a run, and what is printed of a schedule and an order.
+ghost use Rattle.std.specs.Prelude.{IfOk, IfSome, OnOk, flat_map};
+ghost use Rattle.std.specs.Io.KnownBytes.{Appends};
+ghost use Rattle.ivy_texts.specs.Spelled.{SpellsSchedule};
+ghost use Rattle.ivy_scope.specs.PrintedOrder.{record_line, sizes_line, order_text, IsOrderBy, PrintsOrder};
 
 use ivy_explain::{ScopeFailure, ScopeRequest};
 use ivy_model::{Config, Fault, Kind, Record};
 use ivy_moves::Move;
 use ivy_program::parse;
 use ivy_replay::{Progress, Shorter, Text, drawn_moves, order_of, shortened};
-use ivy_texts::{MoveText, RecordText, parse_schedule};
+use ivy_texts::{Decimal, MoveText, RecordText, parse_schedule};
 use std::alloc::Global;
 use std::io::{self, Write};
 
@@ -54,8 +58,10 @@ impl<'a> Run<'a> {
         }
     }
 
-    /// The moves.
-    pub(crate) fn moves<P: Progress>(&self, progress: &mut P) -> Result<Vec<Move>, Fault> {
+    /// The moves: those that the schedule says, where there is one.
+    pub(crate) fn moves<P: Progress>(&self, progress: &mut P) -> Result<Vec<Move>, Fault>
+        ensures { IfOk result (λ moves. IfSome self.now.schedule (λ text. SpellsSchedule text.now moves.items)) }
+    {
         let (seed, count) = self.drawn;
         match self.schedule {
             Some(schedule) => parse_schedule(self.text.alloc, schedule),
@@ -123,32 +129,49 @@ pub(crate) fn shortest<W: Write, E: Write, P: Progress>(
 }
 
 /// Prints records, one a line.
-pub(crate) fn print_records<W: Write>(records: &[Record], out: &mut W) -> io::Result<()> {
+pub(crate) fn print_records<W: Write>(records: &[Record], out: &mut W) -> io::Result<()>
+    ensures { OnOk result (Appends (W.contents out.old) (W.contents out.new) (flat_map record_line records.now)) }
+{
     for record in records {
         writeln!(out, "{}", RecordText(*record))?;
     }
     Ok(())
 }
 
+/// Prints the sizes of an order.
+fn print_sizes<W: Write>(config: &Config, out: &mut W) -> io::Result<()>
+    ensures { OnOk result (Appends (W.contents out.old) (W.contents out.new) (sizes_line config.now)) }
+{
+    let nodes = Decimal(u64::from(config.nodes));
+    let pages = Decimal(u64::from(config.pages));
+    let size = Decimal(u64::from(config.page_size));
+    writeln!(out, "ivy order {nodes} {pages} {size}")
+}
+
 /// Prints records as an order.
-fn print_order<W: Write>(config: &Config, records: &[Record], out: &mut W) -> io::Result<()> {
-    let (nodes, pages, size) = (config.nodes, config.pages, config.page_size);
-    writeln!(out, "ivy order {nodes} {pages} {size}")?;
+fn print_order<W: Write>(config: &Config, records: &[Record], out: &mut W) -> io::Result<()>
+    ensures { OnOk result (Appends (W.contents out.old) (W.contents out.new) (order_text config.now records.now)) }
+{
+    print_sizes(config, out)?;
     print_records(records, out)
 }
 
 /// The order of records that explains a run.
-fn records_of<P: Progress>(run: &Run<'_>, progress: &mut P) -> Result<Option<Vec<Record>>, Fault> {
+fn records_of<P: Progress>(run: &Run<'_>, progress: &mut P) -> Result<Option<Vec<Record>>, Fault>
+    ensures { IfOk result (λ found. IfSome found (λ order. IsOrderBy run.now.text.config run.now.text.programs.now (λ moves. IfSome run.now.schedule (λ text. SpellsSchedule text.now moves)) order.items)) }
+{
     let moves = run.moves(progress)?;
     order_of(&run.text, &moves, progress)
 }
 
-/// Prints the order of records that explains a run.
+/// Prints the order of records that explains a run, by the moves that the schedule says, where there is one.
 pub(crate) fn order<W: Write, P: Progress>(
     run: &Run<'_>,
     out: &mut W,
     progress: &mut P,
-) -> Result<(), ScopeFailure<'static>> {
+) -> Result<(), ScopeFailure<'static>>
+    ensures { OnOk result (PrintsOrder run.now.text.config run.now.text.programs.now (λ moves. IfSome run.now.schedule (λ text. SpellsSchedule text.now moves)) (W.contents out.old) (W.contents out.new)) }
+{
     let Some(records) = records_of(run, progress)? else {
         return Err(ScopeFailure::NoOrder);
     };

@@ -53,8 +53,9 @@ fn print_found<W: Write>(found: &Found, out: &mut W) -> io::Result<()> {
         print_outputs(outputs, out)?;
     }
     match &found.waiting {
-        None => out.write_all(b"at each of these ends all programs have ended\n"),
         Some(way) => print_way("an end at which a node waits", way, out),
+        None if found.ends > 0 => out.write_all(b"at each of these ends all programs have ended\n"),
+        None => Ok(()),
     }
 }
 

@@ -5,7 +5,7 @@ ghost use Rattle.ivy_scope.specs.Statuses.{IsStatus};
 use crate::logs::{Logs, write_logs};
 use crate::played::print_records;
 use crate::refused::Refusals;
-use crate::watched::{End, ReportSoFar, run_watched};
+use crate::watched::{End, ReportSoFar, WatchTerms, run_watched};
 use ivy_explain::{
     FAILED, Listing, NodeState, STANDSTILL, ScopeFailure, ScopeRequest, Wishes, print_calls,
     print_standing,
@@ -104,18 +104,24 @@ struct Plan<'a> {
 }
 
 /// Runs programs in a session, and tells of each call that is refused, as it is found.
-fn run_session<R: Threads + Wait + Sync, E: Write + Send>(
-    rt: &R,
+fn run_session<'x, R: Threads + Wait + Sync, E: Write + Send>(
+    rt: &'x R,
     alloc: Global,
     request: &ScopeRequest<'_>,
-    plan: &Plan<'_>,
-    err: &mut E,
+    plan: &'x Plan<'_>,
+    err: &'x mut E,
 ) -> Result<Ended, Fault> {
     let (config, wishes) = (plan.config, &plan.wishes);
     let parsed = parse(alloc, request.programs())?;
     let refusals = Refusals::new(rt, alloc, &plan.listing, wishes.strict, err)?;
-    let (limits, keep) = (request.limits(), keep_of(wishes));
-    match run_watched(rt, alloc, config, parsed, limits, &refusals, keep) {
+    let terms = WatchTerms {
+        rt,
+        alloc,
+        limits: request.limits(),
+        watch: &refusals,
+        keep: keep_of(wishes),
+    };
+    match run_watched(&terms, config, parsed) {
         Ok((report, end)) => Ok(Ended {
             report,
             end,

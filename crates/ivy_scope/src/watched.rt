@@ -6,6 +6,7 @@
 mod close;
 mod delivered;
 mod notes;
+mod resting;
 mod seat;
 mod session;
 mod so_far;
@@ -13,4 +14,4 @@ mod watch;
 
 pub use session::run_watched;
 pub use so_far::ReportSoFar;
-pub use watch::{End, Watch};
+pub use watch::{End, Watch, WatchTerms};

@@ -1,5 +1,5 @@
 -- What a finished session says of its report.
-use Rattle.std.specs.Prelude.{◌≡◌, ℕ, List, length, slice_get, Some, All}
+use Rattle.std.specs.Prelude.{◌≡◌, ℕ, List, ◌++◌, length, slice_get, Some, All}
 use Rattle.ivy_model.specs.declared.Call.{Call}
 use Rattle.ivy_model.specs.declared.Config.{Config}
 use Rattle.ivy_model.specs.declared.Record.{Record}
@@ -10,11 +10,12 @@ use Rattle.ivy_program.specs.stated.ProgramRuns.{IsWholeRun}
 use Rattle.ivy_program.specs.InstructionSteps.{HasEnded}
 use Rattle.ivy_moves.specs.declared.keep.Keep.{Keep}
 use Rattle.ivy_moves.specs.Marks.{Mark}
+use Rattle.ivy_moves.specs.stated.Explained.{IsUntorn}
 use Rattle.ivy_moves.specs.stated.Nodes.{Effect}
 use Rattle.ivy_moves.specs.Parts.{AreParts}
 use Rattle.ivy_moves.specs.stated.Worlds.{World}
 use Rattle.ivy_host.specs.stated.Holding.{IsExclusive, HasNoBreach}
-use Rattle.ivy_host.specs.stated.Hosts.{Host, host_rules}
+use Rattle.ivy_host.specs.stated.Hosts.{Host, host_rules, answered_by}
 use Rattle.ivy_host.specs.stated.Managers.{Managed, managed_ops}
 use Rattle.ivy_site.specs.SiteView.{SiteView}
 use Rattle.ivy_ether.specs.Going.{IsListOf}
@@ -59,10 +60,19 @@ module _ (c : Config) (programs : List Program) where
     pub legal : Legal c order
     pub parts : (i : ℕ) (n : NodeReport) → slice_get nodes i ≡ Some n → part i order ≡ n.history
 
+  -- at each point of node i's event list: past its history there the order has nothing of the node, or
+  -- first of all the records of the calls that it has in progress there, next to one another
+  abbrev pub IsNeverTorn : List Record → ℕ → NodeReport → Type 0
+  IsNeverTorn order i n = (before after : List Mark) → n.events ≡ before ++ after
+      → (effect : Effect (Host Managed))
+      → IsListOf (host_rules managed_ops) c (beginning c programs) i before effect
+      → IsUntorn order i (answered_by effect.after.core)
+
   -- each node's history and output are those of its event list; the lists are the parts of one run
   -- of these programs; each history is the whole run of its program, with that output; some order
-  -- explains the histories; at the end of the run no page is writable at one node and readable at
-  -- another, and no node has met a message that fits no rule
+  -- explains the histories, and tears no calls apart that a node had in progress together; at the end
+  -- of the run no page is writable at one node and readable at another, and no node has met a message
+  -- that fits no rule
   pub record IsReport (nodes : List NodeReport) : Type 0 where
     pub all : length nodes ≡ length programs
     pub each : (i : ℕ) (n : NodeReport) → slice_get nodes i ≡ Some n → IsNodeReport i n
@@ -75,6 +85,7 @@ module _ (c : Config) (programs : List Program) where
         × IsWholeRun program n.history n.output
     pub order : List Record
     pub explained : ExplainsWhole order nodes
+    pub untorn : (i : ℕ) (n : NodeReport) → slice_get nodes i ≡ Some n → IsNeverTorn order i n
     pub exclusive : IsExclusive end
     pub no_breach : HasNoBreach end
 

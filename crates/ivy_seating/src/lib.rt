@@ -7,6 +7,7 @@
 #![tactic(auto)]
 
 mod homed;
+mod plan;
 mod report;
 mod seat;
 mod seated;
@@ -15,6 +16,7 @@ mod wire;
 mod wire_turn;
 
 pub use homed::{Home, Homed};
+pub use plan::Plan;
 pub use report::Report;
 pub use seat::ProgramSeat;
 pub use seated::Seated;

@@ -10,10 +10,11 @@ ghost use Rattle.ivy_seating.specs.Reports.{report_of, AllKeep};
 ghost use Rattle.ivy_seating.specs.Collected.{TellsOf, AreTold};
 
 use crate::homed::{Home, Homed};
+use crate::plan::Plan;
 use crate::report::Report;
 use crate::seated::Seated;
 use ivy_ether::{Ether, Pass, Setup, Wired};
-use ivy_model::{Config, Fault};
+use ivy_model::Fault;
 use ivy_program::Program;
 use ivy_site::{Keep, Site};
 use std::alloc::Allocator;
@@ -24,20 +25,17 @@ use std::sync::{Mutex, Wait};
 const NEVER_SEEN: Fault = Fault::TurnLimit;
 
 /// Seats a node [1, 21]: its seat is issued and taken, and its site is made.
-fn seat_one<'e, S: Setup, A: Allocator + Copy, R: Wait>(
-    rt: &R,
-    alloc: A,
+fn seat_one<'e, S: Setup, A: Allocator + Copy, R: Wait, G>(
+    plan: &Plan<'_, '_, A, R, G>,
     ether: &'e Ether<S, A>,
-    config: &Config,
     starter: &mut Pass<Wired<A>>,
     pass: Pass<Wired<A>>,
     node: u8,
     program: Program<A>,
-    keep: Keep,
 ) -> Result<Seated<'e, S, A>, Fault>
-    requires config { config.now ≡ S.config }
-    requires limits { IsConfig config.now }
-    requires each { length S.programs ≡ config.now.nodes }
+    requires config { plan.now.config ≡ S.config }
+    requires limits { IsConfig plan.now.config }
+    requires each { length S.programs ≡ plan.now.config.nodes }
     requires there { slice_get S.programs node ≡ Some program }
     requires starter { (starter.old.ether ≡ ether.now) × (starter.old.known.starts ≡ true) }
     requires pass { IsNewcomer ether.now pass }
@@ -49,35 +47,32 @@ fn seat_one<'e, S: Setup, A: Allocator + Copy, R: Wait>(
     ensures stop { IfErr result IsStop }
 {
     let mut pass = pass;
-    if !ether.issue_seat(rt, starter, node) {
+    if !ether.issue_seat(plan.rt, starter, node) {
         return Err(NEVER_SEEN);
     }
-    let Some(found) = ether.take_seat(rt, &mut pass) else {
+    let Some(found) = ether.take_seat(plan.rt, &mut pass) else {
         return Err(NEVER_SEEN);
     };
     if found != node {
         return Err(NEVER_SEEN);
     }
-    let site = Site::keeping(alloc, config, node, program, keep)?;
+    let site = Site::keeping(plan.alloc, &plan.config, node, program, plan.keep)?;
     Ok(Seated::new(ether, site, pass))
 }
 
-/// Seats all nodes [1, 21], with a pass and a program for each. Each keeps these lists of its own past.
-pub fn seat_all<'e, S: Setup, H: Home, A: Allocator + Copy, R: Wait>(
-    rt: &R,
-    alloc: A,
+/// Seats all nodes [1, 21], with a pass and a program for each. Each keeps the lists of its own past that the plan says.
+pub fn seat_all<'e, S: Setup, H: Home, A: Allocator + Copy, R: Wait, G>(
+    plan: &Plan<'_, '_, A, R, G>,
     ether: &'e Ether<S, A>,
-    config: &Config,
     starter: &mut Pass<Wired<A>>,
     passes: Vec<Pass<Wired<A>>, A>,
     programs: Vec<Program<A>, A>,
-    keep: Keep,
 ) -> Result<Vec<Mutex<Homed<'e, S, H, A>>, A>, Fault>
     requires home { ether.now ≡ H.ether }
-    requires config { config.now ≡ S.config }
-    requires limits { IsConfig config.now }
+    requires config { plan.now.config ≡ S.config }
+    requires limits { IsConfig plan.now.config }
     requires programs { programs.items ≡ S.programs }
-    requires each { length programs.items ≡ config.now.nodes }
+    requires each { length programs.items ≡ plan.now.config.nodes }
     requires starter { (starter.old.ether ≡ ether.now) × (starter.old.known ≡ beginner) }
     requires passes { All (IsNewcomer ether.now) passes.items }
     requires enough { vec_len passes ≡ length programs.items }
@@ -87,14 +82,14 @@ pub fn seat_all<'e, S: Setup, H: Home, A: Allocator + Copy, R: Wait>(
     ensures stop { IfErr result IsStop }
 {
     let mut passes = passes;
-    let mut seats = Vec::new(alloc);
+    let mut seats = Vec::new(plan.alloc);
     let mut node = 0u8;
     for program in programs {
         let Some(pass) = passes.pop() else {
             unreachable!()
         };
         seats.reserve(1)?;
-        let seated = seat_one(rt, alloc, ether, config, starter, pass, node, program, keep)?;
+        let seated = seat_one(plan, ether, starter, pass, node, program)?;
         seats.push_reserved(Mutex::new(Homed::new(seated)));
         node += 1;
     }

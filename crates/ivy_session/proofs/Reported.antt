@@ -23,6 +23,7 @@ use Rattle.ivy_moves.specs.Parts.{AllHappen, AreParts}
 use Rattle.ivy_moves.specs.stated.Worlds.{World, Leads}
 use Rattle.ivy_moves.proofs.Parts.{runs_are_their_parts}
 use Rattle.ivy_moves.proofs.Splitting.{same-effect}
+use Rattle.ivy_moves.proofs.Moments.{IsWhole, explained_whole, untorn_at}
 use Rattle.ivy_host.specs.stated.Hosts.{Host, host_rules, answered_by}
 use Rattle.ivy_host.specs.stated.Managers.{Managed, managed_ops}
 use Rattle.ivy_host.specs.Handing.{handing}
@@ -32,21 +33,25 @@ use Rattle.ivy_ether.specs.Rule.{IsNode}
 use Rattle.ivy_ether.proofs.Advancing.{same_start, list_over}
 use Rattle.ivy_ether.proofs.Hosts.{length-all_handed, opened, from_start}
 use Rattle.ivy_ether.specs.Views.{View}
-use Rattle.ivy_seating.specs.Reports.{NodeReport, IsDone, IsReport, IsHandedReport}
+use Rattle.ivy_seating.specs.Reports.{NodeReport, IsDone, IsNeverTorn, IsReport, IsHandedReport}
 use Rattle.ivy_seating.specs.Collected.{AreTold}
+use Rattle.proof_worlds.proofs.consistency.Untorn.{serve-keeps}
 use Rattle.proof_worlds.proofs.headline.Headline.{exclusive_along, no_breach-led, runs_led, explained-along, sound-led}
 
--- the order at the end of a run
-pub explained_end : (c : Config) (w end : World (Host Managed)) (order : List Record)
-    (moves : List Move)
-    → GoesOn (host_rules managed_ops) c answered_by w order moves
+-- the order at the end of a run, and all that is known of it
+whole_end : (c : Config) (w end : World (Host Managed)) (moves : List Move)
+    → GoesOn (host_rules managed_ops) c answered_by [] w [] moves
+    → (lead : Leads (host_rules managed_ops) c w moves end)
+    → (whole : List Record) × IsWhole (host_rules managed_ops) c answered_by [] w end moves lead whole
+whole_end c w end moves on lead =
+    explained_whole (host_rules managed_ops) c answered_by [] w end [] moves on lead
+
+pub explained_end : (c : Config) (w end : World (Host Managed)) (moves : List Move)
+    → GoesOn (host_rules managed_ops) c answered_by [] w [] moves
     → Leads (host_rules managed_ops) c w moves end
     → (whole : List Record) × IsExplainedBy (host_rules managed_ops) c answered_by end whole
-explained_end c w end order [] on lead =
-    (order, subst (λ v. IsExplainedBy (host_rules managed_ops) c answered_by v order) (sym lead) on)
-explained_end c w end order (m ∷ moves) on lead =
-    let next = on.1 lead.0 lead.1 in
-    explained_end c lead.0 end (order ++ next.0) moves next.1 lead.2
+explained_end c w end moves on lead =
+    let all = whole_end c w end moves on lead in (all.0, all.1.now)
 
 -- nothing is owed where no call is in progress
 none_called : (rest : List Record) → map (λ (r : Record). r.call) rest ≡ [] → rest ≡ []
@@ -111,9 +116,18 @@ module _ (c : Config) (programs : List Program) (limits : IsConfig c)
     at_end : (i : ℕ) (n : NodeReport) → slice_get nodes i ≡ Some n → IsThere end i n
     at_end i n there = is_there end parts i n run (lists i n there) (done i n there)
 
-    order : (whole : List Record) × IsExplainedBy (host_rules managed_ops) c answered_by end whole
-    order = explained_end c (beginning c programs) end [] run.moves
+    order : (whole : List Record) × IsWhole (host_rules managed_ops) c answered_by []
+        (beginning c programs) end run.moves run.leads whole
+    order = whole_end c (beginning c programs) end run.moves
         (explained-along c programs limits each run.moves) run.leads
+
+    -- at each point of its list
+    never_torn : (i : ℕ) (n : NodeReport) → slice_get nodes i ≡ Some n
+        → IsNeverTorn c programs order.0 i n
+    never_torn i n there before after is effect list =
+        untorn_at (host_rules managed_ops) c answered_by (serve-keeps managed_ops) order.0 i run.moves
+        (beginning c programs) end run.leads order.1.each list.node list.there before after
+        (sym (run.are i) ∙ lists i n there ∙ is) effect list.happen
 
     whole_run : (i : ℕ) (n : NodeReport) → slice_get nodes i ≡ Some n
         → (program : Program) × (slice_get programs i ≡ Some program)
@@ -137,7 +151,7 @@ module _ (c : Config) (programs : List Program) (limits : IsConfig c)
     whole_part i n there =
         let e = at_end i n there in
         let sound = sound-led c programs limits each run.moves end run.leads i e.node e.there in
-        let p = order.1.explained.parts i (answered_by e.node.core)
+        let p = order.1.now.explained.parts i (answered_by e.node.core)
         (map_get (λ (m : Node (Host Managed)). answered_by m.core) end.nodes i e.node e.there) in
         let none : e.node.core.memory.asked ≡ None =
         asks_none e.node.core.memory.asked e.node.core refl (λ call is. (sound.asking call is).0)
@@ -157,7 +171,8 @@ module _ (c : Config) (programs : List Program) (limits : IsConfig c)
       run = run;
       whole = whole_run;
       order = order.0;
-      explained = record { legal = order.1.explained.legal; parts = whole_part };
+      explained = record { legal = order.1.now.explained.legal; parts = whole_part };
+      untorn = never_torn;
       exclusive = exclusive_along c programs limits each run.moves end run.leads;
       no_breach = no_breach-led c programs limits each run.moves end run.leads;
     }

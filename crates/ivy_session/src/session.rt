@@ -15,7 +15,7 @@ use crate::workers::run_workers;
 use ivy_ether::{Ether, Pass, Setup, Wired};
 use ivy_model::{Config, Fault};
 use ivy_program::Program;
-use ivy_seating::{Home, Keep, Report, seat_all};
+use ivy_seating::{Home, Keep, Plan, Report, seat_all};
 use ivy_workers::{Gate, Limits};
 use std::alloc::Allocator;
 use std::marker::Brand;
@@ -47,16 +47,11 @@ pub fn lay<S: Setup, A: Allocator + Copy>(
 
 /// Seats the nodes at their ether, runs their workers, and closes them [1, 17, 21].
 fn play_at<S, H, A, R, G>(
-    rt: &R,
-    alloc: A,
-    config: &Config,
+    plan: &Plan<'_, '_, A, R, G>,
     ether: &Ether<S, A>,
     starter: Pass<Wired<A>>,
     passes: Vec<Pass<Wired<A>>, A>,
     programs: Vec<Program<A>, A>,
-    limits: Limits,
-    gate: &G,
-    keep: Keep,
 ) -> Result<Report<A>, Fault>
 where
     S: Setup + Send + Sync,
@@ -64,69 +59,56 @@ where
     A: Allocator + Copy + Send + Sync,
     R: Threads + Wait + Sync,
     G: Gate,
-    requires config { config.now ≡ S.config }
-    requires limits { IsConfig config.now }
+    requires config { plan.now.config ≡ S.config }
+    requires limits { IsConfig plan.now.config }
     requires programs { programs.items ≡ S.programs }
-    requires each { length programs.items ≡ config.now.nodes }
+    requires each { length programs.items ≡ plan.now.config.nodes }
     requires home { ether.now ≡ H.ether }
     requires starter { (starter.ether ≡ ether.now) × (starter.known ≡ beginner) }
     requires passes { All (IsNewcomer ether.now) passes.items }
     requires enough { vec_len passes ≡ length programs.items }
     ensures report { IfOk result (λ report. IsHandedReport S.config S.programs report) }
-    ensures keep { IfOk result (AllKeep keep) }
+    ensures keep { IfOk result (AllKeep plan.now.keep) }
     ensures stop { IfErr result IsStop }
 {
     let nodes = programs.len();
     let mut starter = starter;
-    let seats = seat_all::<S, H, A, R>(
-        rt,
-        alloc,
-        ether,
-        config,
-        &mut starter,
-        passes,
-        programs,
-        keep,
-    )?;
-    let sites = Vec::with_capacity(alloc, nodes)?;
-    run_workers(rt, alloc, &seats, limits, gate)?;
+    let seats = seat_all::<S, H, A, R, G>(plan, ether, &mut starter, passes, programs)?;
+    let sites = Vec::with_capacity(plan.alloc, nodes)?;
+    run_workers(plan.rt, plan.alloc, &seats, plan.limits, plan.gate)?;
     if let Some(first) = seats.first() {
-        first.lock(rt).seated.drain(rt, limits.capacity);
+        first
+            .lock(plan.rt)
+            .seated
+            .drain(plan.rt, plan.limits.capacity);
     }
-    collect(ether, starter, seats, sites, nodes, keep)
+    collect(ether, starter, seats, sites, nodes, plan.keep)
 }
 
 /// Lays the ether, and runs the programs of the nodes there [1, 17, 21].
 fn play<S, A, R, G>(
-    rt: &R,
-    alloc: A,
-    config: &Config,
+    plan: &Plan<'_, '_, A, R, G>,
     programs: Vec<Program<A>, A>,
-    limits: Limits,
-    gate: &G,
-    keep: Keep,
 ) -> Result<Report<A>, Fault>
 where
     S: Setup + Send + Sync,
     A: Allocator + Copy + Send + Sync,
     R: Threads + Wait + Sync,
     G: Gate,
-    requires config { config.now ≡ S.config }
-    requires limits { IsConfig config.now }
+    requires config { plan.now.config ≡ S.config }
+    requires limits { IsConfig plan.now.config }
     requires programs { programs.items ≡ S.programs }
-    requires each { length programs.items ≡ config.now.nodes }
-    requires capacity { 0 < limits.capacity }
+    requires each { length programs.items ≡ plan.now.config.nodes }
+    requires capacity { 0 < plan.now.limits.capacity }
     ensures report { IfOk result (λ report. IsHandedReport S.config S.programs report) }
-    ensures keep { IfOk result (AllKeep keep) }
+    ensures keep { IfOk result (AllKeep plan.now.keep) }
     ensures stop { IfErr result IsStop }
 {
-    let (ether, mut passes) = lay::<S, A>(alloc, config, &programs, limits)?;
+    let (ether, mut passes) = lay::<S, A>(plan.alloc, &plan.config, &programs, plan.limits)?;
     let Some(starter) = passes.pop() else {
         unreachable!()
     };
-    play_at::<S, Brand, A, R, G>(
-        rt, alloc, config, &ether, starter, passes, programs, limits, gate, keep,
-    )
+    play_at::<S, Brand, A, R, G>(plan, &ether, starter, passes, programs)
 }
 
 /// The programs are written down. It takes no memory.
@@ -215,6 +197,14 @@ impl Session {
             return Err(Fault::BadConfig);
         }
         are_written(&programs);
-        play::<Brand, A, R, G>(rt, alloc, &config, programs, limits, gate, keep)
+        let plan = Plan {
+            rt,
+            alloc,
+            config,
+            limits,
+            gate,
+            keep,
+        };
+        play::<Brand, A, R, G>(&plan, programs)
     }
 }

@@ -1,5 +1,5 @@
 -- A call that own code makes, and the turn in which it begins.
-use Rattle.std.specs.Prelude.{◌≡◌, ℕ, ◌+◌, ◌%◌, ◌<◌, ◌^◌, Bool, false, List, [], ◌∷◌, ◌++◌}
+use Rattle.std.specs.Prelude.{◌≡◌, ℕ, ◌+◌, ◌*◌, ◌%◌, ◌<◌, ◌≤◌, ◌^◌, Bool, false, List, [], ◌∷◌, ◌++◌}
 use Rattle.std.specs.Prelude.{length, min, MatchOption, Option, Some, None, if◌then◌else◌}
 use Rattle.ivy_model.specs.declared.Call.{Call}
 use Rattle.ivy_model.specs.declared.Config.{Config}
@@ -12,6 +12,7 @@ use Rattle.ivy_pagetable.specs.WordRows.{row_len}
 use Rattle.ivy_host.specs.stated.Managers.{Managed}
 use Rattle.ivy_memory.specs.stated.Memories.{NodeMemory, in_progress}
 use Rattle.ivy_memory.specs.BatchedCalls.{row_has_to_wait}
+use Rattle.ivy_memory.specs.BatchedReplies.{HasReplies, left_in}
 use Rattle.ivy_host.specs.stated.Hosts.{number_of}
 use Rattle.ivy_moves.specs.declared.keep.Keep.TheVariants.{Nothing}
 use Rattle.ivy_moves.specs.Histories.{HistoryState}
@@ -128,3 +129,13 @@ pub record TakesReplies (process : Process) (history : HistoryState) (events_kep
   pub counted : length history.records + bytes < 2 ^ 64
   pub unlisted : events_kept ≡ false
   pub below : addr + bytes < 2 ^ 64
+
+-- so the replies to all calls in progress at this site can be taken at once, in these bytes: they are
+-- those of a row from the address on, and are there, and the bytes have room for its words
+pub record MayTakeRow (kind : Row) (addr : ℕ) (bytes : List ℕ) (s : SiteView) : Type 0 where
+  pub own : IsCalled s.node.core.process.program
+  pub unkept : s.keep ≡ Nothing
+  pub counted : length s.node.core.history + length bytes < 2 ^ 64
+  pub below : addr + length bytes < 2 ^ 64
+  pub there : HasReplies kind addr bytes s.node.core.memory
+  pub room : 8 * left_in s.node.core.memory ≤ length bytes

@@ -3,7 +3,8 @@ ghost use Rattle.std.specs.Prelude.{◌≡◌, ◌≢◌, ◌+◌, ◌*◌, ◌%
 ghost use Rattle.ivy_model.specs.Rows.{calls_of, numbers_in, row};
 ghost use Rattle.ivy_model.specs.Wants.{RanOut};
 ghost use Rattle.ivy_pagetable.specs.WordRows.{row_len};
-ghost use Rattle.ivy_site.specs.Calls.{AreTaken, BeginsRow, MayCallTogether, row_together};
+ghost use Rattle.ivy_memory.specs.BatchedReplies.{left_in};
+ghost use Rattle.ivy_site.specs.Calls.{AreTaken, BeginsRow, MayCallTogether, MayTakeRow, row_together};
 ghost use Rattle.ivy_site.specs.Handed.{site_handed};
 ghost use Rattle.ivy_site.specs.Sites.{most_sent, IsSameNode, IsSpentTurn};
 
@@ -72,6 +73,7 @@ impl<A: Allocator + Copy> Site<A> {
     /// done. So it is where the site keeps a list of its own past. It takes no memory.
     pub fn take_loads(&mut self, addr: u64, into: &mut [u8]) -> usize
         ensures same { IsSameNode self.old self.new }
+        ensures many { MayTakeRow Row.Loads addr into.old self.old → result ≡ left_in self.old.node.core.memory }
         ensures taken { AreTaken (row Row.Loads self.old.me addr (numbers_in result into.new)) self.old self.new }
         ensures fits { 8 * result ≤ length into.old }
         ensures sized { length into.new ≡ length into.old }
@@ -96,6 +98,7 @@ impl<A: Allocator + Copy> Site<A> {
     /// Takes the replies of stores in a row of own code, of just these bytes from `addr` on, as [`Site::take_loads`] does.
     pub fn take_stores(&mut self, addr: u64, from: &[u8]) -> usize
         ensures same { IsSameNode self.old self.new }
+        ensures many { MayTakeRow Row.Stores addr from.now self.old → result ≡ left_in self.old.node.core.memory }
         ensures taken { AreTaken (row Row.Stores self.old.me addr (numbers_in result from.now)) self.old self.new }
         ensures fits { 8 * result ≤ length from.now }
         ensures rests { result ≢ 0 → self.new.node.core.memory.asked ≡ None }

@@ -1,5 +1,5 @@
 -- What a call of this library leaves that fails.
-use Rattle.std.specs.Prelude.{◌≡◌, ℕ, ◌+◌, ◌-◌, ◌^◌, ◌≤◌, ◌≢◌, ◌⊎◌, List, [], ◌∷◌, ◌++◌}
+use Rattle.std.specs.Prelude.{◌≡◌, ℕ, ◌+◌, ◌-◌, ◌^◌, ◌≤◌, ◌≢◌, ◌⊎◌, List, [], ◌∷◌, ◌++◌, length}
 use Rattle.std.specs.List.{AllByRecursion as Each}
 use Rattle.ivy_model.specs.declared.call.Call.{Call}
 use Rattle.ivy_model.specs.declared.call.Call.TheVariants.{Load, Store, Swap, Cas, FetchAdd}
@@ -14,8 +14,8 @@ use Rattle.ivy_sync.specs.declared.error.SyncError.{SyncError}
 use Rattle.ivy_sync.specs.declared.error.SyncError.TheVariants as error
 use Rattle.ivy_sync.specs.declared.broadcast.Broadcast.{Broadcast}
 use Rattle.ivy_sync.specs.declared.queue.Queue.{Queue}
-use Rattle.ivy_sync.specs.meeting.Barriers.{least_of}
-use Rattle.ivy_sync.specs.Doing.{AsksInVain, allots, claims_word, draws, stores}
+use Rattle.ivy_sync.specs.meeting.Barriers.{least_of, passed_on}
+use Rattle.ivy_sync.specs.Doing.{AsksInVain, Crosses, allots, claims_word, draws, stores}
 use Rattle.ivy_sync.specs.queueing.Queues.{slot}
 
 -- in some state of the memory a call may fail so
@@ -31,17 +31,20 @@ StopsIn can_fail (call ∷ calls) (error.Call e) old new =
     × StopsIn can_fail calls (error.Call e) (old ++ record { call = call; reply = reply } ∷ []) new)
 StopsIn can_fail (call ∷ calls) (error.Spent place) old new = ⊥
 
--- the lock at a was asked for in vain, so far
-pub record HasAsked (a : ℕ) (old new : List Answer) : Type 0 where
+-- the lock at a was asked for so often, each time in vain
+pub record HasAsked (a times : ℕ) (old new : List Answer) : Type 0 where
   pub refusals : List Answer
   pub each : Each (AsksInVain a) refusals
+  pub number : length refusals ≡ times
   pub whole : new ≡ old ++ refusals
 
--- and then the next try failed, or there was none
+-- the next try failed, or no more can be counted
 abbrev pub FailsToLock : (Fault → Type 0) → ℕ → SyncError → List Answer → List Answer → Type 0
 FailsToLock can_fail a (error.Call e) old new =
-    (tried : List Answer) × HasAsked a old tried × Fails can_fail (Swap 8 a 1) e tried new
-FailsToLock can_fail a (error.Spent place) old new = (place ≡ a) × HasAsked a old new
+    (times : ℕ) × (tried : List Answer) × HasAsked a times old tried
+    × Fails can_fail (Swap 8 a 1) e tried new
+FailsToLock can_fail a (error.Spent place) old new =
+    (place ≡ a) × HasAsked a (2 ^ 64 - 1) old new
 
 -- a barrier was not passed: the count can't be so great, or a call failed
 abbrev pub FailsToCross : (Fault → Type 0) → ℕ → ℕ → SyncError → List Answer → List Answer → Type 0
@@ -109,6 +112,22 @@ FailsToGet can_fail b (error.Call e) old new =
     (error.Call e) old new
 FailsToGet can_fail b (error.Spent place) old new =
     (place ≡ b.barrier.count) × (2 ^ 64 ≤ least_of b.barrier) × (new ≡ old)
+
+-- the barrier was passed, and the load failed
+abbrev pub FailsAtLoad : (Fault → Type 0) → Broadcast → SyncError → List Answer → List Answer
+    → Type 0
+FailsAtLoad can_fail b (error.Call e) old new =
+    (mid : List Answer) × Crosses b.barrier.count (least_of b.barrier) old mid
+    × Fails can_fail (Load 8 b.addr) e mid new
+FailsAtLoad can_fail b (error.Spent place) old new = ⊥
+
+-- the broadcast is as it was where the barrier was not passed, and goes on where the load failed
+abbrev pub LeavesBroadcast : (Fault → Type 0) → Broadcast → Broadcast → SyncError → List Answer
+    → List Answer → Type 0
+LeavesBroadcast can_fail old_b new_b e old new =
+    ((new_b ≡ old_b) × FailsToCross can_fail old_b.barrier.count (least_of old_b.barrier) e old new)
+    ⊎ ((new_b ≡ record old_b { barrier = passed_on old_b.barrier })
+    × FailsAtLoad can_fail old_b e old new)
 
 -- the fault with which a program gives up that has this error
 abbrev pub fault_by : SyncError → Fault

@@ -21,7 +21,7 @@ impl Broadcast {
     ghost use Rattle.ivy_sync.specs.Doing.{allots};
     ghost use Rattle.ivy_sync.specs.meeting.Barriers.{passed_on};
     ghost use Rattle.ivy_sync.specs.meeting.Broadcasts.{Gives, Gets};
-    ghost use Rattle.ivy_sync.specs.Failing.{AtSome, FailsToGive, FailsToGet};
+    ghost use Rattle.ivy_sync.specs.Failing.{AtSome, FailsToGive, FailsToGet, LeavesBroadcast};
 
     /// One in a new block, by this barrier. One node makes it, and tells the others where it lies.
     pub fn alloc<M: SharedMemory>(memory: &mut M, barrier: Barrier) -> Result<Self, CallError>
@@ -53,12 +53,16 @@ impl Broadcast {
         self.barrier.wait(memory)
     }
 
-    /// Waits for the others, and gets the number. After an `Err` of the barrier the broadcast is as it was.
+    /// Waits for the others, and gets the number. After an `Err` of the barrier the broadcast is as it was, and after
+    /// one of the load the barrier has been passed.
     pub fn get<M: SharedMemory>(&mut self, memory: &mut M) -> Result<u64, SyncError>
         ensures gets { IfOk result (λ value.
             Gets self.old value (M.answers memory.old) (M.answers memory.new)) }
         ensures next { IfOk result (λ _.
             self.new ≡ record self.old { barrier = passed_on self.old.barrier }) }
+        ensures same { IfErr result (λ error.
+            LeavesBroadcast (AtSome M.can_fail) self.old self.new error
+            (M.answers memory.old) (M.answers memory.new)) }
         ensures fails { IfErr result (λ error.
             FailsToGet (AtSome M.can_fail) self.old error
             (M.answers memory.old) (M.answers memory.new)) }

@@ -30,7 +30,8 @@ pub fn phases_share()
     ensures { PhasesShare }
 {}
 
-/// A word that one node alone writes before a barrier is after it as that node left it.
+/// At one cut, after a barrier, each word that one node alone wrote before it is as that node left it, and
+/// each eventcount that nobody advanced is as it was.
 pub fn set_up_is_there()
     ensures { SetUpIsThere }
 {}

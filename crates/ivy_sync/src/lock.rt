@@ -34,7 +34,7 @@ impl Lock {
         })
     }
 
-    /// Tries until the lock is free, and takes it.
+    /// Tries until the lock is free, and takes it. Of itself it gives up after `u64::MAX` tries alone.
     pub fn acquire<M: SharedMemory>(&self, memory: &mut M) -> Result<(), SyncError>
         ensures locks { IfOk result (λ _.
             Locks self.now.addr (M.answers memory.old) (M.answers memory.new)) }

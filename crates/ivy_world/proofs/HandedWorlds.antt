@@ -52,7 +52,7 @@ module _ (c : Config) (sites : List SiteView) (sent : List (List ℕ)) (node : �
   made = h.nodes.made node old there
 
   -- each node is handed these rows of calls, or none
-  abbrev more_at : ℕ → List (List Call)
+  abbrev pub more_at : ℕ → List (List Call)
   more_at i = if i == node then more else []
 
   more_here : more_at node ≡ more
@@ -107,7 +107,7 @@ module _ (c : Config) (sites : List SiteView) (sent : List (List ℕ)) (node : �
     changed_count =
         length-map sites' f ∙ length-set sites node new ∙ sym (length-map sites f)
 
-  world_changed : IsChangedBy (λ i. handing (more_at i)) (world_of sites sent)
+  pub world_changed : IsChangedBy (λ i. handing (more_at i)) (world_of sites sent)
       (world_of sites' sent)
   world_changed = record {
     there = changed_there (λ (s : SiteView). s.node) (λ m. node_changed (handing m)) node_kept refl;
@@ -116,7 +116,7 @@ module _ (c : Config) (sites : List SiteView) (sent : List (List ℕ)) (node : �
     early = same_map early_at sites node old new there (handed_early more old made);
   }
 
-  programs_handed : AreHanded more_at (programs_of sites) (programs_of sites')
+  pub programs_handed : AreHanded more_at (programs_of sites) (programs_of sites')
   programs_handed = record {
     count = changed_count (λ (s : SiteView). s.node.core.process.program) handed handed_none refl;
     each = changed_there (λ (s : SiteView). s.node.core.process.program) handed handed_none refl;

@@ -76,3 +76,13 @@ pub record PrintsJoined (old new : Option (List ℕ)) : Type 0 where
   pub sites : List SiteView
   pub joined : AreJoined config programs (lists_of logs) sites
   pub printed : Appends old new (outputs_text (outputs_in sites) ++ ends_in sites)
+
+-- programs and logs, each as some text spells it, do not belong together: the logs are those of all nodes of one
+-- configuration, and the parts of no run of these programs under it
+pub record AreRefused : Type 0 where
+  pub programs : List Program
+  pub spelled : AreSpelled programs
+  pub heads : List LogHead
+  pub logs : List (List LogEntry)
+  pub said : AllZip (IsSpelled OfProgram) heads logs
+  pub none : AreOfNoRun programs heads logs

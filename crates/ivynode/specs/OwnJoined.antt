@@ -1,13 +1,15 @@
 -- What is printed of logs of own code that are the parts of one run.
-use Rattle.std.specs.Prelude.{ℕ, List, [], ◌∷◌, ◌++◌, Option, codes, decimal, length}
-use Rattle.std.specs.List.{AllZip}
+use Rattle.std.specs.Prelude.{◌≡◌, ◌==◌, ◌&&◌, ℕ, Bool, false, List, [], ◌∷◌, ◌++◌, Option, codes, decimal, length, if◌then◌else◌}
+use Rattle.std.specs.List.{AllZip, zip}
+use Rattle.std.specs.Option.{is_none}
 use Rattle.std.specs.Io.KnownBytes.{Appends}
 use Rattle.ivy_model.specs.declared.Config.{Config}
 use Rattle.ivy_simulation.specs.Nodes.{numbered_texts}
+use Rattle.ivy_texts.specs.Lines.{end_line}
 use Rattle.ivy_texts.specs.Printed.{then_number}
 use Rattle.ivy_logs.specs.declared.log.LogHead.{LogHead}
 use Rattle.ivy_logs.specs.declared.log.LogKind.TheVariants.{OfOwnCode}
-use Rattle.ivy_logs.specs.Entries.{LogEntry}
+use Rattle.ivy_logs.specs.Entries.{LogEntry, answers_in}
 use Rattle.ivy_site.specs.SiteView.{SiteView}
 use Rattle.ivy_join.specs.Joined.{AreHeads}
 use Rattle.ivy_join.specs.OwnJoined.{AreAllTold, AreAnswered, AreOwnJoined}
@@ -25,9 +27,26 @@ answered_in number s = answered_line number (length s.node.core.history)
 abbrev pub all_answered_in : List SiteView → List ℕ
 all_answered_in sites = numbered_texts answered_in 0 sites
 
+-- no call is in progress at the site, and the log has all that it was answered
+abbrev pub is_whole : List LogEntry → SiteView → Bool
+is_whole entries s =
+    is_none s.node.core.memory.asked && (length s.node.core.history == length (answers_in entries))
+
+-- the line of a node of which that is not so
+abbrev pub open_line : ℕ → Bool → List ℕ
+open_line number whole = if whole then [] else end_line number false
+
+abbrev pub open_in : ℕ → List LogEntry × SiteView → List ℕ
+open_in number joined = open_line number (is_whole joined.0 joined.1)
+
+-- these lines of all nodes, of which these are the logs
+abbrev pub all_open_in : List (List LogEntry) → List SiteView → List ℕ
+all_open_in logs sites = numbered_texts open_in 0 (zip logs sites)
+
 -- logs of own code, each as some text spells it, were joined: they are the parts of one run of the programs that the
--- calls in them are, and each node was answered in it what its log says. Where no call is in progress there, and each
--- log has all answers, one flat memory could have given them. How many calls of each node were answered was printed
+-- calls in them are, and each node was answered in it what its log says. How many calls of each node were answered was
+-- printed, and then which nodes have a call in progress, or lack an answer in their log. Where no node was named so,
+-- one flat memory could have given the answers in the logs
 pub record PrintsOwnJoined (old new : Option (List ℕ)) : Type 0 where
   pub config : Config
   pub heads : List LogHead
@@ -36,5 +55,6 @@ pub record PrintsOwnJoined (old new : Option (List ℕ)) : Type 0 where
   pub own : AreHeads config 0 heads
   pub sites : List SiteView
   pub joined : AreOwnJoined config logs sites
+  pub told : all_open_in logs sites ≡ [] → AreAllTold logs sites
   pub answered : AreAllTold logs sites → AreAnswered config logs
-  pub printed : Appends old new (all_answered_in sites)
+  pub printed : Appends old new (all_answered_in sites ++ all_open_in logs sites)

@@ -83,6 +83,39 @@ impl fmt::Display for Failure {
     }
 }
 
+/// Why the words of a command line ask for nothing.
+#[derive(Clone, Copy)]
+pub(crate) enum Misuse {
+    /// They are no command.
+    Words(&'static str),
+    /// Memory ran out.
+    Memory,
+}
+
+impl From<AllocError> for Misuse {
+    fn from(_error: AllocError) -> Self {
+        Misuse::Memory
+    }
+}
+
+impl<T: Drop> From<AllocFailed<T>> for Misuse {
+    fn from(_error: AllocFailed<T>) -> Self {
+        Misuse::Memory
+    }
+}
+
+impl From<Misuse> for Failure {
+    // It says nothing of logs.
+    ghost from_gives = { λ _ f. IsNoRun f → ⊥ };
+
+    fn from(why: Misuse) -> Self {
+        match why {
+            Misuse::Words(why) => Failure::BadCommandLine(why),
+            Misuse::Memory => Failure::Refused(Fault::Memory),
+        }
+    }
+}
+
 impl From<Fault> for Failure {
     fn from(fault: Fault) -> Self {
         Failure::Refused(fault)
@@ -90,12 +123,18 @@ impl From<Fault> for Failure {
 }
 
 impl From<AllocError> for Failure {
+    // It says nothing of logs.
+    ghost from_gives = { λ _ f. IsNoRun f → ⊥ };
+
     fn from(_error: AllocError) -> Self {
         Failure::Refused(Fault::Memory)
     }
 }
 
 impl<T: Drop> From<AllocFailed<T>> for Failure {
+    // It says nothing of logs.
+    ghost from_gives = { λ _ f. IsNoRun f → ⊥ };
+
     fn from(_error: AllocFailed<T>) -> Self {
         Failure::Refused(Fault::Memory)
     }

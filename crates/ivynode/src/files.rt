@@ -1,6 +1,6 @@
 //! The files that a command line names.
-ghost use Rattle.std.specs.Prelude.{IfOk};
-ghost use Rattle.ivynode.specs.Joined.{AreSpelled};
+ghost use Rattle.std.specs.Prelude.{IfErr, IfOk};
+ghost use Rattle.ivynode.specs.Joined.{AreSpelled, IsNoRun};
 
 use crate::failure::Failure;
 use ivy_model::Fault;
@@ -10,7 +10,9 @@ use std::fs::{self, File, OpenOptions};
 use std::io::{self, ErrorKind, Write};
 use std::rt::Files;
 
-fn cannot_read(alloc: Global, name: &str) -> Failure {
+fn cannot_read(alloc: Global, name: &str) -> Failure
+    ensures { IsNoRun result → ⊥ }
+{
     match String::from_str(alloc, name) {
         Ok(name) => Failure::CannotRead(name),
         Err(_) => Failure::Refused(Fault::Memory),
@@ -18,7 +20,9 @@ fn cannot_read(alloc: Global, name: &str) -> Failure {
 }
 
 /// A fault of the text of a file.
-pub(crate) fn fault_in(alloc: Global, name: &str, fault: Fault) -> Failure {
+pub(crate) fn fault_in(alloc: Global, name: &str, fault: Fault) -> Failure
+    ensures { IsNoRun result → ⊥ }
+{
     if fault == Fault::Memory {
         return Failure::Refused(fault);
     }
@@ -28,7 +32,9 @@ pub(crate) fn fault_in(alloc: Global, name: &str, fault: Fault) -> Failure {
     }
 }
 
-fn refused(alloc: Global, name: &str, error: &io::Error) -> Failure {
+fn refused(alloc: Global, name: &str, error: &io::Error) -> Failure
+    ensures { IsNoRun result → ⊥ }
+{
     match error.kind() {
         ErrorKind::OutOfMemory => Failure::Refused(Fault::Memory),
         _ => cannot_read(alloc, name),
@@ -36,7 +42,9 @@ fn refused(alloc: Global, name: &str, error: &io::Error) -> Failure {
 }
 
 /// The text of a file.
-pub(crate) fn text_of<R: Files + AllocGlobal>(rt: &R, name: &str) -> Result<String, Failure> {
+pub(crate) fn text_of<R: Files + AllocGlobal>(rt: &R, name: &str) -> Result<String, Failure>
+    ensures { IfErr result (λ why. IsNoRun why → ⊥) }
+{
     match fs::read_to_string(rt, name) {
         Ok(text) => Ok(text),
         Err(error) => Err(refused(rt.alloc(), name, &error)),
@@ -59,7 +67,8 @@ pub(crate) fn programs_of<R: Files + AllocGlobal>(
     rt: &R,
     name: &str,
 ) -> Result<Vec<Program<Global>>, Failure>
-    ensures { IfOk result (λ programs. AreSpelled programs.items) }
+    ensures spelled { IfOk result (λ programs. AreSpelled programs.items) }
+    ensures other { IfErr result (λ why. IsNoRun why → ⊥) }
 {
     let text = text_of(rt, name)?;
     match parse(rt.alloc(), text.as_str()) {

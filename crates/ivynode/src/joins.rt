@@ -1,16 +1,16 @@
 //! The joining of logs.
-ghost use Rattle.std.specs.Prelude.{◌++◌, map, IfErr, IfOk, OnOk};
+ghost use Rattle.std.specs.Prelude.{◌≡◌, ◌<◌, ◌++◌, length, map, slice_get, IfErr, IfOk, IfSome, OnOk};
 ghost use Rattle.std.specs.List.{All};
 ghost use Rattle.std.specs.Io.KnownBytes.{Appends};
 ghost use Rattle.ivy_simulation.specs.Nodes.{outputs_text};
 ghost use Rattle.ivy_join.specs.Calls.{HaveNoCalls};
-ghost use Rattle.ivynode.specs.Joined.{AreOfNoRun, IsNoRun, IsSpelled, PrintsJoined, PrintsRun, outputs_in, ends_in};
-ghost use Rattle.ivynode.specs.OwnJoined.{PrintsOwnJoined, all_answered_in, answered_line};
+ghost use Rattle.ivynode.specs.Joined.{AreOfNoRun, AreRefused, IsNoRun, IsSpelled, PrintsJoined, PrintsRun, outputs_in, ends_in};
+ghost use Rattle.ivynode.specs.OwnJoined.{PrintsOwnJoined, all_answered_in, all_open_in, answered_line, is_whole, open_line};
 
 use crate::failure::Failure;
 use crate::files::{fault_in, programs_of, text_of};
 use ivy_join::{Joined, Unjoined, join, join_own};
-use ivy_logs::{Log, LogKind, parse_log};
+use ivy_logs::{Log, LogKind, count_answers, parse_log};
 use ivy_program::Program;
 use ivy_simulation::{Outputs, print_outputs};
 use ivy_texts::{Decimal, print_end};
@@ -20,7 +20,8 @@ use std::rt::Files;
 
 /// The log of this kind of this text, which is that of a file.
 fn log_of(alloc: Global, kind: LogKind, name: &str, text: &str) -> Result<Log<Global>, Failure>
-    ensures { IfOk result (λ log. IsSpelled kind log.head log.entries.items) }
+    ensures spelled { IfOk result (λ log. IsSpelled kind log.head log.entries.items) }
+    ensures other { IfErr result (λ why. IsNoRun why → ⊥) }
 {
     match parse_log(alloc, kind, text) {
         Ok(log) => Ok(log),
@@ -34,7 +35,8 @@ fn logs_of<R: Files + AllocGlobal>(
     kind: LogKind,
     names: &[&str],
 ) -> Result<Vec<Log<Global>>, Failure>
-    ensures { IfOk result (λ logs. All (λ l. IsSpelled kind l.head l.entries.items) logs.items) }
+    ensures spelled { IfOk result (λ logs. All (λ l. IsSpelled kind l.head l.entries.items) logs.items) }
+    ensures other { IfErr result (λ why. IsNoRun why → ⊥) }
 {
     let mut logs = Vec::new(rt.alloc());
     for name in names {
@@ -104,14 +106,16 @@ fn join_logs<W: Write>(
     Ok(())
 }
 
-/// Joins the logs of these files, and prints what the programs printed.
+/// Joins the logs of these files, and prints what the programs printed. The failure says that they are not the parts of a
+/// run only where they are the parts of none.
 pub(crate) fn join_files<R: Files + AllocGlobal, W: Write>(
     rt: &R,
     file: &str,
     names: &[&str],
     out: &mut W,
 ) -> Result<(), Failure>
-    ensures { OnOk result (PrintsJoined (W.contents out.old) (W.contents out.new)) }
+    ensures joined { OnOk result (PrintsJoined (W.contents out.old) (W.contents out.new)) }
+    ensures refused { IfErr result (λ why. IsNoRun why → AreRefused) }
 {
     let programs = programs_of(rt, file)?;
     let logs = logs_of(rt, LogKind::OfProgram, names)?;
@@ -136,7 +140,51 @@ fn print_answered<W: Write>(joined: &Joined<Global>, out: &mut W) -> io::Result<
     Ok(())
 }
 
-/// Joins the logs of own code of these files, and prints how many calls of each node were answered.
+/// Whether a node has no call in progress, and its log all that it was answered.
+fn has_all(joined: &Joined<Global>, node: u64, log: &Log<Global>) -> bool
+    requires { node < length joined.now }
+    ensures { IfSome (slice_get joined.now node) (λ s. result ≡ is_whole log.now.entries.items s) }
+{
+    joined.asked(node).is_none() && joined.history(node).len() as u64 == count_answers(&log.entries)
+}
+
+/// Prints that a node is open, where it is not whole.
+fn print_if_open<W: Write>(node: u64, is_whole: bool, out: &mut W) -> io::Result<()>
+    ensures { OnOk result (Appends (W.contents out.old) (W.contents out.new) (open_line node is_whole)) }
+{
+    if is_whole {
+        return Ok(());
+    }
+    print_end(node, false, out)
+}
+
+/// Prints a line for each node that has a call in progress, or whose log lacks what it was answered last.
+fn print_open<W: Write>(
+    joined: &Joined<Global>,
+    logs: &[Log<Global>],
+    out: &mut W,
+) -> io::Result<()>
+    requires { length logs.now ≡ length joined.now }
+    ensures { OnOk result (Appends (W.contents out.old) (W.contents out.new) (all_open_in (map (λ l. l.entries.items) logs.now) joined.now)) }
+{
+    for node in 0..joined.nodes() {
+        let is_whole = has_all(joined, node, &logs[node as usize]);
+        print_if_open(node, is_whole, out)?;
+    }
+    Ok(())
+}
+
+/// Prints what is said of logs of own code that were joined.
+fn print_own<W: Write>(joined: &Joined<Global>, logs: &[Log<Global>], out: &mut W) -> io::Result<()>
+    requires { length logs.now ≡ length joined.now }
+    ensures { OnOk result (Appends (W.contents out.old) (W.contents out.new) (all_answered_in joined.now ++ all_open_in (map (λ l. l.entries.items) logs.now) joined.now)) }
+{
+    print_answered(joined, out)?;
+    print_open(joined, logs, out)
+}
+
+/// Joins the logs of own code of these files, and prints how many calls of each node were answered, and which nodes have
+/// a call in progress, or lack in their log what they were answered last.
 pub(crate) fn join_own_files<R: Files + AllocGlobal, W: Write>(
     rt: &R,
     names: &[&str],
@@ -149,6 +197,6 @@ pub(crate) fn join_own_files<R: Files + AllocGlobal, W: Write>(
         return Err(Failure::Unjoined(Unjoined::Missing(0)));
     };
     let joined = join_own(rt.alloc(), first.head.config, &logs)?;
-    print_answered(&joined, out)?;
+    print_own(&joined, &logs, out)?;
     Ok(())
 }

@@ -2,7 +2,7 @@
 #![tactic(auto)]
 
 ghost use Rattle.std.specs.Prelude.{◌≡◌, IsOk, MatchResult, map, string_bytes};
-ghost use Rattle.ivynode.specs.Joined.{IsNoRun, PrintsJoined};
+ghost use Rattle.ivynode.specs.Joined.{AreRefused, IsNoRun, PrintsJoined};
 ghost use Rattle.ivynode.specs.OwnJoined.{PrintsOwnJoined};
 ghost use Rattle.ivynode.specs.Requests.{AsksToJoin, AsksToJoinOwn, IsJoin, IsJoinOwn};
 
@@ -70,7 +70,7 @@ where
     R: Files<File = File> + Clock + AllocGlobal + Threads + Wait + Copy + Send + 'static,
     O: Write,
     E: Write,
-    ensures joins { IsJoin request.entry → MatchResult result (λ status. PrintsJoined (O.contents out.old) (O.contents out.new)) (λ _. Unit {0}) }
+    ensures joins { IsJoin request.entry → MatchResult result (λ status. (status ≡ 0) × PrintsJoined (O.contents out.old) (O.contents out.new)) (λ why. IsNoRun why → AreRefused) }
     ensures own { IsJoinOwn request.entry → MatchResult result (λ status. PrintsOwnJoined (O.contents out.old) (O.contents out.new)) (λ _. Unit {0}) }
 {
     match request {
@@ -94,7 +94,7 @@ where
     R: Files<File = File> + Clock + AllocGlobal + Threads + Wait + Copy + Send + 'static,
     O: Write,
     E: Write,
-    ensures joins { AsksToJoin (map (λ w. string_bytes w) words.now) → MatchResult result (λ status. PrintsJoined (O.contents out.old) (O.contents out.new)) (λ _. Unit {0}) }
+    ensures joins { AsksToJoin (map (λ w. string_bytes w) words.now) → MatchResult result (λ status. (status ≡ 0) × PrintsJoined (O.contents out.old) (O.contents out.new)) (λ why. IsNoRun why → AreRefused) }
     ensures own { AsksToJoinOwn (map (λ w. string_bytes w) words.now) → MatchResult result (λ status. PrintsOwnJoined (O.contents out.old) (O.contents out.new)) (λ _. Unit {0}) }
 {
     let request = read(rt.alloc(), words)?;
@@ -105,6 +105,7 @@ where
 /// of a failure.
 fn concluded<E: Write>(done: Result<u8, Failure>, flushed: io::Result<()>, err: &mut E) -> u8
     ensures zero { result ≡ 0 → IsOk done }
+    ensures all { result ≡ 0 → IsOk flushed }
     ensures three { result ≡ 3 → MatchResult done (λ status. status ≡ 3) IsNoRun }
 {
     match (done, flushed) {
@@ -118,13 +119,15 @@ fn concluded<E: Write>(done: Result<u8, Failure>, flushed: io::Result<()>, err: 
 ///
 /// Where that is 0 and the command was to join logs, they are the parts of one run of the programs, and what is printed
 /// is what the programs printed in it, and which of them have ended there; of logs of own code, how many calls of each node
-/// were answered in it.
+/// were answered in it, and which nodes have a call in progress there, or lack an answer in their log. Where that is 3 and
+/// the command was to join logs of programs, they are the parts of no run of them.
 fn perform<R, O, E>(rt: R, words: &[String], stdin: Stdin, out: &mut O, err: &mut E) -> u8
 where
     R: Files<File = File> + Clock + AllocGlobal + Threads + Wait + Copy + Send + 'static,
     O: Write,
     E: Write,
     ensures joins { AsksToJoin (map (λ w. string_bytes w) words.now) → result ≡ 0 → PrintsJoined (O.contents out.old) (O.contents out.new) }
+    ensures refused { AsksToJoin (map (λ w. string_bytes w) words.now) → result ≡ 3 → AreRefused }
     ensures own { AsksToJoinOwn (map (λ w. string_bytes w) words.now) → result ≡ 0 → PrintsOwnJoined (O.contents out.old) (O.contents out.new) }
 {
     let done = obey(rt, words, stdin, out, err);

@@ -2,7 +2,7 @@
 ghost use Rattle.std.specs.Prelude.{IfOk, map, string_bytes};
 ghost use Rattle.ivynode.specs.Requests.{AsksToJoin, AsksToJoinOwn, IsJoin, IsJoinOwn};
 
-use crate::failure::Failure;
+use crate::failure::Misuse;
 use crate::words::Words;
 use ivy_model::Kind;
 use ivy_process::{Harm, NodeLimits};
@@ -53,15 +53,15 @@ const ROUTER_VALUES: [&str; 4] = ["--lose", "--repeat", "--reorder", "--seed"];
 /// The most that a number can be which has no limit of its own.
 const MOST: u64 = u64::MAX;
 
-fn manager_of(word: Option<&str>) -> Result<Kind, Failure> {
+fn manager_of(word: Option<&str>) -> Result<Kind, Misuse> {
     match word {
         None | Some("dynamic") => Ok(Kind::Dynamic),
         Some("fixed") => Ok(Kind::Fixed),
-        Some(_) => Err(Failure::BadCommandLine("no such manager")),
+        Some(_) => Err(Misuse::Words("no such manager")),
     }
 }
 
-fn settings_of(words: &Words<'_>) -> Result<Settings, Failure> {
+fn settings_of(words: &Words<'_>) -> Result<Settings, Misuse> {
     Ok(Settings {
         pages: words.number("--pages", 16, 0, MOST)?,
         page_size: words.number("--page-size", 256, 0, MOST)?,
@@ -69,7 +69,7 @@ fn settings_of(words: &Words<'_>) -> Result<Settings, Failure> {
     })
 }
 
-fn limits_of(words: &Words<'_>) -> Result<NodeLimits, Failure> {
+fn limits_of(words: &Words<'_>) -> Result<NodeLimits, Misuse> {
     Ok(NodeLimits {
         pulse_millis: words.number("--pulse-ms", 20, 1, 60_000)?,
         turns: words.number("--turns", 100_000_000, 1, MOST)?,
@@ -78,12 +78,12 @@ fn limits_of(words: &Words<'_>) -> Result<NodeLimits, Failure> {
 }
 
 /// The node that words ask for. They are borrowed, since each way out would end them if they were owned.
-fn asked_of<'a>(words: &Words<'a>) -> Result<Asked<'a>, Failure> {
+fn asked_of<'a>(words: &Words<'a>) -> Result<Asked<'a>, Misuse> {
     let [file, node] = *words.plain.as_slice() else {
-        return Err(Failure::BadCommandLine("run takes a file and a node"));
+        return Err(Misuse::Words("run takes a file and a node"));
     };
     let Some(node) = parse_number(node) else {
-        return Err(Failure::BadCommandLine("the node is no number"));
+        return Err(Misuse::Words("the node is no number"));
     };
     Ok(Asked {
         file,
@@ -95,17 +95,17 @@ fn asked_of<'a>(words: &Words<'a>) -> Result<Asked<'a>, Failure> {
     })
 }
 
-fn run<'a>(alloc: Global, words: &'a [String]) -> Result<Request<'a>, Failure> {
+fn run<'a>(alloc: Global, words: &'a [String]) -> Result<Request<'a>, Misuse> {
     let words = Words::new(alloc, words, &RUN_VALUES, &["--sync"])?;
     Ok(Request::Run(asked_of(&words)?))
 }
 
-fn join<'a>(alloc: Global, words: &'a [String]) -> Result<Request<'a>, Failure>
+fn join<'a>(alloc: Global, words: &'a [String]) -> Result<Request<'a>, Misuse>
     ensures { IfOk result IsJoin }
 {
     let words = Words::new(alloc, words, &[], &[])?;
     let Some((file, logs)) = words.plain.split_first() else {
-        return Err(Failure::BadCommandLine("join takes a file and logs"));
+        return Err(Misuse::Words("join takes a file and logs"));
     };
     Ok(Request::Join {
         file: *file,
@@ -113,14 +113,14 @@ fn join<'a>(alloc: Global, words: &'a [String]) -> Result<Request<'a>, Failure>
     })
 }
 
-fn join_own<'a>(alloc: Global, words: &'a [String]) -> Result<Request<'a>, Failure>
+fn join_own<'a>(alloc: Global, words: &'a [String]) -> Result<Request<'a>, Misuse>
     ensures { IfOk result IsJoinOwn }
 {
     let words = Words::new(alloc, words, &[], &[])?;
     Ok(Request::JoinOwn { logs: words.plain })
 }
 
-fn harm_of(words: &Words<'_>) -> Result<Harm, Failure> {
+fn harm_of(words: &Words<'_>) -> Result<Harm, Misuse> {
     Ok(Harm {
         lose: words.number("--lose", 0, 0, 100)?,
         repeat: words.number("--repeat", 0, 0, 100)?,
@@ -128,10 +128,10 @@ fn harm_of(words: &Words<'_>) -> Result<Harm, Failure> {
     })
 }
 
-fn router<'a>(alloc: Global, words: &'a [String]) -> Result<Request<'a>, Failure> {
+fn router<'a>(alloc: Global, words: &'a [String]) -> Result<Request<'a>, Misuse> {
     let words = Words::new(alloc, words, &ROUTER_VALUES, &[])?;
     if !words.plain.is_empty() {
-        return Err(Failure::BadCommandLine("router takes no file"));
+        return Err(Misuse::Words("router takes no file"));
     }
     Ok(Request::Router {
         harm: harm_of(&words)?,
@@ -140,12 +140,12 @@ fn router<'a>(alloc: Global, words: &'a [String]) -> Result<Request<'a>, Failure
 }
 
 /// What the words ask for. The first is the program's name.
-pub(crate) fn read<'a>(alloc: Global, words: &'a [String]) -> Result<Request<'a>, Failure>
+pub(crate) fn read<'a>(alloc: Global, words: &'a [String]) -> Result<Request<'a>, Misuse>
     ensures joins { AsksToJoin (map (λ w. string_bytes w) words.now) → IfOk result IsJoin }
     ensures own { AsksToJoinOwn (map (λ w. string_bytes w) words.now) → IfOk result IsJoinOwn }
 {
     let Some(command) = words.get(1) else {
-        return Err(Failure::BadCommandLine("a command is missing"));
+        return Err(Misuse::Words("a command is missing"));
     };
     let rest = &words[2..];
     match command.as_str() {
@@ -155,6 +155,6 @@ pub(crate) fn read<'a>(alloc: Global, words: &'a [String]) -> Result<Request<'a>
         "router" => router(alloc, rest),
         "--help" | "-h" | "help" => Ok(Request::Help(Help::Usage)),
         "--version" | "-V" => Ok(Request::Help(Help::Version)),
-        _ => Err(Failure::BadCommandLine("no such command")),
+        _ => Err(Misuse::Words("no such command")),
     }
 }

@@ -1,6 +1,6 @@
 //! The words of a command line: options, and the others in order.
 
-use crate::failure::Failure;
+use crate::failure::Misuse;
 use ivy_program::parse_number;
 use std::alloc::Global;
 
@@ -29,7 +29,7 @@ impl<'a> Words<'a> {
         words: &'a [String],
         with_value: &[&str],
         alone: &[&str],
-    ) -> Result<Words<'a>, Failure> {
+    ) -> Result<Words<'a>, Misuse> {
         let mut plain = Vec::new(alloc);
         let mut options = Vec::new(alloc);
         let mut name = "";
@@ -43,24 +43,24 @@ impl<'a> Words<'a> {
             } else if is_one_of(word, &*alone) {
                 options.push((word, ""))?;
             } else if word.starts_with("--") {
-                return Err(Failure::BadCommandLine("no such option"));
+                return Err(Misuse::Words("no such option"));
             } else {
                 plain.push(word)?;
             }
         }
         if !name.is_empty() {
-            return Err(Failure::BadCommandLine("an option lacks its value"));
+            return Err(Misuse::Words("an option lacks its value"));
         }
         Ok(Words { plain, options })
     }
 
     /// The value of an option, where it is there once.
-    pub(crate) fn value(&self, name: &str) -> Result<Option<&'a str>, Failure> {
+    pub(crate) fn value(&self, name: &str) -> Result<Option<&'a str>, Misuse> {
         let mut found = None;
         for (other, value) in &self.options {
             if *other == name {
                 if found.is_some() {
-                    return Err(Failure::BadCommandLine("an option stands twice"));
+                    return Err(Misuse::Words("an option stands twice"));
                 }
                 found = Some(*value);
             }
@@ -75,13 +75,13 @@ impl<'a> Words<'a> {
         missing: u64,
         least: u64,
         most: u64,
-    ) -> Result<u64, Failure> {
+    ) -> Result<u64, Misuse> {
         let Some(value) = self.value(name)? else {
             return Ok(missing);
         };
         match parse_number(value) {
             Some(number) if least <= number && number <= most => Ok(number),
-            _ => Err(Failure::BadCommandLine("an option's number does not suit")),
+            _ => Err(Misuse::Words("an option's number does not suit")),
         }
     }
 }

@@ -13,7 +13,13 @@ use Rattle.ivy_model.specs.declared.Row.TheVariants.{Loads, Stores}
 use Rattle.ivy_model.specs.stated.Config.{IsConfig}
 use Rattle.ivy_model.specs.Rows.{calls_of, numbers_in, row}
 use Rattle.ivy_program.specs.stated.Programs.{Program, Called}
+use Rattle.ivy_host.specs.stated.Hosts.{Host, host_rules, answered_by}
+use Rattle.ivy_host.specs.stated.Managers.{Managed, managed_ops}
+use Rattle.ivy_host.specs.stated.Openings.{opening}
+use Rattle.ivy_moves.specs.stated.Explained.{IsUntorn}
 use Rattle.ivy_moves.specs.stated.Nodes.{pulsing}
+use Rattle.ivy_moves.specs.stated.Worlds.{World}
+use Rattle.ivy_moves.proofs.Moments.{explained_whole, untorn_at}
 use Rattle.ivy_moves.specs.declared.Move.{Move}
 use Rattle.ivy_moves.specs.declared.Move.TheVariants as move
 use Rattle.ivy_moves.specs.declared.keep.Keep.TheVariants.{History}
@@ -28,14 +34,15 @@ use Rattle.ivy_embedded.specs.Nodes.{Embedded, first_embedded, strings_of, waiti
 use Rattle.ivy_embedded.specs.Exports.{AfterBegin, AfterCall, ChangesWaiting, Takes}
 use Rattle.ivy_embedded.specs.declared.status.TheConstants.{DONE, SHORT_BUFFER, NO_FRAME}
 use Rattle.proof_worlds.specs.stated.Keeping.{Keeps}
-use Rattle.ivy_world.specs.WorldSites.{programs_of, world_of, run_of, IsRunning, first_sites_from, AfterMove}
+use Rattle.ivy_world.specs.WorldSites.{programs_of, world_of, run_of, first_sites_from, AfterMove}
 use Rattle.ivy_world.proofs.GoingOn.{went_there, delivery_went}
 use Rattle.ivy_world.proofs.Making.{turn_went, pulse_went}
-use Rattle.ivy_world.proofs.HandedWorlds.{handed_running}
-use Rattle.ivy_world.proofs.Worlds.{first_running-of, running_each, runs_on}
-use Rattle.proof_worlds.proofs.headline.Headline.{keeps-reached}
-use Rattle.proof_embedded.specs.Driven.{Request, Begin, Reply, LoadBlock, StoreBlock, BeginLoadBlock, BeginStoreBlock, TakeLoadBlock, TakeStoreBlock, Deliver, NextFrame, Pulse, Driven, TakesOut, Does, Asks, DrivesTo, first_from, opened, node_in, program_in, AreOfOneRun, DrivenNodesAreOfOneRun}
+use Rattle.ivy_world.proofs.Worlds.{first_running-of, running_each}
+use Rattle.proof_worlds.proofs.consistency.Untorn.{serve-keeps}
+use Rattle.proof_worlds.proofs.headline.Headline.{keeps-reached, explained-along}
+use Rattle.proof_embedded.specs.Driven.{Request, Begin, Reply, LoadBlock, StoreBlock, BeginLoadBlock, BeginStoreBlock, TakeLoadBlock, TakeStoreBlock, Deliver, NextFrame, Pulse, Driven, TakesOut, Does, Asks, DrivesTo, first_from, opened, moments, node_in, program_in, AreOfOneRun, DrivenNodesAreOfOneRun}
 use Rattle.proof_embedded.proofs.Emptied.{with_strings, turn_carries, delivery_carries, pulse_carries}
+use Rattle.proof_embedded.proofs.Points.{RunsWith, running_of, runs_first, runs_with, handed_with, reaches_now}
 
 -- the node as a site whose strings are on the wire
 abbrev seen : Embedded → SiteView
@@ -43,36 +50,37 @@ seen e = with_strings [] e.site
 
 -- the nodes are those of a world that runs, and whatever was taken out of them or waits there was
 -- sent
-record AreDriven (c : Config) (nodes : List Embedded) (strings : List (List ℕ)) : Type 0 where
+record AreDriven (c : Config) (past : List Driven) (nodes : List Embedded)
+    (strings : List (List ℕ)) : Type 0 where
   sent : List (List ℕ)
-  running : IsRunning c (map seen nodes) sent
+  running : RunsWith c past (map seen nodes) sent
   taken : (bytes : List ℕ) → Contains strings bytes → Contains sent bytes
   waits : (i : ℕ) (e : Embedded) → slice_get nodes i ≡ Some e → (bytes : List ℕ)
       → Contains (waiting_in e) bytes → Contains sent bytes
 
 -- one site of a world goes on
 
-module _ (c : Config) (sites : List SiteView) (sent : List (List ℕ)) (i : ℕ) (old : SiteView)
-    (there : slice_get sites i ≡ Some (with_strings [] old)) (h : IsRunning c sites sent) where
+module _ (c : Config) (past : List Driven) (sites : List SiteView) (sent : List (List ℕ)) (i : ℕ) (old : SiteView)
+    (there : slice_get sites i ≡ Some (with_strings [] old)) (h : RunsWith c past sites sent) where
   -- the site went on: it has these strings more, and the world runs on
   record Further (new : SiteView) : Type 0 where
     more : List (List ℕ)
     waiting : new.waiting ≡ old.waiting ++ more
-    running : IsRunning c (set sites i (with_strings [] new)) (sent ++ more)
+    running : RunsWith c past (set sites i (with_strings [] new)) (sent ++ more)
 
   here : (new : SiteView) (more : List (List ℕ)) (step : Move)
       → AfterMove c sites (set sites i (with_strings [] new)) sent (sent ++ more) step
-      → IsRunning c (set sites i (with_strings [] new)) (sent ++ more)
+      → RunsWith c past (set sites i (with_strings [] new)) (sent ++ more)
   here new more step m =
-      runs_on c sites (set sites i (with_strings [] new)) sent (sent ++ more) step h m.are
+      runs_with c past sites (set sites i (with_strings [] new)) sent (sent ++ more) step h m.are
       (length-set sites i (with_strings [] new) ∙ h.count) m.programs m.made
 
   stayed : (new : SiteView) → new ≡ old → Further new
   stayed new same = record {
     more = [];
     waiting = ap (λ (s : SiteView). s.waiting) same ∙ sym (append-nil old.waiting);
-    running = subst (IsRunning c (set sites i (with_strings [] new))) (sym (append-nil sent))
-        (subst (λ ss. IsRunning c ss sent)
+    running = subst (RunsWith c past (set sites i (with_strings [] new))) (sym (append-nil sent))
+        (subst (λ ss. RunsWith c past ss sent)
         (sym (set_same sites i (with_strings [] old) there)
         ∙ ap (λ s. set sites i (with_strings [] s)) (sym same)) h);
   }
@@ -125,67 +133,67 @@ module _ (c : Config) (sites : List SiteView) (sent : List (List ℕ)) (i : ℕ)
       }
 
 -- the calls are handed in first
-module _ (c : Config) (sites : List SiteView) (sent : List (List ℕ)) (i : ℕ) (old : SiteView)
-    (there : slice_get sites i ≡ Some (with_strings [] old)) (h : IsRunning c sites sent) where
+module _ (c : Config) (past : List Driven) (sites : List SiteView) (sent : List (List ℕ)) (i : ℕ) (old : SiteView)
+    (there : slice_get sites i ≡ Some (with_strings [] old)) (h : RunsWith c past sites sent) where
   handed : (calls : List Call) (new : SiteView)
       → (new ≡ site_handed (calls ∷ []) old) ⊎ SiteTurns (site_handed (calls ∷ []) old) new
-      → Further c sites sent i old there h new
+      → Further c past sites sent i old there h new
   handed calls new w =
       let mid : SiteView = site_handed (calls ∷ []) old in
       let after : List SiteView = set sites i (with_strings [] mid) in
       let at : slice_get after i ≡ Some (with_strings [] mid) =
       set-there sites i (with_strings [] mid) (with_strings [] old) there in
-      let f = turned_once c after sent i mid at
-      (handed_running c sites sent i (with_strings [] old) there (calls ∷ []) h) new w in record {
+      let f = turned_once c past after sent i mid at
+      (handed_with c past sites sent i (with_strings [] old) there (calls ∷ []) h) new w in record {
         more = f.more;
         waiting = f.waiting;
-        running = subst (λ ss. IsRunning c ss (sent ++ f.more))
+        running = subst (λ ss. RunsWith c past ss (sent ++ f.more))
             (set-set sites i (with_strings [] mid) (with_strings [] new)) f.running;
       }
 
   -- together, with a turn in which the first begins, or there are none
   together : (calls : List Call) (new : SiteView) → BeginsRow calls old new
-      → Further c sites sent i old there h new
-  together [] new same = stayed c sites sent i old there h new same
+      → Further c past sites sent i old there h new
+  together [] new same = stayed c past sites sent i old there h new same
   together (call ∷ calls) new b = handed (call ∷ calls) new (inr b.turns)
 
 -- one step of the site, and then others
-followed : (c : Config) (sites : List SiteView) (sent : List (List ℕ)) (i : ℕ) (old mid new : SiteView)
-    (there : slice_get sites i ≡ Some (with_strings [] old)) (h : IsRunning c sites sent)
-    (first : Further c sites sent i old there h mid)
-    → Further c (set sites i (with_strings [] mid)) (sent ++ first.more) i mid
+followed : (c : Config) (past : List Driven) (sites : List SiteView) (sent : List (List ℕ)) (i : ℕ) (old mid new : SiteView)
+    (there : slice_get sites i ≡ Some (with_strings [] old)) (h : RunsWith c past sites sent)
+    (first : Further c past sites sent i old there h mid)
+    → Further c past (set sites i (with_strings [] mid)) (sent ++ first.more) i mid
     (set-there sites i (with_strings [] mid) (with_strings [] old) there) first.running new
-    → Further c sites sent i old there h new
-followed c sites sent i old mid new there h first rest = record {
+    → Further c past sites sent i old there h new
+followed c past sites sent i old mid new there h first rest = record {
   more = first.more ++ rest.more;
   waiting = rest.waiting ∙ (ap (λ l. l ++ rest.more) first.waiting
       ∙ append_assoc old.waiting first.more rest.more);
-  running = subst (λ ss. IsRunning c ss (sent ++ (first.more ++ rest.more)))
+  running = subst (λ ss. RunsWith c past ss (sent ++ (first.more ++ rest.more)))
       (set-set sites i (with_strings [] mid) (with_strings [] new))
-      (subst (IsRunning c (set (set sites i (with_strings [] mid)) i (with_strings [] new)))
+      (subst (RunsWith c past (set (set sites i (with_strings [] mid)) i (with_strings [] new)))
       (append_assoc sent first.more rest.more) rest.running);
 }
 
 -- calls of a row are handed in one after another
-answered : (c : Config) (sites : List SiteView) (sent : List (List ℕ)) (i : ℕ) (rs : List Record)
+answered : (c : Config) (past : List Driven) (sites : List SiteView) (sent : List (List ℕ)) (i : ℕ) (rs : List Record)
     (old new : SiteView) (there : slice_get sites i ≡ Some (with_strings [] old))
-    (h : IsRunning c sites sent) → AreAnswered rs old new → Further c sites sent i old there h new
-answered c sites sent i [] old new there h same = stayed c sites sent i old there h new same
-answered c sites sent i (r ∷ rs) old new there h a =
-    let first = handed c sites sent i old there h (r.call ∷ []) a.0 (inr a.1.turns) in
-    followed c sites sent i old a.0 new there h first
-    (answered c (set sites i (with_strings [] a.0)) (sent ++ first.more) i rs a.0 new
+    (h : RunsWith c past sites sent) → AreAnswered rs old new → Further c past sites sent i old there h new
+answered c past sites sent i [] old new there h same = stayed c past sites sent i old there h new same
+answered c past sites sent i (r ∷ rs) old new there h a =
+    let first = handed c past sites sent i old there h (r.call ∷ []) a.0 (inr a.1.turns) in
+    followed c past sites sent i old a.0 new there h first
+    (answered c past (set sites i (with_strings [] a.0)) (sent ++ first.more) i rs a.0 new
     (set-there sites i (with_strings [] a.0) (with_strings [] old) there) first.running a.2)
 
 -- and their replies are taken so, each in a turn
-replied : (c : Config) (sites : List SiteView) (sent : List (List ℕ)) (i : ℕ) (rs : List Record)
+replied : (c : Config) (past : List Driven) (sites : List SiteView) (sent : List (List ℕ)) (i : ℕ) (rs : List Record)
     (old new : SiteView) (there : slice_get sites i ≡ Some (with_strings [] old))
-    (h : IsRunning c sites sent) → AreTaken rs old new → Further c sites sent i old there h new
-replied c sites sent i [] old new there h same = stayed c sites sent i old there h new same
-replied c sites sent i (r ∷ rs) old new there h a =
-    let first = turned c sites sent i old there h a.0 a.1.turns in
-    followed c sites sent i old a.0 new there h first
-    (replied c (set sites i (with_strings [] a.0)) (sent ++ first.more) i rs a.0 new
+    (h : RunsWith c past sites sent) → AreTaken rs old new → Further c past sites sent i old there h new
+replied c past sites sent i [] old new there h same = stayed c past sites sent i old there h new same
+replied c past sites sent i (r ∷ rs) old new there h a =
+    let first = turned c past sites sent i old there h a.0 a.1.turns in
+    followed c past sites sent i old a.0 new there h first
+    (replied c past (set sites i (with_strings [] a.0)) (sent ++ first.more) i rs a.0 new
     (set-there sites i (with_strings [] a.0) (with_strings [] old) there) first.running a.2)
 
 -- what waits at a node with more strings
@@ -209,13 +217,13 @@ done_none status done none = omega (arith, done, none)
 
 -- one of the nodes goes on
 
-module _ (c : Config) (nodes : List Embedded) (strings : List (List ℕ)) (i : ℕ) (s : Embedded)
-    (there : slice_get nodes i ≡ Some s) (d : AreDriven c nodes strings) where
+module _ (c : Config) (past : List Driven) (nodes : List Embedded) (strings : List (List ℕ)) (i : ℕ) (s : Embedded)
+    (there : slice_get nodes i ≡ Some s) (d : AreDriven c past nodes strings) where
   seen_there : slice_get (map seen nodes) i ≡ Some (seen s)
   seen_there = slice_get-map seen nodes i ∙ ap (option_map seen) there
 
   abbrev Goes : SiteView → Type 0
-  Goes new = Further c (map seen nodes) d.sent i s.site seen_there d.running new
+  Goes new = Further c past (map seen nodes) d.sent i s.site seen_there d.running new
 
   -- what waits at the nodes was sent, where it was at the one before or is among what was sent
   -- since
@@ -228,7 +236,7 @@ module _ (c : Config) (nodes : List Embedded) (strings : List (List ℕ)) (i : �
       ⊎_elim (λ p. own bytes (subst (λ (x : Embedded). Contains (waiting_in x) bytes) p.1 has))
       (λ q. before bytes (d.waits j e q bytes has)) (set-cases nodes i j t e at)
 
-  further : (t : Embedded) → t.first ≡ s.first → Goes t.site → AreDriven c (set nodes i t) strings
+  further : (t : Embedded) → t.first ≡ s.first → Goes t.site → AreDriven c past (set nodes i t) strings
   further t first f =
       let more = waits_more s t f.more first f.waiting in
       let before : (bytes : List ℕ) → Contains d.sent bytes → Contains (d.sent ++ f.more) bytes =
@@ -239,51 +247,51 @@ module _ (c : Config) (nodes : List Embedded) (strings : List (List ℕ)) (i : �
       (Contains-append_cases (waiting_in s) f.more bytes
       (subst (λ l. Contains l bytes) more has)) in record {
         sent = d.sent ++ f.more;
-        running = subst (λ ss. IsRunning c ss (d.sent ++ f.more)) (sym (map-set seen nodes i t))
+        running = subst (λ ss. RunsWith c past ss (d.sent ++ f.more)) (sym (map-set seen nodes i t))
             f.running;
         taken = λ bytes has. before bytes (d.taken bytes has);
         waits = waits_on t (d.sent ++ f.more) before own;
       }
 
-  unchanged : (t : Embedded) → t ≡ s → AreDriven c (set nodes i t) strings
+  unchanged : (t : Embedded) → t ≡ s → AreDriven c past (set nodes i t) strings
   unchanged t same =
-      subst (λ ns. AreDriven c ns strings)
+      subst (λ ns. AreDriven c past ns strings)
       (sym (set_same nodes i s there) ∙ ap (set nodes i) (sym same)) d
 
   -- by what a turn that has a call comes to
   begun : (call : Call) (progress : Option reply.Reply) (t : Embedded)
       → AfterBegin call progress s.site t.site → Goes t.site
   begun call None t a =
-      handed c (map seen nodes) d.sent i s.site seen_there d.running (call ∷ []) t.site
+      handed c past (map seen nodes) d.sent i s.site seen_there d.running (call ∷ []) t.site
       (⊎_elim inl (λ w. inr w.0) a)
   begun call (Some r) t a =
-      handed c (map seen nodes) d.sent i s.site seen_there d.running (call ∷ []) t.site
+      handed c past (map seen nodes) d.sent i s.site seen_there d.running (call ∷ []) t.site
       (inr a.turns)
 
   polled : (progress : Option reply.Reply) (t : Embedded) → AfterCall progress s.site t.site
       → Goes t.site
   polled None t a =
-      turned_once c (map seen nodes) d.sent i s.site seen_there d.running t.site
-      (⊎_elim inl (λ w. inr w.0) a)
+      turned_once c past (map seen nodes) d.sent i s.site seen_there d.running t.site
+      (⊎_elim (λ idle. inl idle.1) (λ w. inr w.0) a)
   polled (Some r) t a =
-      turned c (map seen nodes) d.sent i s.site seen_there d.running t.site a.2.turns
+      turned c past (map seen nodes) d.sent i s.site seen_there d.running t.site a.2.turns
 
   carried : (kind : Row) (addr words : ℕ) (bytes : List ℕ) (t : Embedded)
       → AreAnswered (row kind s.site.me addr (numbers_in words bytes)) s.site t.site → Goes t.site
   carried kind addr words bytes t a =
-      answered c (map seen nodes) d.sent i (row kind s.site.me addr (numbers_in words bytes)) s.site
+      answered c past (map seen nodes) d.sent i (row kind s.site.me addr (numbers_in words bytes)) s.site
       t.site seen_there d.running a
 
   begun_row : (kind : Row) (addr words : ℕ) (bytes : List ℕ) (t : Embedded)
       → BeginsRow (calls_of (row kind 0 addr (numbers_in words bytes))) s.site t.site → Goes t.site
   begun_row kind addr words bytes t b =
-      together c (map seen nodes) d.sent i s.site seen_there d.running
+      together c past (map seen nodes) d.sent i s.site seen_there d.running
       (calls_of (row kind 0 addr (numbers_in words bytes))) t.site b
 
   taken_row : (kind : Row) (addr words : ℕ) (bytes : List ℕ) (t : Embedded)
       → AreTaken (row kind s.site.me addr (numbers_in words bytes)) s.site t.site → Goes t.site
   taken_row kind addr words bytes t a =
-      replied c (map seen nodes) d.sent i (row kind s.site.me addr (numbers_in words bytes)) s.site
+      replied c past (map seen nodes) d.sent i (row kind s.site.me addr (numbers_in words bytes)) s.site
       t.site seen_there d.running a
 
   -- a string was taken out, or none was
@@ -293,10 +301,10 @@ module _ (c : Config) (nodes : List Embedded) (strings : List (List ℕ)) (i : �
   less_waits : (t : Embedded) (more : List (List ℕ)) → ChangesWaiting s t
       → ((bytes : List ℕ) → Contains (waiting_in t) bytes → Contains (waiting_in s) bytes)
       → ((bytes : List ℕ) → Contains more bytes → Contains d.sent bytes)
-      → AreDriven c (set nodes i t) more
+      → AreDriven c past (set nodes i t) more
   less_waits t more same fewer taken = record {
     sent = d.sent;
-    running = subst (λ ss. IsRunning c ss d.sent)
+    running = subst (λ ss. RunsWith c past ss d.sent)
         (sym (map-set seen nodes i t ∙ ap (set (map seen nodes) i) (seen_same t same)
         ∙ set_same (map seen nodes) i (seen s) seen_there)) d.running;
     taken = taken;
@@ -306,7 +314,7 @@ module _ (c : Config) (nodes : List Embedded) (strings : List (List ℕ)) (i : �
   -- the one that stood in the buffer waited there
   gave : (t : Embedded) (string : List ℕ) (more : List (List ℕ)) → ChangesWaiting s t
       → waiting_in s ≡ string ∷ waiting_in t
-      → (more ≡ strings ++ string ∷ []) ⊎ (more ≡ strings) → AreDriven c (set nodes i t) more
+      → (more ≡ strings ++ string ∷ []) ⊎ (more ≡ strings) → AreDriven c past (set nodes i t) more
   gave t string more same gives is =
       let fewer : (bytes : List ℕ) → Contains (waiting_in t) bytes → Contains (waiting_in s) bytes =
       λ bytes has. subst (λ l. Contains l bytes) (sym gives)
@@ -322,14 +330,14 @@ module _ (c : Config) (nodes : List Embedded) (strings : List (List ℕ)) (i : �
       (λ none. d.taken bytes (subst (λ l. Contains l bytes) none has)) is)
 
   kept_strings : (t : Embedded) (more : List (List ℕ)) → ChangesWaiting s t
-      → waiting_in t ≡ waiting_in s → more ≡ strings → AreDriven c (set nodes i t) more
+      → waiting_in t ≡ waiting_in s → more ≡ strings → AreDriven c past (set nodes i t) more
   kept_strings t more same waiting none =
       less_waits t more same (λ bytes has. subst (λ l. Contains l bytes) waiting has)
       (λ bytes has. d.taken bytes (subst (λ l. Contains l bytes) none has))
 
   took : (status len dest : ℕ) (buffer : List ℕ) (t : Embedded) (more : List (List ℕ))
       → Takes status buffer len dest s t → TakesOut status buffer len strings more
-      → AreDriven c (set nodes i t) more
+      → AreDriven c past (set nodes i t) more
   took status len dest buffer t more h out =
       let either : (more ≡ strings ++ take len buffer ∷ []) ⊎ (more ≡ strings) =
       ⊎_elim (λ p. inl p.1) (λ p. inr p.1) out in
@@ -342,7 +350,7 @@ module _ (c : Config) (nodes : List Embedded) (strings : List (List ℕ)) (i : �
 
   -- each request makes moves of its node, or none
   did : (request : Request) (t : Embedded) (more : List (List ℕ)) → Does request strings s t more
-      → AreDriven c (set nodes i t) more
+      → AreDriven c past (set nodes i t) more
   did (Begin kind width place operand expected) t more h =
       rw h.0 (⊎_elim
       (λ does. further t does.4.0 (begun does.0 does.2 t does.4.1))
@@ -371,30 +379,53 @@ module _ (c : Config) (nodes : List Embedded) (strings : List (List ℕ)) (i : �
   did (Deliver bytes) t more h =
       rw h.0 (⊎_elim
       (λ does. further t does.3.0
-      (delivered c (map seen nodes) d.sent i s.site seen_there d.running t.site bytes does.1
+      (delivered c past (map seen nodes) d.sent i s.site seen_there d.running t.site bytes does.1
       (d.taken bytes h.1) does.3.1))
       (λ refused. unchanged t refused.1) h.2.2)
   did NextFrame t more h = took h.0 h.1 h.2 h.3 t more h.4 h.5
   did (Pulse to) t more h =
       rw h.0 (⊎_elim
       (λ does. further t does.3.0
-      (pulsed c (map seen nodes) d.sent i s.site seen_there d.running t.site to does.1 does.2 does.3.1))
+      (pulsed c past (map seen nodes) d.sent i s.site seen_there d.running t.site to does.1 does.2 does.3.1))
       (λ refused. unchanged t refused.1) h.1.1)
 
 -- one request, and one after another
 
-asked : (c : Config) (request : ℕ × Request) (old new : Driven) → Asks request.0 request.1 old new
-    → AreDriven c old.nodes old.strings → AreDriven c new.nodes new.strings
-asked c request old new a d =
-    subst (λ ns. AreDriven c ns new.strings) (sym a.nodes)
-    (did c old.nodes old.strings request.0 a.before a.there d request.1 a.after new.strings a.does)
+asked : (c : Config) (past : List Driven) (request : ℕ × Request) (old new : Driven)
+    → Asks request.0 request.1 old new → AreDriven c past old.nodes old.strings
+    → AreDriven c past new.nodes new.strings
+asked c past request old new a d =
+    subst (λ ns. AreDriven c past ns new.strings) (sym a.nodes)
+    (did c past old.nodes old.strings request.0 a.before a.there d request.1 a.after new.strings a.does)
 
-driven_on : (c : Config) (requests : List (ℕ × Request)) (old end : Driven)
-    → DrivesTo old requests end → AreDriven c old.nodes old.strings
-    → AreDriven c end.nodes end.strings
-driven_on c [] old end same d = subst (λ (x : Driven). AreDriven c x.nodes x.strings) (sym same) d
-driven_on c (request ∷ requests) old end h d =
-    driven_on c requests h.0 end h.2 (asked c request old h.0 h.1 d)
+nodes_seen : (nodes : List Embedded) → map (λ (s : SiteView). s.node) (map seen nodes) ≡ map node_in nodes
+nodes_seen [] = refl
+nodes_seen (e ∷ es) = ap (λ l. e.site.node ∷ l) (nodes_seen es)
+
+-- the nodes as they are now are a point of their past from now on
+now : (c : Config) (past : List Driven) (d : Driven) → AreDriven c past d.nodes d.strings
+    → AreDriven c (d ∷ past) d.nodes d.strings
+now c past d h = record {
+  sent = h.sent;
+  running = record {
+    limits = h.running.limits;
+    count = h.running.count;
+    nodes = h.running.nodes;
+    reached = reaches_now c past (opening managed_ops c (programs_of (map seen d.nodes)))
+        (world_of (map seen d.nodes) h.sent) d (sym (nodes_seen d.nodes)) h.running.reached;
+  };
+  taken = h.taken;
+  waits = h.waits;
+}
+
+driven_on : (c : Config) (past : List Driven) (requests : List (ℕ × Request)) (old end : Driven)
+    → (led : DrivesTo old requests end) → AreDriven c past old.nodes old.strings
+    → AreDriven c (moments past requests old end led) end.nodes end.strings
+driven_on c past [] old end same d =
+    subst (λ (x : Driven). AreDriven c (old ∷ past) x.nodes x.strings) (sym same) (now c past old d)
+driven_on c past (request ∷ requests) old end h d =
+    driven_on c (old ∷ past) requests h.0 end h.2
+    (asked c (old ∷ past) request old h.0 h.1 (now c past old d))
 
 -- the nodes as they begin
 
@@ -421,37 +452,51 @@ none_waits c me (suc left) zero e at =
     ap waiting_in (sym (same_Some (first_embedded c me) e at))
 none_waits c me (suc left) (suc i) e at = none_waits c (me + 1) left i e at
 
-first_driven : (c : Config) → IsConfig c → AreDriven c (first_from c 0 c.nodes) []
+first_driven : (c : Config) → IsConfig c → AreDriven c [] (first_from c 0 c.nodes) []
 first_driven c limits = record {
   sent = [];
-  running = first_running-of c (no_programs c.nodes) (map seen (first_from c 0 c.nodes)) [] limits
-      (so_many c.nodes) (first_seen c 0 c.nodes) refl;
+  running = runs_first c (map seen (first_from c 0 c.nodes)) []
+      (first_running-of c (no_programs c.nodes) (map seen (first_from c 0 c.nodes)) [] limits
+      (so_many c.nodes) (first_seen c 0 c.nodes) refl);
   taken = λ bytes has. has;
   waits = λ i e at bytes has. subst (λ l. Contains l bytes) (none_waits c 0 c.nodes i e at) has;
 }
 
 -- what is promised of a world that runs
 
-nodes_seen : (nodes : List Embedded) → map (λ (s : SiteView). s.node) (map seen nodes) ≡ map node_in nodes
-nodes_seen [] = refl
-nodes_seen (e ∷ es) = ap (λ l. e.site.node ∷ l) (nodes_seen es)
-
 programs_seen : (nodes : List Embedded) → programs_of (map seen nodes) ≡ map program_in nodes
 programs_seen [] = refl
 programs_seen (e ∷ es) = ap (λ l. program_in e ∷ l) (programs_seen es)
 
-of_one_run : (c : Config) (d : Driven) → AreDriven c d.nodes d.strings → AreOfOneRun c d
-of_one_run c d h =
-    let sites = map seen d.nodes in record {
+of_one_run : (c : Config) (past : List Driven) (d : Driven) → AreDriven c past d.nodes d.strings
+    → AreOfOneRun c past d
+of_one_run c past d h =
+    let sites = map seen d.nodes in
+    let runs = running_of c past sites h.sent h.running in
+    let r = h.running.reached in
+    let first : World (Host Managed) = opening managed_ops c (programs_of sites) in
+    let each = running_each c sites h.sent runs in
+    let whole =
+    explained_whole (host_rules managed_ops) c answered_by [] first (world_of sites h.sent) [] r.moves
+    (explained-along c (programs_of sites) h.running.limits each r.moves) r.leads in
+    record {
       world = world_of sites h.sent;
       keeps = subst (λ ps. Keeps (record { config = c; programs = ps; world = world_of sites h.sent }))
           (programs_seen d.nodes)
-          (keeps-reached (run_of c sites h.sent) h.running.limits
-          (running_each c sites h.sent h.running) h.running.reached);
+          (keeps-reached (run_of c sites h.sent) h.running.limits each runs.reached);
       nodes = nodes_seen d.nodes;
       sent = h.taken;
+      order = whole.0;
+      explained = whole.1.now;
+      untorn = λ k m below i e at.
+          (let p = r.points k m below i e at in
+          subst (IsUntorn whole.0 i) p.same
+          (untorn_at (host_rules managed_ops) c answered_by (serve-keeps managed_ops) whole.0 i r.moves
+          first (world_of sites h.sent) r.leads whole.1.each p.node p.there p.before p.after p.parts
+          p.effect p.happen));
     }
 
 pub driven_nodes_are_of_one_run : DrivenNodesAreOfOneRun
 driven_nodes_are_of_one_run c limits requests d led =
-    of_one_run c d (driven_on c requests (opened c) d led (first_driven c limits))
+    of_one_run c (moments [] requests (opened c) d led) d
+    (driven_on c [] requests (opened c) d led (first_driven c limits))

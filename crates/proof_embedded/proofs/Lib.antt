@@ -1,2 +1,3 @@
 pub mod Emptied
+pub mod Points
 pub mod Driving

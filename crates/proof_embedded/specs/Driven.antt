@@ -1,13 +1,15 @@
 -- Nodes that a program drives by the functions of a C header.
-use Rattle.std.specs.Prelude.{◌≡◌, ◌≢◌, ◌⊎◌, ℕ, zero, suc, ◌+◌, List, [], ◌∷◌, ◌++◌, take, map, slice_get, slice_set, Some, Contains}
+use Rattle.std.specs.Prelude.{◌≡◌, ◌≢◌, ◌⊎◌, ℕ, zero, suc, ◌+◌, List, [], ◌∷◌, ◌++◌, take, map, slice_get, slice_set, Some, All, Contains}
 use Rattle.ivy_model.specs.declared.Config.{Config}
+use Rattle.ivy_model.specs.declared.Record.{Record}
 use Rattle.ivy_model.specs.declared.Row.TheVariants.{Loads, Stores}
 use Rattle.ivy_model.specs.stated.Config.{IsConfig}
 use Rattle.ivy_program.specs.stated.Programs.{Program}
+use Rattle.ivy_moves.specs.stated.Explained.{IsUntorn, IsExplainedBy}
 use Rattle.ivy_moves.specs.stated.Nodes.{Node}
 use Rattle.ivy_moves.specs.stated.Worlds.{World}
-use Rattle.ivy_host.specs.stated.Hosts.{Host}
-use Rattle.ivy_host.specs.stated.Managers.{Managed}
+use Rattle.ivy_host.specs.stated.Hosts.{Host, host_rules, answered_by}
+use Rattle.ivy_host.specs.stated.Managers.{Managed, managed_ops}
 use Rattle.ivy_embedded.specs.Nodes.{Embedded, first_embedded}
 use Rattle.ivy_embedded.specs.Exports.{Answers, Begins, BeginsBlock, CarriesOut, Delivers, IsRequest, Polls, Pulses, RefusesCall, RefusesPoll, RefusesPulse, RefusesString, TakesAt, TakesBlock, TellsWant}
 use Rattle.ivy_embedded.specs.declared.status.TheConstants.{DONE}
@@ -105,14 +107,30 @@ node_in e = e.site.node
 abbrev pub program_in : Embedded → Program
 program_in e = e.site.node.core.process.program
 
+-- the nodes as they were before each of the requests, and as they are at the end, the latest first,
+-- where these were before
+abbrev pub moments : List Driven → (requests : List (ℕ × Request)) (d end : Driven)
+    → DrivesTo d requests end → List Driven
+moments past [] d end led = d ∷ past
+moments past (request ∷ requests) d end led = moments (d ∷ past) requests led.0 end led.2
+
+-- the order tears no calls apart that one of these nodes has in progress together
+abbrev pub AreUntorn : List Record → Driven → Type 0
+AreUntorn order d = (i : ℕ) (e : Embedded) → slice_get d.nodes i ≡ Some e
+    → IsUntorn order i (answered_by (node_in e).core)
+
 -- they are the nodes of a world that moves lead to from the opening of programs that make the
--- calls begun, all that is promised of such a world holds of it, and the strings were sent in it
-pub record AreOfOneRun (c : Config) (d : Driven) : Type 0 where
+-- calls begun, all that is promised of such a world holds of it, and the strings were sent in it; an
+-- order explains it, and tears no calls apart that a node had in progress together at such a moment
+pub record AreOfOneRun (c : Config) (past : List Driven) (d : Driven) : Type 0 where
   pub world : World (Host Managed)
   pub keeps : Keeps (record { config = c; programs = map program_in d.nodes; world = world })
   pub nodes : world.nodes ≡ map node_in d.nodes
   pub sent : (bytes : List ℕ) → Contains d.strings bytes → Contains world.sent bytes
+  pub order : List Record
+  pub explained : IsExplainedBy (host_rules managed_ops) c answered_by world order
+  pub untorn : All (AreUntorn order) past
 
 abbrev pub DrivenNodesAreOfOneRun : Type 0
 DrivenNodesAreOfOneRun = (c : Config) → IsConfig c → (requests : List (ℕ × Request)) (d : Driven)
-    → DrivesTo (opened c) requests d → AreOfOneRun c d
+    → (led : DrivesTo (opened c) requests d) → AreOfOneRun c (moments [] requests (opened c) d led) d

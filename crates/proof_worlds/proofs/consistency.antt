@@ -12,4 +12,5 @@ pub mod Faithful
 pub mod FaithfulHeap
 pub mod FaithfulSteps
 pub mod FaithfulOpening
+pub mod Untorn
 pub mod FaithfulWorlds

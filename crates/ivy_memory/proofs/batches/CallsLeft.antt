@@ -16,7 +16,7 @@ length-calls kind addr [] = refl
 length-calls kind addr (number ∷ more) = ap suc (length-calls kind (addr + 8) more)
 
 -- the first of them, and the others
-first_left : (kind : Row) (addr left : ℕ) (bytes : List ℕ) → 1 ≤ left
+pub first_left : (kind : Row) (addr left : ℕ) (bytes : List ℕ) → 1 ≤ left
     → row_calls kind addr left bytes
     ≡ first_call kind addr bytes ∷ row_calls kind (addr + 8) (left - 1) (drop 8 bytes)
 first_left kind addr zero bytes some = absurd (omega (arith, some))
@@ -32,7 +32,7 @@ first_taken kind addr m bytes le =
 
 module _ (kind : Row) (addr left at : ℕ) (bytes : List ℕ) (r : CallsAlong)
     (is : calls_left kind addr left at bytes ≡ r) where
-  all_left : 1 ≤ left
+  pub all_left : 1 ≤ left
       → r.calls
       ≡ first_call kind addr (drop at bytes)
       ∷ row_calls kind (addr + 8) (left - 1) (drop 8 (drop at bytes))

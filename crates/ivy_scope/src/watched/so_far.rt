@@ -1,12 +1,15 @@
 //! The report of a session whose programs need not have ended.
-ghost use Rattle.std.specs.Prelude.{◌≡◌, ◌↔◌, ◌<◌, IsTrue, IfSome, Some, length, map, slice_get};
+ghost use Rattle.std.specs.Prelude.{◌≡◌, ◌↔◌, ◌<◌, IsTrue, IfOk, IfErr, IfSome, Some, length, map, slice_get};
 ghost use Rattle.ivy_moves.specs.Keeping.{keeps_history, keeps_events, read_of};
 ghost use Rattle.ivy_moves.specs.Marks.{marks};
 ghost use Rattle.ivy_program.specs.InstructionSteps.{HasEnded};
+ghost use Rattle.ivy_workers.specs.Stops.{IsStop};
+ghost use Rattle.ivy_scope.specs.Ends.{HaveEnded, IsStandstill};
 ghost use Rattle.ivy_scope.specs.SoFar.{so_far_of, AreDelivered};
 
 use crate::watched::delivered::is_delivered;
-use ivy_model::{Call, Record};
+use crate::watched::resting::{have_ended, rest_all};
+use ivy_model::{CANNOT_HAPPEN, Call, Fault, Record};
 use ivy_moves::Event;
 use ivy_seating::Site;
 use ivy_wire::Bytes;
@@ -99,12 +102,35 @@ impl<A: Allocator + Copy> ReportSoFar<A> {
     }
 
     /// Whether all that the nodes sent to each other was delivered.
-    pub(crate) fn is_delivered(&self) -> bool
+    fn is_delivered(&self) -> bool
         ensures { IsTrue result → AreDelivered self.now }
     {
         match u8::try_from(self.sites.len()) {
             Ok(nodes) => is_delivered(&self.sites, nodes),
             Err(_) => false,
         }
+    }
+
+    /// Whether all programs have ended.
+    pub(crate) fn have_ended(&self) -> bool
+        ensures { IsTrue result ↔ HaveEnded self.now }
+    {
+        have_ended(&self.sites)
+    }
+
+    /// The report, where its nodes stand still and a program has not ended [1, 17, 21].
+    pub(crate) fn at_standstill(self) -> Result<Self, Fault>
+        ensures same { IfOk result (λ report. report ≡ self) }
+        ensures still { IfOk result IsStandstill }
+        ensures stop { IfErr result IsStop }
+    {
+        if self.have_ended() {
+            return Err(CANNOT_HAPPEN);
+        }
+        if !self.is_delivered() {
+            return Err(CANNOT_HAPPEN);
+        }
+        let sites = rest_all(self.sites)?;
+        Ok(ReportSoFar { sites })
     }
 }

@@ -1,5 +1,5 @@
 -- What is taken from a queue into which several nodes send is what they sent.
-use Rattle.std.proofs.Common.{◌≡◌, ◌≢◌, ℕ, ◌+◌, ◌-◌, ◌/◌, ◌%◌, ◌^◌, ◌<◌, inl, inr, Bool, true}
+use Rattle.std.proofs.Common.{◌≡◌, ◌≢◌, ℕ, ◌+◌, ◌-◌, ◌/◌, ◌%◌, ◌^◌, ◌<◌, ◌≤◌, inl, inr, Bool, true}
 use Rattle.std.proofs.Common.{false, IsTrue, if◌then◌else◌, List, [], ◌∷◌, ◌++◌, map, refl, sym}
 use Rattle.std.proofs.Common.{ap, ap₂, subst, ◌∙◌, append_assoc, append-nil, arith, mod-eq_of_lt}
 use Rattle.std.specs.Prelude.{◌==◌, nat_lt}
@@ -462,6 +462,40 @@ values_by i (t ∷ ts) = by_case (t.0 == i) (values_by i ts)
     by_case true e = ap (λ l. value_in t.1 ∷ l) e
     by_case false e = e
 
+-- a node with no critical section sent none of the values
+turn_of : (t : ℕ × List Answer) (ts : List (ℕ × List Answer)) → turns_of t.0 (t ∷ ts) ≡ [] → ⊥
+turn_of t ts none =
+    let own : turns_of t.0 (t ∷ ts) ≡ t.1 ∷ turns_of t.0 ts =
+    ap (λ b. map (λ (u : ℕ × List Answer). u.1) (if b then t ∷ filter (λ (u : ℕ × List Answer). u.0
+    == t.0) ts else filter (λ (u : ℕ × List Answer). u.0 == t.0) ts)) (eq-eqb t.0 t.0 refl) in
+    cc
+
+later_none : (i : ℕ) (t : ℕ × List Answer) (ts : List (ℕ × List Answer)) → turns_of i (t ∷ ts) ≡ []
+    → turns_of i ts ≡ []
+later_none i t ts none = by_case (t.0 == i) none
+  where
+    by_case : (b : Bool)
+        → map (λ (u : ℕ × List Answer). u.1) (if b then t ∷ filter (λ (u : ℕ × List Answer). u.0
+        == i) ts else filter (λ (u : ℕ × List Answer). u.0 == i) ts) ≡ []
+        → turns_of i ts ≡ []
+    by_case true e = absurd (cc)
+    by_case false e = e
+
+senders_only : (n j : ℕ) (turns : List (ℕ × List Answer)) → turns_of j turns ≡ []
+    → ((i : ℕ) → n ≤ i → turns_of i turns ≡ [])
+    → Each (λ (s : ℕ × ℕ). (s.0 < n) × (s.0 ≢ j)) (map sent_in turns)
+senders_only n j [] taker nobody = tt
+senders_only n j (t ∷ ts) taker nobody = (
+  (
+    elim (cases_lt t.0 n) [
+      | inl there ↦ there
+      | inr past ↦ absurd (turn_of t ts (nobody t.0 past))
+    ],
+    λ same. turn_of t ts (subst (λ i. turns_of i (t ∷ ts) ≡ []) (sym same) taker),
+  ),
+  senders_only n j ts (later_none j t ts taker) (λ i past. later_none i t ts (nobody i past)),
+)
+
 module _ (c : Config) (old new : Memory) (order : List Record) (a : ℕ) (q : Queue) (j : ℕ)
     (sent : ℕ → List ℕ) (taken : List ℕ) (run : LeadsThrough c old order new)
     (empty : IsEmptyQueue c old q) (lock_at : IsHeapWord c a) (free : word c old a ≡ 0)
@@ -576,11 +610,25 @@ module _ (c : Config) (old new : Memory) (order : List Record) (a : ℕ) (q : Qu
       (sym (merged_none sender.0 j sender.2 m (λ e. ne (sym e)) (λ e. ne' (sym e)) order))
       (none_alone q))
 
+  -- neither the taker nor a node that is not there has a critical section
+  no_turns : (i : ℕ) → sections a (is_sending q) false (answers_of i order) ≡ []
+      → turns_of i serial.0 ≡ []
+  no_turns i none = serial.1.each i ∙ none
+
+  taker_none : turns_of j serial.0 ≡ []
+  taker_none = no_turns j (no_sections a (is_sending q) (answers_of j order) unlocked)
+
+  nobody_none : (i : ℕ) → c.nodes ≤ i → turns_of i serial.0 ≡ []
+  nobody_none i past =
+      no_turns i
+      (ap (sections a (is_sending q) false) (answers_of-nobody i c.nodes order past nodes_are))
+
   pub is_merged : IsMerged c j sent taken
   is_merged = record {
     all = map sent_in serial.0;
     rest = in_turn.0;
     whole = values_sent serial.0 ∙ in_turn.1;
+    senders = senders_only c.nodes j serial.0 taker_none nobody_none;
     each = λ i l ne.
         let w = all_bodies a q empty.some empty.aligned outside (sent i) (answers_of i order)
         (senders i l ne) in

@@ -105,11 +105,13 @@ SharesAll a q (v ∷ vs) history =
 abbrev pub sent_by : ℕ → List (ℕ × ℕ) → List ℕ
 sent_by i all = map (λ s. s.1) (filter (λ s. s.0 == i) all)
 
--- what was taken is a beginning of what was sent, and each node's values are in it in its own order
+-- what was taken is a beginning of what was sent, by nodes other than the taker, and each node's
+-- values are in it in its own order
 pub record IsMerged (c : Config) (j : ℕ) (sent : ℕ → List ℕ) (taken : List ℕ) : Type 0 where
   pub all : List (ℕ × ℕ)
   pub rest : List ℕ
   pub whole : map (λ s. s.1) all ≡ taken ++ rest
+  pub senders : Each (λ s. (s.0 < c.nodes) × (s.0 ≢ j)) all
   pub each : (i : ℕ) → i < c.nodes → i ≢ j → sent_by i all ≡ sent i
 
 -- In every order of records that a flat memory makes, what one node takes from a queue into which

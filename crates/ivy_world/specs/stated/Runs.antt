@@ -47,7 +47,8 @@ IsNamedAt result moves new =
     IfErr result (λ e. (e.1 ≡ NoSuchFrame) ↔ CannotBeNamed new.world (slice_get moves e.0))
 
 -- whatever moves led to the old world from the opening, those made lead on, and at each moment of
--- all of them one order of records explains what the nodes were answered, growing from move to move
+-- all of them one order of records explains what the nodes were answered, growing from move to move,
+-- in which no calls are torn apart that a node has in progress together, or had before
 abbrev pub IsExplainedOn : Run → List Move → Run → Type 0
 IsExplainedOn old made new = (before : List Move)
     → IsLedTo old.config (opening_of old) before old.world

@@ -55,7 +55,7 @@ module _ (c : Config) (programs : List Program) (config : IsConfig c)
   runs_led moves w h = opening_runs managed_ops managed_laws c config programs each opened w moves h
 
   pub explained-along : (moves : List Move)
-      → GoesOn (host_rules managed_ops) c answered_by (opening managed_ops c programs) [] moves
+      → GoesOn (host_rules managed_ops) c answered_by [] (opening managed_ops c programs) [] moves
   explained-along moves =
       opening_explained managed_ops managed_laws c config programs each opened moves
 

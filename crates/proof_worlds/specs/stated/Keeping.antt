@@ -36,8 +36,8 @@ pub record Keeps (r : Run) : Type 0 where
   pub waits : AllAwaited managed_ops r.config r.programs
   pub routes : AllRouted managed_ops r.config r.programs
   -- whatever moves led here from the opening: at each of them one order of records explains what
-  -- the nodes were answered, growing from move to move, in which the records of calls that a node has
-  -- in progress together stand next to one another
+  -- the nodes were answered, growing from move to move. Of calls that a node has in progress together,
+  -- or had at a move before, the order has no record, or all, next to one another
   pub explained : (moves : List Move) → IsLedTo r.config (opening_of r) moves r.world
       → IsExplainedAlong r moves
   -- where nothing is under way, no node is blocked, whatever the turns of the others do: by the last

@@ -22,7 +22,8 @@ abbrev pub IsReached : Run → Type 0
 IsReached r = (before : List Move) × IsLedTo r.config (opening_of r) before r.world
 
 -- at the opening no record explains what the nodes were answered, and after each of the moves an
--- order that goes on from the one before does
+-- order that goes on from the one before does; in it no calls are torn apart that a node has in
+-- progress together, or had at a moment before
 abbrev pub IsExplainedAlong : Run → List Move → Type 0
 IsExplainedAlong r moves =
-    GoesOn (host_rules managed_ops) r.config answered_by (opening_of r) [] moves
+    GoesOn (host_rules managed_ops) r.config answered_by [] (opening_of r) [] moves

@@ -1,5 +1,6 @@
-//! Blocks under drawn schedules. Calls of a row are made together where the first has to wait, and else one behind the other
-//! with no other move between. No clause says which words of a block stand together in the order.
+//! Blocks under drawn schedules. Calls of a row are made together where the first has to wait, and else one behind the
+//! other with no other move between. Of batched words `IsUntorn` says that they stand together in the order; of words that
+//! hit no clause does.
 use crate::plays::common::{ENOUGH, KINDS, MOVES, all_gave, config, meeting};
 use ivy_calls::{SharedMemory, Work, advance_count, await_, read_into, write_from};
 use ivy_model::Fault;

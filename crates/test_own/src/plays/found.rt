@@ -154,3 +154,13 @@ fn a_barrier_of_one_less(rt: HostRuntime) -> Result<(), Fail> {
     assert_eq!(&rt; first_failing(&rt, &work, config(4, Kind::Dynamic), 6)?, 0);
     Ok(())
 }
+
+#[test]
+fn in_257_pages(rt: HostRuntime) -> Result<(), Fail> {
+    let nodes = Config {
+        pages: 257,
+        ..config(2, Kind::Fixed)
+    };
+    assert_eq!(&rt; first_failing(&rt, &LooksThenTakes, nodes, 2 * TIMES)?, 2);
+    Ok(())
+}

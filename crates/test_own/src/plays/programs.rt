@@ -1,9 +1,11 @@
 //! The programs of `example_programs` under drawn schedules. Each gives what its theorem says.
 use crate::plays::common::{ENOUGH, KINDS, MOVES, all_gave, config, meeting};
-use example_programs::{AddsUp, Farm, Pipeline, Product, Stage};
+use example_programs::{
+    AddsUp, ByNumbers, ByTickets, Farm, MadeLock, Pipeline, Product, RollCall, Stage,
+};
 use ivy_model::Kind;
 use ivy_play::{Outcome, Rest, play_drawn};
-use ivy_sync::{Barrier, Lock, Queue};
+use ivy_sync::{Barrier, Broadcast, Lock, Queue, SharedSender, TicketLock};
 use std::test::Fail;
 
 #[test]
@@ -134,6 +136,80 @@ fn two_rows_of_a_product(rt: HostRuntime) -> Result<(), Fail> {
             }
         }
         assert_eq!(&rt; entries.as_slice(), [19, 22, 43, 50].as_slice());
+    }
+    Ok(())
+}
+
+#[test]
+fn a_lock_is_made_for_all(rt: HostRuntime) -> Result<(), Fail> {
+    let work = MadeLock {
+        told: Broadcast {
+            addr: 1016,
+            barrier: meeting(3),
+        },
+    };
+    for kind in KINDS {
+        for seed in 0..20 {
+            let report = play_drawn(&rt, rt.alloc(), config(3, kind), &work, seed, MOVES, ENOUGH)?;
+            assert!(&rt; all_gave(&report, 256));
+        }
+    }
+    Ok(())
+}
+
+#[test]
+fn all_are_called(rt: HostRuntime) -> Result<(), Fail> {
+    let work = RollCall {
+        sender: SharedSender {
+            queue: Queue {
+                at: 512,
+                size: 2,
+                sent: 0,
+                taken: 1,
+            },
+            lock: Lock { addr: 256 },
+        },
+        nodes: 4,
+        alloc: rt.alloc(),
+    };
+    for seed in 0..20 {
+        let report = play_drawn(
+            &rt,
+            rt.alloc(),
+            config(4, Kind::Dynamic),
+            &work,
+            seed,
+            MOVES,
+            ENOUGH,
+        )?;
+        let Some(Outcome::Gave(numbers)) = report.outcomes.get(0) else {
+            panic!(&rt; "node 0 ends");
+        };
+        assert_eq!(&rt; numbers.len(), 4);
+        for node in 0..4u64 {
+            assert!(&rt; numbers.contains(&node));
+        }
+    }
+    Ok(())
+}
+
+#[test]
+fn nodes_take_turns(rt: HostRuntime) -> Result<(), Fail> {
+    let by_tickets = ByTickets {
+        lock: TicketLock { next: 256, turn: 0 },
+    };
+    let by_numbers = ByNumbers { turn: 0 };
+    for kind in KINDS {
+        for seed in 0..20 {
+            let here = config(3, kind);
+            let drawn = play_drawn(&rt, rt.alloc(), here, &by_tickets, seed, MOVES, ENOUGH)?;
+            for ticket in 0..3u64 {
+                assert!(&rt; drawn.outcomes.contains(&Outcome::Gave(ticket)));
+            }
+            let counted = play_drawn(&rt, rt.alloc(), here, &by_numbers, seed, MOVES, ENOUGH)?;
+            let wanted = [Outcome::Gave(0), Outcome::Gave(1), Outcome::Gave(2)];
+            assert_eq!(&rt; counted.outcomes.as_slice(), wanted.as_slice());
+        }
     }
     Ok(())
 }

@@ -1,9 +1,11 @@
 //! The programs of `example_programs`, each over a few nodes. Each gives what its theorem says.
-use crate::sessions::common::{ROOMY, config, run};
-use example_programs::{AddsUp, Farm, Pipeline, Product, Stage};
+use crate::sessions::common::{ROOMY, config, meeting, run};
+use example_programs::{
+    AddsUp, ByNumbers, ByTickets, Farm, MadeLock, Pipeline, Product, RollCall, Stage,
+};
 use ivy_model::Kind;
 use ivy_own::{Keep, OpenGate, run_with_keeping};
-use ivy_sync::{Barrier, Lock, Queue};
+use ivy_sync::{Barrier, Broadcast, Lock, Queue, SharedSender, TicketLock};
 use std::test::Fail;
 
 /// Four nodes that add up, of which each gives 6.
@@ -124,4 +126,54 @@ fn two_rows_of_a_product(rt: HostRuntime) -> Result<(), Fail> {
     }
     assert_eq!(&rt; entries.as_slice(), [19, 22, 43, 50].as_slice());
     Ok(())
+}
+
+#[test]
+fn a_lock_is_made_for_all(rt: HostRuntime) {
+    let work = MadeLock {
+        told: Broadcast {
+            addr: 1016,
+            barrier: meeting(3),
+        },
+    };
+    let report = run(&rt, rt.alloc(), 3, &work).expect(&rt, "a report");
+    assert_eq!(&rt; report.outs.as_slice(), [256, 256, 256].as_slice());
+}
+
+#[test]
+fn all_are_called(rt: HostRuntime) {
+    let work = RollCall {
+        sender: SharedSender {
+            queue: Queue {
+                at: 512,
+                size: 2,
+                sent: 0,
+                taken: 1,
+            },
+            lock: Lock { addr: 256 },
+        },
+        nodes: 4,
+        alloc: rt.alloc(),
+    };
+    let report = run(&rt, rt.alloc(), 4, &work).expect(&rt, "a report");
+    let Some(numbers) = report.outs.get(0) else {
+        panic!(&rt; "what node 0 gives");
+    };
+    assert_eq!(&rt; numbers.len(), 4);
+    for node in 0..4u64 {
+        assert!(&rt; numbers.contains(&node));
+    }
+}
+
+#[test]
+fn nodes_take_turns(rt: HostRuntime) {
+    let by_tickets = ByTickets {
+        lock: TicketLock { next: 256, turn: 0 },
+    };
+    let drawn = run(&rt, rt.alloc(), 3, &by_tickets).expect(&rt, "a report");
+    for ticket in 0..3u64 {
+        assert!(&rt; drawn.outs.contains(&ticket));
+    }
+    let counted = run(&rt, rt.alloc(), 3, &ByNumbers { turn: 0 }).expect(&rt, "a report");
+    assert_eq!(&rt; counted.outs.as_slice(), [0, 1, 2].as_slice());
 }

@@ -3,8 +3,9 @@
 use crate::scope::common::{Case, Told, check_each};
 use test_support::{File, programs};
 
-const FILES: [File; 5] = [
+const FILES: [File; 6] = [
     programs::STORE_BUFFERING,
+    programs::FIRST_LOAD,
     // Each awaits what the other one advances after that.
     File {
         name: "deadlock.ivy",
@@ -26,7 +27,7 @@ const FILES: [File; 5] = [
     },
 ];
 
-const CASES: [Case<'static>; 9] = [
+const CASES: [Case<'static>; 13] = [
     (
         &["settle", "deadlock.ivy"],
         5,
@@ -67,6 +68,43 @@ const CASES: [Case<'static>; 9] = [
             ],
             "node 0: 0, node 1: 0",
         ),
+        Told::Is(""),
+    ),
+    // A first load has seven states, by hand: the opening, and one after each of its two turns, its request, the answer and
+    // two turns more. So seven are all of them, and the end is not among six.
+    (
+        &["search", "first_load.ivy", "--states", "7"],
+        0,
+        Told::Is(
+            "7 states, and 1 of them are ends\noutputs: node 1: 0\n\
+             at each of these ends all programs have ended\n",
+        ),
+        Told::Is(""),
+    ),
+    (
+        &["search", "first_load.ivy", "--states", "6"],
+        0,
+        Told::Is("6 states and more, and 0 of them are ends\n"),
+        Told::Is(""),
+    ),
+    // No more states are looked at than the option says, wherever a search is then.
+    (
+        &["search", "store_buffering.ivy", "--states", "50"],
+        0,
+        Told::Has(&["50 states and more, and "]),
+        Told::Is(""),
+    ),
+    (
+        &[
+            "search",
+            "first_load.ivy",
+            "--states",
+            "6",
+            "--until",
+            "node 1 prints 0",
+        ],
+        1,
+        Told::Is("# none of 6 states is that; there are more\n"),
         Told::Is(""),
     ),
     // A text that deadlocks has an end at which a node waits.

@@ -8,11 +8,7 @@ pub const BARRIER: Example = Example {
     programs: programs::BARRIER,
     nodes: 4,
     out: "\
-node 0: 20
-node 1: 30
-node 2: 40
-node 3: 10
-",
+node 0: 20\nnode 1: 30\nnode 2: 40\nnode 3: 10\n",
 };
 
 /// `cas_lock.ivy`, with what it prints.
@@ -20,8 +16,7 @@ pub const CAS_LOCK: Example = Example {
     programs: programs::CAS_LOCK,
     nodes: 8,
     out: "\
-node 0: 800
-",
+node 0: 800\n",
 };
 
 /// `dot_product.ivy`, with what it prints.
@@ -29,8 +24,7 @@ pub const DOT_PRODUCT: Example = Example {
     programs: programs::DOT_PRODUCT,
     nodes: 4,
     out: "\
-node 0: 364
-",
+node 0: 364\n",
 };
 
 /// `four_advances.ivy`, with what it prints.
@@ -38,8 +32,7 @@ pub const FOUR_ADVANCES: Example = Example {
     programs: programs::FOUR_ADVANCES,
     nodes: 3,
     out: "\
-node 0: 4
-",
+node 0: 4\n",
 };
 
 /// `histogram.ivy`, with what it prints.
@@ -47,17 +40,8 @@ pub const HISTOGRAM: Example = Example {
     programs: programs::HISTOGRAM,
     nodes: 3,
     out: "\
-node 0: 0
-node 0: 2
-node 0: 3
-node 0: 4
-node 0: 3
-node 0: 3
-node 0: 3
-node 0: 1
-node 0: 2
-node 0: 3
-",
+node 0: 0\nnode 0: 2\nnode 0: 3\nnode 0: 4\nnode 0: 3\nnode 0: 3\nnode 0: 3\nnode 0: 1\nnode 0: 2\nn\
+ode 0: 3\n",
 };
 
 /// `jacobi.ivy`, with what it prints.
@@ -65,23 +49,8 @@ pub const JACOBI: Example = Example {
     programs: programs::JACOBI,
     nodes: 2,
     out: "\
-node 0: 10
-node 0: 0
-node 0: 9
-node 0: 0
-node 0: 0
-node 0: 16
-node 0: 0
-node 0: 4
-node 0: 9
-node 0: 0
-node 0: 6
-node 0: 0
-node 0: 0
-node 0: 4
-node 0: 0
-node 0: 0
-",
+node 0: 10\nnode 0: 0\nnode 0: 9\nnode 0: 0\nnode 0: 0\nnode 0: 16\nnode 0: 0\nnode 0: 4\nnode 0: 9\n\
+node 0: 0\nnode 0: 6\nnode 0: 0\nnode 0: 0\nnode 0: 4\nnode 0: 0\nnode 0: 0\n",
 };
 
 /// `list.ivy`, with what it prints.
@@ -89,9 +58,7 @@ pub const LIST: Example = Example {
     programs: programs::LIST,
     nodes: 2,
     out: "\
-node 0: 91
-node 0: 264
-",
+node 0: 91\nnode 0: 264\n",
 };
 
 /// `matrix.ivy`, with what it prints.
@@ -99,16 +66,8 @@ pub const MATRIX: Example = Example {
     programs: programs::MATRIX,
     nodes: 3,
     out: "\
-node 0: 30
-node 0: 24
-node 0: 18
-node 0: 84
-node 0: 69
-node 0: 54
-node 0: 138
-node 0: 114
-node 0: 90
-",
+node 0: 30\nnode 0: 24\nnode 0: 18\nnode 0: 84\nnode 0: 69\nnode 0: 54\nnode 0: 138\nnode 0: 114\nno\
+de 0: 90\n",
 };
 
 /// `merge_split.ivy`, with what it prints.
@@ -116,15 +75,7 @@ pub const MERGE_SPLIT: Example = Example {
     programs: programs::MERGE_SPLIT,
     nodes: 2,
     out: "\
-node 0: 3
-node 0: 8
-node 0: 14
-node 0: 27
-node 0: 40
-node 0: 58
-node 0: 66
-node 0: 91
-",
+node 0: 3\nnode 0: 8\nnode 0: 14\nnode 0: 27\nnode 0: 40\nnode 0: 58\nnode 0: 66\nnode 0: 91\n",
 };
 
 /// `parallel_sum.ivy`, with what it prints.
@@ -132,9 +83,7 @@ pub const PARALLEL_SUM: Example = Example {
     programs: programs::PARALLEL_SUM,
     nodes: 2,
     out: "\
-node 0: 136
-node 1: 136
-",
+node 0: 136\nnode 1: 136\n",
 };
 
 /// `producer_consumer.ivy`, with what it prints.
@@ -142,17 +91,8 @@ pub const PRODUCER_CONSUMER: Example = Example {
     programs: programs::PRODUCER_CONSUMER,
     nodes: 2,
     out: "\
-node 1: 1
-node 1: 4
-node 1: 9
-node 1: 16
-node 1: 25
-node 1: 36
-node 1: 49
-node 1: 64
-node 1: 81
-node 1: 100
-",
+node 1: 1\nnode 1: 4\nnode 1: 9\nnode 1: 16\nnode 1: 25\nnode 1: 36\nnode 1: 49\nnode 1: 64\nnode 1: \
+81\nnode 1: 100\n",
 };
 
 /// `ring.ivy`, with what it prints.
@@ -160,16 +100,7 @@ pub const RING: Example = Example {
     programs: programs::RING,
     nodes: 3,
     out: "\
-node 0: 0
-node 0: 3
-node 0: 6
-node 1: 1
-node 1: 4
-node 1: 7
-node 2: 2
-node 2: 5
-node 2: 8
-",
+node 0: 0\nnode 0: 3\nnode 0: 6\nnode 1: 1\nnode 1: 4\nnode 1: 7\nnode 2: 2\nnode 2: 5\nnode 2: 8\n",
 };
 
 /// `spin_lock.ivy`, with what it prints.
@@ -177,8 +108,7 @@ pub const SPIN_LOCK: Example = Example {
     programs: programs::SPIN_LOCK,
     nodes: 8,
     out: "\
-node 0: 800
-",
+node 0: 800\n",
 };
 
 /// `sum_of_eight.ivy`, with what it prints.
@@ -186,15 +116,8 @@ pub const SUM_OF_EIGHT: Example = Example {
     programs: programs::SUM_OF_EIGHT,
     nodes: 8,
     out: "\
-node 0: 2080
-node 1: 2080
-node 2: 2080
-node 3: 2080
-node 4: 2080
-node 5: 2080
-node 6: 2080
-node 7: 2080
-",
+node 0: 2080\nnode 1: 2080\nnode 2: 2080\nnode 3: 2080\nnode 4: 2080\nnode 5: 2080\nnode 6: 2080\nno\
+de 7: 2080\n",
 };
 
 /// `sum_of_thirty_two.ivy`, with what it prints.
@@ -202,8 +125,7 @@ pub const SUM_OF_THIRTY_TWO: Example = Example {
     programs: programs::SUM_OF_THIRTY_TWO,
     nodes: 32,
     out: "\
-node 0: 32896
-",
+node 0: 32896\n",
 };
 
 /// `ticket_fadd.ivy`, with what it prints.
@@ -211,8 +133,7 @@ pub const TICKET_FADD: Example = Example {
     programs: programs::TICKET_FADD,
     nodes: 8,
     out: "\
-node 0: 800
-",
+node 0: 800\n",
 };
 
 /// `ticket_lock.ivy`, with what it prints.
@@ -220,6 +141,5 @@ pub const TICKET_LOCK: Example = Example {
     programs: programs::TICKET_LOCK,
     nodes: 8,
     out: "\
-node 0: 800
-",
+node 0: 800\n",
 };

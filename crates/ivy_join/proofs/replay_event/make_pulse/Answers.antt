@@ -1,7 +1,7 @@
 use Rattle.std.proofs.Common.{rules, ◌≡◌, ◌∙◌, [], ap, sym, subst, refl, append-nil, arith, ◌≢◌, ◌<◌, false}
 use Rattle.std.proofs.lemmas.Result.{IfOk-from_err}
 use Rattle.ivy_model.specs.declared.Config.{Config}
-use Rattle.ivy_join.proofs.EventSteps.{pulsed, pulsed-listed, none_waits}
+use Rattle.ivy_join.proofs.EventSteps.{pulsed, pulsed-listed, none_waits, same-records}
 use Rattle.ivy_join.proofs.replay_event.make_pulse.Goals as goal
 use Rattle.ivy_join.proofs.replay_event.make_pulse.Goals.{then-to-config-via-then-to-config, then-to-config-via-else-to-config+then-to-me, then-to-config-via-else-to-config+else-to-me+then-has_frame}
 
@@ -26,6 +26,7 @@ returns-then-to-config-clause-on g c = λ sent. record {
   config = refl;
   program = refl;
   keep = refl;
+  answered = same-records c.args.site.now c.args.site.now refl;
   more = [];
   events = sym (append-nil c.args.site.now.events);
   can = tt;

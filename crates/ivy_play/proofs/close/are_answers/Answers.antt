@@ -7,4 +7,4 @@ loop-place-preserved c =
     let a = c.loop-place-test.true in
     let b = c.if-given-history.false in
     answers_more c.args.given.now c.args.history.now c.loop-place.place _ _ (omega (arith, a))
-    (omega (arith, a, b)) c.loop-place.invariant (c.is_same.ensures c.if-not-is_same.false)
+    (omega (arith, a, b)) c.loop-place.invariant (c.is_same.ensures.0 c.if-not-is_same.false)

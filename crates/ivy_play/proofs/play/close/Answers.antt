@@ -1,8 +1,10 @@
-use Rattle.std.proofs.Common.{arith, ◌≡◌, length, ap, ◌∙◌, subst}
+use Rattle.std.proofs.Common.{arith, ◌≡◌, length, sym, ap, ◌∙◌, subst}
 use Rattle.ivy_model.specs.declared.Config.{Config}
 use Rattle.ivy_play.specs.Endings.{ComesToRest}
 use Rattle.ivy_play.proofs.Reported.{reported}
+use Rattle.ivy_play.specs.Played.{HasDrawn}
 use Rattle.ivy_play.proofs.Ending.{given_there}
+use Rattle.ivy_play.proofs.Ends.{stands_there}
 use Rattle.ivy_play.proofs.play.close.Goals as goal
 
 pub returns-clause-report : goal.returns-clause-report
@@ -37,3 +39,16 @@ returns-clause-rests g c =
     (λ (k : Config). ComesToRest k c.args.settle e.moves.items e.drawn e.world.world
     c.deref.result.now e.rest)
     config c.in_ok-ended.ensures.rests)
+
+pub returns-clause-drawn : goal.returns-clause-drawn
+returns-clause-drawn g c =
+    let p = c.into_played-played.result in
+    c.in_ok-ended.ensures.drawn g.S.Setting.config
+    (subst (λ n. HasDrawn g.S.Setting.config n p.moves.items p.drawn) (sym c.requires.settle)
+    c.into_played-played.ensures.2)
+
+pub returns-clause-stand : goal.returns-clause-stand
+returns-clause-stand g c i outcome at r given =
+    stands_there (λ e. e.answers.items) (λ e. e.is_cut) (λ e. e.out)
+    c.into_played-played.result.world.world c.in_ok-ended.ended.world.world i r outcome
+    c.in_ok-ended.ensures.cores (c.in_ok-outcomes.ensures.stand i outcome at r given)

@@ -9,6 +9,8 @@ loop-preserved g c =
     let new = c.play_move.new.world in
     let longer = made.longer in
     let spent = was.spent in
+    let before = was.longer in
+    let more = c.loop-test.true in
     record {
       played = λ k p. made.played k (was.played k p);
       cores =
@@ -16,4 +18,6 @@ loop-preserved g c =
           (pulse_cores c.loop.world.config c.loop.world.world new.world 0 1 made.made);
       config = made.stays.0 ∙ was.config;
       spent = omega (arith, longer, spent);
+      longer = omega (arith, longer, before);
+      few = omega (arith, longer, spent, more);
     }

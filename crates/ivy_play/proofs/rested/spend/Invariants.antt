@@ -1,4 +1,4 @@
-use Rattle.std.proofs.Common.{◌≡◌, ◌≤◌, ◌+◌, length}
+use Rattle.std.proofs.Common.{◌≡◌, ◌≤◌, ◌+◌, length, max}
 use Rattle.ivy_model.specs.declared.Config.{Config}
 use Rattle.ivy_play.specs.Played.{IsPlayed}
 use Rattle.ivy_play.specs.Endings.{HaveSameCores}
@@ -9,5 +9,7 @@ invariant-loop g l = record {
   played : (c : Config) → IsPlayed c l.fn.moves.items l.fn.world → IsPlayed c l.moves.items l.world;
   cores : HaveSameCores l.fn.world.world l.world.world;
   config : l.world.config ≡ l.fn.world.config;
-  spent : l.fn.drawn + l.counter ≤ length l.moves.items;
+  spent : l.fn.drawn + l.counter ≡ length l.moves.items;
+  longer : length l.fn.moves.items ≤ length l.moves.items;
+  few : length l.moves.items ≤ max (length l.fn.moves.items) (l.fn.drawn + l.fn.most);
 }

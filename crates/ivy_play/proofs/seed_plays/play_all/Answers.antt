@@ -5,3 +5,10 @@ use Rattle.ivy_play.proofs.seed_plays.play_all.Goals as goal
 pub returns-in_err-shorter-clause-fault : goal.returns-in_err-shorter-clause-fault
 returns-in_err-shorter-clause-fault g c =
     stop_is_fault c.from_residual-in_err-shorter.result (search rules)
+
+-- the first play comes to rest, so the shorter one does
+pub returns-then-not-holds-clause-rests : goal.returns-then-not-holds-clause-rests
+returns-then-not-holds-clause-rests g c = c.in_ok-shorter.ensures.rests c.in_ok-report.ensures.rests
+
+pub returns-then-not-holds-clause-drawn : goal.returns-then-not-holds-clause-drawn
+returns-then-not-holds-clause-drawn g c = c.in_ok-shorter.ensures.drawn c.in_ok-report.ensures.drawn

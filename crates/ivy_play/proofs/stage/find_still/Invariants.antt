@@ -1,4 +1,4 @@
-use Rattle.std.proofs.Common.{◌≡◌, ◌<◌, ℕ}
+use Rattle.std.proofs.Common.{◌≡◌, ◌<◌, ◌+◌, ℕ, length}
 use Rattle.ivy_model.specs.declared.Config.{Config}
 use Rattle.ivy_world.specs.WorldRounds.{HasIdleTurn}
 use Rattle.ivy_play.specs.Played.{IsPlayed}
@@ -8,5 +8,6 @@ abbrev pub invariant-loop-node : goal.invariant-loop-node
 invariant-loop-node g l = record {
   config : l.world.config ≡ l.fn.world.config;
   played : (c : Config) → IsPlayed c l.fn.moves.items l.fn.world → IsPlayed c l.moves.items l.world;
+  longer : length l.moves.items ≡ length l.fn.moves.items + l.node;
   idle : (i : ℕ) → i < l.node → HasIdleTurn l.world.world i;
 }

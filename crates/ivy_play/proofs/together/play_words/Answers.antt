@@ -13,9 +13,9 @@ loop-word-preserved g c =
     let mid : Run = c.hand_word.new.world in
     record {
       played = λ k p. moved.played k
-          (played_calls k c.loop-word.moves.items c.args.node _ before mid handed (was.played k p));
+          (played_calls k c.loop-word.moves.items c.args.asked.node _ before mid handed (was.played k p));
       turns =
-          turn_tried _ c.args.node c.loop-word.word c.args.moves.now.items c.loop-word.moves.items
+          turn_tried _ c.args.asked.node c.loop-word.word c.args.moves.now.items c.loop-word.moves.items
           c.play_move.new.moves.items c.play_move.result moved.listed moved.refused was.turns;
-      config = moved.stays.0 ∙ handed_config c.args.node _ before mid handed ∙ was.config;
+      config = moved.stays.0 ∙ handed_config c.args.asked.node _ before mid handed ∙ was.config;
     }

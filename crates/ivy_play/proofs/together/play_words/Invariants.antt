@@ -6,6 +6,6 @@ use Rattle.ivy_play.proofs.together.play_words.Given as goal
 abbrev pub invariant-loop-word : goal.invariant-loop-word
 invariant-loop-word g l = record {
   played : (c : Config) → IsPlayed c l.fn.moves.items l.fn.world → IsPlayed c l.moves.items l.world;
-  turns : AddsTurns l.node l.word l.fn.moves.items l.moves.items;
+  turns : AddsTurns l.asked.node l.word l.fn.moves.items l.moves.items;
   config : l.world.config ≡ l.fn.world.config;
 }

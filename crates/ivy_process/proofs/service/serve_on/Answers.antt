@@ -1,4 +1,5 @@
 use Rattle.std.proofs.Common.{refl}
+use Rattle.ivy_process.proofs.Kept.{keeps-same}
 use Rattle.ivy_process.proofs.Logged.{stays, streams-begin, streams-further}
 use Rattle.std.proofs.lemmas.Result.{IfOk-from_err}
 use Rattle.ivy_process.proofs.service.serve_on.Goals as goal
@@ -6,7 +7,8 @@ use Rattle.ivy_process.proofs.service.serve_on.Goals as goal
 pub loop-init : goal.loop-init
 loop-init g c =
     streams-begin c.args.node.now c.args.node.now (g.L.Write.contents c.args.streams.now.log)
-    (stays c.args.node.now c.args.node.now refl refl)
+    (stays c.args.node.now c.args.node.now refl refl
+    (keeps-same c.args.node.now.site c.args.node.now.site refl))
 
 pub loop-preserved : goal.loop-preserved
 loop-preserved g c =

@@ -66,3 +66,7 @@ loop-program-preserved g c =
 
 pub seat_one-requires-clause-new : goal.seat_one-requires-clause-new
 seat_one-requires-clause-new g c = c.loop-program.invariant.issued c.loop-program.node (omega arith)
+
+pub returns-in_err-seated-clause-starter : goal.returns-in_err-seated-clause-starter
+returns-in_err-seated-clause-starter g c =
+    c.in_err-seated.ensures.starter ∙ (c.loop-program.invariant.ether ∙ sym c.requires.starter.0)

@@ -6,8 +6,8 @@ use Rattle.ivy_session.proofs.session.play_at.Goals as goal
 pub collect-requires-clause-each : goal.collect-requires-clause-each
 collect-requires-clause-each g c =
     let programs : c.args.programs.items ≡ g.S.Setup.programs = c.requires.programs in
-    let each : length c.args.programs.items ≡ c.args.config.now.nodes = c.requires.each in
-    let config : c.args.config.now ≡ g.S.Setup.config = c.requires.config in
+    let each : length c.args.programs.items ≡ c.args.plan.now.config.nodes = c.requires.each in
+    let config : c.args.plan.now.config ≡ g.S.Setup.config = c.requires.config in
     sym (ap length programs) ∙ each ∙ ap (λ (k : Config). k.nodes) config
 
 pub collect-requires-clause-nodes : goal.collect-requires-clause-nodes

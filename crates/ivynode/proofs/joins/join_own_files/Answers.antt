@@ -4,6 +4,7 @@ use Rattle.ivy_join.specs.Joined.{AreHeads}
 use Rattle.ivy_join.specs.OwnJoined.{AreAllTold, AreAnswered, AreOwnJoined}
 use Rattle.ivy_logs.specs.declared.log.LogKind.TheVariants.{OfOwnCode}
 use Rattle.ivynode.specs.Joined.{IsSpelled}
+use Rattle.ivynode.proofs.Opened.{all-told}
 use Rattle.ivynode.proofs.Printing.{all-zipped}
 use Rattle.ivynode.proofs.joins.join_own_files.Goals as goal
 
@@ -16,7 +17,7 @@ returns g c =
       config = config;
       heads = map (λ l. l.head) logs;
       logs = map (λ l. l.entries.items) logs;
-      spelled = all-zipped (IsSpelled OfOwnCode) (λ l. l.head) (λ l. l.entries.items) logs c.in_ok-logs.ensures;
+      spelled = all-zipped (IsSpelled OfOwnCode) (λ l. l.head) (λ l. l.entries.items) logs c.in_ok-logs.ensures.spelled;
       own = subst (λ ls. AreHeads config 0 (map (λ l. l.head) ls)) are c.in_ok-joined.ensures.heads;
       sites = sites;
       joined = subst (λ ls. AreOwnJoined config (map (λ l. l.entries.items) ls) sites) are
@@ -24,5 +25,6 @@ returns g c =
       answered = subst
           (λ ls. AreAllTold (map (λ l. l.entries.items) ls) sites
           → AreAnswered config (map (λ l. l.entries.items) ls)) are c.in_ok-joined.ensures.answered;
-      printed = c.in_ok-print_answered.ensures;
+      told = all-told (map (λ l. l.entries.items) logs) sites;
+      printed = rw c.deref-3.ensures.value at c.in_ok-print_own.ensures;
     }

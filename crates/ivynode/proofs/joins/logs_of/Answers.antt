@@ -10,9 +10,9 @@ pub loop-name-preserved : goal.loop-name-preserved
 loop-name-preserved g c =
     subst (λ l. All (λ x. IsSpelled c.args.kind x.head x.entries.items) l) (sym c.in_ok-push.ensures.items)
     (All-push (λ x. IsSpelled c.args.kind x.head x.entries.items) c.loop-name.logs.items c.in_ok-log_of.field-0
-    c.loop-name.invariant c.in_ok-log_of.ensures)
+    c.loop-name.invariant c.in_ok-log_of.ensures.spelled)
 
-pub returns : goal.returns
-returns g c =
+pub returns-clause-spelled : goal.returns-clause-spelled
+returns-clause-spelled g c =
     All-permutation (λ x. IsSpelled c.args.kind x.head x.entries.items) c.loop-name.logs.items
     c.sort_by_key.new.self.items c.sort_by_key.ensures.permutation c.loop-name.invariant

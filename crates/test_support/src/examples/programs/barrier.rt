@@ -6,56 +6,15 @@ use crate::file::File;
 pub const BARRIER: File = File {
     name: "barrier.ivy",
     text: "\
-# ivy run barrier.ivy
-# A barrier of four nodes by one count. Each node stores a word of its own, advances count 0 and awaits 4.
-# The count is 4 only once all four have stored, so each node then loads what the next one stored.
-# Without the await a node could load the next one's word too early, and print 0.
-node 0
-set r0 0            # the count
-set r1 4            # so many nodes
-set r2 256          # this node's word, of page 1, where a page has 256 bytes
-set r3 264          # the next node's word
-set r4 10
-store 8 r2 r4
-advance r0
-await r5 r0 r1      # until all have stored
-load 8 r6 r3
-print r6
-
-node 1
-set r0 0
-set r1 4
-set r2 264
-set r3 272
-set r4 20
-store 8 r2 r4
-advance r0
-await r5 r0 r1
-load 8 r6 r3
-print r6
-
-node 2
-set r0 0
-set r1 4
-set r2 272
-set r3 280
-set r4 30
-store 8 r2 r4
-advance r0
-await r5 r0 r1
-load 8 r6 r3
-print r6
-
-node 3
-set r0 0
-set r1 4
-set r2 280
-set r3 256
-set r4 40
-store 8 r2 r4
-advance r0
-await r5 r0 r1
-load 8 r6 r3
-print r6
-",
+# ivy run barrier.ivy\n# A barrier of four nodes by one count. Each node stores a word of its own, a\
+dvances count 0 and awaits 4.\n# The count is 4 only once all four have stored, so each node then lo\
+ads what the next one stored.\n# Without the await a node could load the next one's word too early, \
+and print 0.\nnode 0\nset r0 0            # the count\nset r1 4            # so many nodes\nset r2 2\
+56          # this node's word, of page 1, where a page has 256 bytes\nset r3 264          # the nex\
+t node's word\nset r4 10\nstore 8 r2 r4\nadvance r0\nawait r5 r0 r1      # until all have stored\nlo\
+ad 8 r6 r3\nprint r6\n\nnode 1\nset r0 0\nset r1 4\nset r2 264\nset r3 272\nset r4 20\nstore 8 r2 r4\
+\nadvance r0\nawait r5 r0 r1\nload 8 r6 r3\nprint r6\n\nnode 2\nset r0 0\nset r1 4\nset r2 272\nset \
+r3 280\nset r4 30\nstore 8 r2 r4\nadvance r0\nawait r5 r0 r1\nload 8 r6 r3\nprint r6\n\nnode 3\nset \
+r0 0\nset r1 4\nset r2 280\nset r3 256\nset r4 40\nstore 8 r2 r4\nadvance r0\nawait r5 r0 r1\nload 8 \
+r6 r3\nprint r6\n",
 };

@@ -6,29 +6,9 @@ use crate::file::File;
 pub const CHASE: File = File {
     name: "chase.ivy",
     text: "\
-# Options: --pages 2 --page-size 64. Nodes 0 and 1 load a word and store it again, for ever, node 2 stores it for ever,
-# and node 3 loads it once. In chase.schedule node 3 is not answered, under the dynamic manager, which is the default.
-node 0
-set r1 64
-label a
-load 8 r2 r1
-store 8 r1 r2
-jump a
-node 1
-set r1 64
-label a
-load 8 r2 r1
-store 8 r1 r2
-jump a
-node 2
-set r1 64
-set r2 7
-label a
-store 8 r1 r2
-jump a
-node 3
-set r1 64
-load 8 r2 r1
-print r2
-",
+# Options: --pages 2 --page-size 64. Nodes 0 and 1 load a word and store it again, for ever, node 2 \
+stores it for ever,\n# and node 3 loads it once. In chase.schedule node 3 is not answered, under the \
+dynamic manager, which is the default.\nnode 0\nset r1 64\nlabel a\nload 8 r2 r1\nstore 8 r1 r2\njum\
+p a\nnode 1\nset r1 64\nlabel a\nload 8 r2 r1\nstore 8 r1 r2\njump a\nnode 2\nset r1 64\nset r2 7\nl\
+abel a\nstore 8 r1 r2\njump a\nnode 3\nset r1 64\nload 8 r2 r1\nprint r2\n",
 };

@@ -6,12 +6,6 @@ use crate::file::File;
 pub const FORWARDED_READ: File = File {
     name: "forwarded_read.ivy",
     text: "\
-# Options: --pages 2 --page-size 64 --manager fixed. Node 1 manages the page, node 0 owns it, node 2 loads.
-node 0
-node 1
-node 2
-set r1 64
-load 8 r2 r1
-print r2
-",
+# Options: --pages 2 --page-size 64 --manager fixed. Node 1 manages the page, node 0 owns it, node 2 \
+loads.\nnode 0\nnode 1\nnode 2\nset r1 64\nload 8 r2 r1\nprint r2\n",
 };

@@ -6,25 +6,8 @@ use crate::file::File;
 pub const FOUR_READERS: File = File {
     name: "four_readers.ivy",
     text: "\
-# Four nodes load the same word. Run it with --manager fixed: node 2 manages the word's page, node 0 owns it.
-node 0
-set r1 512          # the first word of page 2, where a page has 256 bytes
-load 8 r2 r1
-print r2
-
-node 1
-set r1 512
-load 8 r2 r1
-print r2
-
-node 2
-set r1 512
-load 8 r2 r1
-print r2
-
-node 3
-set r1 512
-load 8 r2 r1
-print r2
-",
+# Four nodes load the same word. Run it with --manager fixed: node 2 manages the word's page, node 0 \
+owns it.\nnode 0\nset r1 512          # the first word of page 2, where a page has 256 bytes\nload 8 \
+r2 r1\nprint r2\n\nnode 1\nset r1 512\nload 8 r2 r1\nprint r2\n\nnode 2\nset r1 512\nload 8 r2 r1\np\
+rint r2\n\nnode 3\nset r1 512\nload 8 r2 r1\nprint r2\n",
 };

@@ -6,18 +6,8 @@ use crate::file::File;
 pub const REFUSED_ACCESSES: File = File {
     name: "refused_accesses.ivy",
     text: "\
-# Options: --pages 2 --page-size 64. Each refused load leaves its register as it was.
-node 0
-set r1 120
-load 8 r2 r1        # the last word of the heap
-set r1 121
-load 8 r2 r1        # 3: not a multiple of 8
-set r1 128
-load 1 r2 r1        # 4: past the heap
-set r1 0
-load 1 r2 r1        # 5: page 0 is reserved
-set r1 129
-load 8 r2 r1        # 3 comes before 4
-node 1
-",
+# Options: --pages 2 --page-size 64. Each refused load leaves its register as it was.\nnode 0\nset r\
+1 120\nload 8 r2 r1        # the last word of the heap\nset r1 121\nload 8 r2 r1        # 3: not a m\
+ultiple of 8\nset r1 128\nload 1 r2 r1        # 4: past the heap\nset r1 0\nload 1 r2 r1        # 5: \
+page 0 is reserved\nset r1 129\nload 8 r2 r1        # 3 comes before 4\nnode 1\n",
 };

@@ -3,7 +3,7 @@ use Rattle.ivy_calls.specs.declared.answer.Answer.{Answer}
 use Rattle.ivy_sync.specs.Doing.{loads, stores}
 use Rattle.example_programs.specs.declared.peterson.Peterson.{Peterson}
 use Rattle.example_programs.specs.Peterson.{wish_of, IsTry, LetsIn}
-use Rattle.example_programs.proofs.Trying.{begins, tries_on, is_let_in}
+use Rattle.example_programs.proofs.Trying.{begins, tries_on, tries_wish, is_let_in}
 use Rattle.example_programs.proofs.peterson.Peterson.enter.Goals as goal
 
 pub loop-init : goal.loop-init
@@ -32,33 +32,18 @@ pub returns-then-branch-from : goal.returns-then-branch-from
 returns-then-branch-from g c =
     let lock : Peterson = c.args.self.now in
     let me : ℕ = c.args.me in
-    let r : Answer = loads c.wish-in-loop.result c.in_ok-load.field-0 in
-    let try : IsTry lock me r =
-    inl (
-      c.in_ok-load.field-0,
-      c.if-branch-eq0.false,
-      ap (λ (a : ℕ). loads a c.in_ok-load.field-0)
-          c.wish-in-loop.ensures,
-    ) in
     let own : loads lock.turn c.in_ok-load-2.field-0 ≡ loads lock.turn me =
     ap (loads lock.turn) (c.if-branch-from.true ∙ c.from-in-loop.ensures) in
     let lets_in : LetsIn lock me (loads lock.turn c.in_ok-load-2.field-0) = inr own in
     is_let_in lock me (loads lock.turn c.in_ok-load-2.field-0) _ _ _
-    (tries_on lock me r _ _ _ c.loop.invariant try c.in_ok-load.ensures.asks) lets_in
+    (tries_wish lock me c.wish-in-loop.result c.in_ok-load.field-0 _ _ _ c.loop.invariant
+    c.wish-in-loop.ensures c.if-branch-eq0.false c.in_ok-load.ensures.asks) lets_in
     c.in_ok-load-2.ensures.asks
 
 pub loop-preserved : goal.loop-preserved
 loop-preserved g c =
     let lock : Peterson = c.args.self.now in
     let me : ℕ = c.args.me in
-    let r : Answer = loads c.wish-in-loop.result c.in_ok-load.field-0 in
-    let try : IsTry lock me r =
-    inl (
-      c.in_ok-load.field-0,
-      c.if-branch-eq0.false,
-      ap (λ (a : ℕ). loads a c.in_ok-load.field-0)
-          c.wish-in-loop.ensures,
-    ) in
     let again : IsTry lock me (loads lock.turn c.in_ok-load-2.field-0) =
     inr (
       c.in_ok-load-2.field-0,
@@ -66,5 +51,6 @@ loop-preserved g c =
       refl,
     ) in
     tries_on lock me (loads lock.turn c.in_ok-load-2.field-0) _ _ _
-    (tries_on lock me r _ _ _ c.loop.invariant try c.in_ok-load.ensures.asks) again
+    (tries_wish lock me c.wish-in-loop.result c.in_ok-load.field-0 _ _ _ c.loop.invariant
+    c.wish-in-loop.ensures c.if-branch-eq0.false c.in_ok-load.ensures.asks) again
     c.in_ok-load-2.ensures.asks

@@ -9,8 +9,11 @@ hand-requires-clause-free g c = free_there _ _ c.is_free.ensures c.if-not-is_fre
 
 pub invariant_of-self : goal.invariant_of-self
 invariant_of-self g c = (
-  played_hand g.S.Setting.config c.self.inside.moves.items _ c.args.call c.self.inside.world
-      c.hand.new.self c.hand.result c.hand.ensures.ok c.hand.ensures.err c.self.invariant.0,
-  going Going c.hand.new.self refl,
+  played_hand g.S.Setting.config c.self.inside.moves.items _ c.self.inside.world c.hand.new.world
+      c.hand.result c.hand.ensures.handed c.hand.ensures.refused c.self.invariant.0,
+  going Going c.hand.new.world refl,
   c.self.invariant.2,
+  c.self.invariant.3,
+  c.self.invariant.4,
+  c.self.invariant.5,
 )

@@ -1,5 +1,6 @@
-use Rattle.std.proofs.Common.{refl}
+use Rattle.std.proofs.Common.{refl, ◌∙◌}
 use Rattle.ivy_world.specs.declared.rest.Rest.TheVariants.{Going}
+use Rattle.ivy_play.proofs.Counting.{none_drawn}
 use Rattle.ivy_play.proofs.Playing.{played_opening, going}
 use Rattle.ivy_play.proofs.stage.Stage.new.Goals as goal
 
@@ -9,4 +10,8 @@ invariant_of-result g c = (
       c.requires.opens,
   going Going c.args.world refl,
   c.requires.limits,
+  c.requires.config,
+  c.new-2.ensures.most ∙ c.requires.settle,
+  none_drawn g.S.Setting.config g.S.Setting.settle c.new.result.items c.new-2.result.drawn
+      c.new.ensures.items c.new-2.ensures.drawn,
 )

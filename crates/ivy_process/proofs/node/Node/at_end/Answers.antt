@@ -3,7 +3,8 @@ use Rattle.std.proofs.lemmas.Result.{IfOk-from_err}
 use Rattle.ivy_moves.specs.Marks.{marks}
 use Rattle.ivy_program.specs.stated.Programs.{Program}
 use Rattle.ivy_program.specs.Programs.{handed, one_by_one}
-use Rattle.ivy_logs.specs.Entries.{calls_in, events_in}
+use Rattle.ivy_logs.specs.Entries.{answers_in, calls_in, events_in}
+use Rattle.ivy_join.specs.Remade.{StandFirst}
 use Rattle.ivy_site.specs.SiteView.{SiteView}
 use Rattle.ivy_site.specs.Sites.{IsMadeByEvents}
 use Rattle.ivy_join.specs.ReplaySites.{program_in}
@@ -25,16 +26,19 @@ pub returns : goal.returns
 returns c =
     let on = c.in_default.ensures.made in
     let was = ap (λ (x : Served). x.site) (c.node.view_is ∙ c.in_ok-node.ensures) in
-    let told = ap (λ (x : Served). x.site) c.learn_acknowledged.ensures in record {
+    let same = ap (λ (x : Served). x.site) c.learn_acknowledged.ensures in record {
       by_log = record {
-        me = ap (λ (x : SiteView). x.me) told ∙ on.me ∙ ap (λ (x : SiteView). x.me) was;
-        config = ap (λ (x : SiteView). x.config) told ∙ on.config ∙ ap (λ (x : SiteView). x.config) was;
-        program = ap program_in told ∙ on.program
+        me = ap (λ (x : SiteView). x.me) same ∙ on.me ∙ ap (λ (x : SiteView). x.me) was;
+        config = ap (λ (x : SiteView). x.config) same ∙ on.config ∙ ap (λ (x : SiteView). x.config) was;
+        program = ap program_in same ∙ on.program
             ∙ ap (λ (p : Program). handed (one_by_one (calls_in c.deref.result.now)) p) (ap program_in was)
             ∙ ap (λ l. handed (one_by_one (calls_in l)) (program_in c.args.site)) c.deref.ensures.value;
-        events = ap (λ (x : SiteView). x.events) told ∙ on.events
+        events = ap (λ (x : SiteView). x.events) same ∙ on.events
             ∙ ap (λ l. marks (events_in l)) c.deref.ensures.value;
-        made = subst IsMadeByEvents (sym told) on.made;
+        told = subst (λ l. StandFirst (answers_in l) c.learn_acknowledged.new.self.site.node.core.history)
+            c.deref.ensures.value
+            (subst (λ (x : SiteView). StandFirst (answers_in c.deref.result.now) x.node.core.history) (sym same) on.told);
+        made = subst IsMadeByEvents (sym same) on.made;
       };
       whole = ap (λ (x : Served). x.unlogged) c.learn_acknowledged.ensures
           ∙ ap (λ (x : Served). x.unlogged) (c.node.view_is ∙ c.in_ok-node.ensures);

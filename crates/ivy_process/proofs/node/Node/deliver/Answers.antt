@@ -1,4 +1,4 @@
-use Rattle.std.proofs.Common.{◌≡◌, ◌≢◌, ℕ, ◌<◌, sym, ap, subst, ◌∙◌}
+use Rattle.std.proofs.Common.{rules, ◌≡◌, ◌≢◌, ℕ, ◌<◌, sym, ap, subst, ◌∙◌}
 use mathlib.Core.Bool.{true≢false}
 use Rattle.ivy_model.specs.declared.Config.{Config}
 use Rattle.std.specs.Prelude.{string_bytes}
@@ -6,7 +6,8 @@ use Rattle.ivy_moves.specs.declared.event.Event.TheVariants.{Delivered}
 use Rattle.ivy_link.specs.declared.Verdict.TheVariants.{NotMine}
 use Rattle.ivy_join.proofs.EventSteps.{received-listed}
 use Rattle.ivy_process.specs.NodeLogs.{Served, served, AddsEvents}
-use Rattle.ivy_process.proofs.Logged.{goes_further, noted-one}
+use Rattle.ivy_process.proofs.Kept.{received-keeps}
+use Rattle.ivy_process.proofs.Logged.{goes_further, not-mine, noted-one, stays-as}
 use Rattle.std.proofs.lemmas.Result.{IfOk-from_err}
 use Rattle.ivy_process.proofs.node.Node.deliver.Goals as goal
 
@@ -19,8 +20,10 @@ returns-in_ok-go_on c =
     noted-one (Delivered c.args.string) c.args.self.now c.note.new.self c.self.inside.site
     c.deliver_alone.new.self (string_bytes c.self.inside.lines) was
     (received-listed c.args.string c.in_ok-verdict.verdict c.in_ok-verdict.from c.self.inside.site
-    c.deliver_alone.new.self c.in_ok-verdict.ensures.done mine) c.in_ok-note.ensures in
-    goes_further _ _ _ one c.in_ok-go_on.ensures
+    c.deliver_alone.new.self c.in_ok-verdict.ensures.done mine) c.in_ok-note.ensures
+    (received-keeps c.args.string c.in_ok-verdict.verdict c.in_ok-verdict.from c.self.inside.site
+    c.deliver_alone.new.self c.in_ok-verdict.ensures.done) in
+    goes_further _ _ _ one c.in_ok-go_on.ensures.on
 
 pub returns-else-eq-2 : goal.returns-else-eq-2
 returns-else-eq-2 c =
@@ -31,6 +34,17 @@ returns-else-eq-2 c =
     c.deliver_alone.new.self (string_bytes c.self.inside.lines) was
     (received-listed c.args.string c.in_ok-verdict.verdict c.in_ok-verdict.from c.self.inside.site
     c.deliver_alone.new.self c.in_ok-verdict.ensures.done mine) c.in_ok-note.ensures
+    (received-keeps c.args.string c.in_ok-verdict.verdict c.in_ok-verdict.from c.self.inside.site
+    c.deliver_alone.new.self c.in_ok-verdict.ensures.done)
+
+pub returns-then-eq : goal.returns-then-eq
+returns-then-eq c =
+    let is : c.in_ok-verdict.verdict ≡ NotMine = search rules in
+    let same : c.deliver_alone.new.self ≡ c.self.inside.site =
+    not-mine c.args.string c.in_ok-verdict.verdict c.in_ok-verdict.from c.self.inside.site c.deliver_alone.new.self
+    c.in_ok-verdict.ensures.done is in
+    stays-as c.args.self.now (served c.deliver_alone.new.self (string_bytes c.self.inside.lines))
+    (ap (λ s. served s (string_bytes c.self.inside.lines)) same ∙ c.self.view_is)
 
 pub returns-in_err-verdict : goal.returns-in_err-verdict
 returns-in_err-verdict c = IfOk-from_err c.from_residual.result _ c.from_residual.ensures.0

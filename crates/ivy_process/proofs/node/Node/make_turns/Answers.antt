@@ -10,8 +10,8 @@ pub returns-in_ok-note : goal.returns-in_ok-note
 returns-in_ok-note c =
     let was : c.args.self.now ≡ served c.self.inside.site (string_bytes c.self.inside.lines) = sym c.self.view_is in
     noted-one (Turns c.in_ok-made.made) c.args.self.now c.note.new.self c.self.inside.site
-    c.make_turns.new.site (string_bytes c.self.inside.lines) was c.in_ok-made.ensures
-    c.in_ok-note.ensures
+    c.make_turns.new.site (string_bytes c.self.inside.lines) was c.in_ok-made.ensures.made
+    c.in_ok-note.ensures c.in_ok-made.ensures.kept
 
 pub returns-in_err-made : goal.returns-in_err-made
 returns-in_err-made c = IfOk-from_err c.from_residual.result _ c.from_residual.ensures.0

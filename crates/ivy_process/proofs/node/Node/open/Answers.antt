@@ -29,6 +29,7 @@ returns c =
       runs = again.by_log.program
           ∙ ap (λ (p : Program). handed (one_by_one (calls_in c.args.log.now.entries.items)) p) (ap program_in was);
       events = again.by_log.events;
+      told = again.by_log.told;
       made = again.by_log.made;
       whole = again.whole;
     }) c.at_end.ensures

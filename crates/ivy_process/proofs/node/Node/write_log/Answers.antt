@@ -6,6 +6,7 @@ use Rattle.std.specs.Prelude.{string_bytes}
 use Rattle.std.proofs.KnownBytes.{Appends-nil}
 use Rattle.std.proofs.lemmas.Result.{IfOk-from_err}
 use Rattle.ivy_process.specs.NodeLogs.{Served}
+use Rattle.ivy_process.proofs.Kept.{keeps-same}
 use Rattle.ivy_process.proofs.node.Node.write_log.Goals as goal
 
 pub returns-in_err-write_through : goal.returns-in_err-write_through
@@ -19,6 +20,7 @@ returns-then-is_empty g c =
       listed = refl;
       written = subst (Appends log log) (sym whole) (Appends-nil log);
       whole = whole;
+      kept = keeps-same c.args.self.now.site c.args.self.now.site refl;
     }
 
 pub returns : goal.returns
@@ -28,4 +30,5 @@ returns g c = record {
       (c.as_str.ensures.value ∙ ap (λ (x : Served). x.unlogged) c.self.view_is)
       c.in_ok-write_through.ensures;
   whole = c.clear.ensures.bytes;
+  kept = keeps-same c.args.self.now.site c.self.inside.site (ap (λ (x : Served). x.site) c.self.view_is);
 }

@@ -11,11 +11,13 @@ pub returns : goal.returns
 returns g c =
     let self = c.self.inside in
     let log = g.L.Write.contents self.served.streams.log in
-    let on : Resumes g.S.Beginning.begun self.place self.served.node log self.told =
-    subst (λ f. ResumesUnless f g.S.Beginning.begun self.place self.served.node log self.told)
+    let on : Resumes g.S.Beginning.begun self.place self.served.answered self.served.node log self.told =
+    subst (λ f. ResumesUnless f g.S.Beginning.begun self.place self.served.answered self.served.node log self.told)
     c.in_ok-check_done.ensures.went c.self.invariant.2 in record {
       fresh = on.fresh;
       streams = on.streams;
+      many = on.many;
+      first = on.first;
       are = sym c.self.view_is ∙ on.are
           ∙ ap (λ l. l ++ on.fresh)
           (ap (λ (l : List LogEntry). answers_in (take self.place l)) (sym c.self.invariant.0)

@@ -27,7 +27,7 @@ invariant_of-self g c =
     let self = c.self.inside in
     let served = c.reply_from-found.new.served in
     replied-unless self.failure g.S.Beginning.begun self.past.now.entries.items self.place c.in-Ok.next
-    self.served.node served.node (L self.served.streams.log) (L served.streams.log) self.told c.push.new.self c.args.call
+    self.served.answered served.answered self.served.node served.node (L self.served.streams.log) (L served.streams.log) self.told c.push.new.self c.args.call
     c.in-Ok.reply (none-of self.failure c.if-is_some.ensures) c.self.invariant c.push.ensures
     c.in-Ok.ensures
 

@@ -1,12 +1,16 @@
-use Rattle.std.proofs.Common.{refl}
+use Rattle.std.proofs.Common.{refl, sym, subst}
 use Rattle.std.proofs.lemmas.Result.{IfOk-from_err, err_from_is_err_and}
+use Rattle.ivy_scope.specs.SoFar.{AllKeepSoFar, IsHandedSoFar}
 use Rattle.ivy_scope.proofs.watched.session.play_seats.Goals as goal
 
 pub returns-clause-played : goal.returns-clause-played
 returns-clause-played g c = record {
-  handed = c.in_ok-report.ensures.report;
-  kept = c.in_ok-report.ensures.keep;
-  still = c.in_ok-look_again.ensures.still;
+  handed = subst (IsHandedSoFar g.S.Setup.config g.S.Setup.programs)
+      (sym c.in_ok-looked.ensures.same) c.in_ok-report.ensures.report;
+  kept = subst (AllKeepSoFar c.args.terms.now.keep) (sym c.in_ok-looked.ensures.same)
+      c.in_ok-report.ensures.keep;
+  ended = c.in_ok-looked.ensures.ended;
+  still = c.in_ok-looked.ensures.still;
 }
 
 pub end_of-requires : goal.end_of-requires
@@ -58,9 +62,9 @@ pub returns-in_err-report-clause-stop : goal.returns-in_err-report-clause-stop
 returns-in_err-report-clause-stop g c =
     let p = err_from_is_err_and c.from_residual-in_err-report.result c.from_residual-in_err-report.ensures.1 in rw (p.1, p.2) c.in_err-report.ensures.stop
 
-pub returns-in_err-look_again-clause-played : goal.returns-in_err-look_again-clause-played
-returns-in_err-look_again-clause-played g c = IfOk-from_err c.from_residual-in_err-look_again.result _ c.from_residual-in_err-look_again.ensures.0
+pub returns-in_err-looked-clause-played : goal.returns-in_err-looked-clause-played
+returns-in_err-looked-clause-played g c = IfOk-from_err c.from_residual-in_err-looked.result _ c.from_residual-in_err-looked.ensures.0
 
-pub returns-in_err-look_again-clause-stop : goal.returns-in_err-look_again-clause-stop
-returns-in_err-look_again-clause-stop g c =
-    let p = err_from_is_err_and c.from_residual-in_err-look_again.result c.from_residual-in_err-look_again.ensures.1 in rw (p.1, p.2) c.in_err-look_again.ensures.stop
+pub returns-in_err-looked-clause-stop : goal.returns-in_err-looked-clause-stop
+returns-in_err-looked-clause-stop g c =
+    let p = err_from_is_err_and c.from_residual-in_err-looked.result c.from_residual-in_err-looked.ensures.1 in rw (p.1, p.2) c.in_err-looked.ensures.stop

@@ -6,7 +6,7 @@ use Rattle.ivy_model.specs.declared.Fault.TheVariants.{BadConfig}
 use Rattle.ivy_workers.specs.Stops.{IsStop}
 use Rattle.ivy_session.specs.Faults.{IsSessionFault}
 use Rattle.ivy_program.specs.Programs.{IsWritten}
-use Rattle.ivy_scope.proofs.SoFar.{if_kept, if_still, if_written}
+use Rattle.ivy_scope.proofs.SoFar.{if_ended, if_kept, if_settled, if_still, if_unblocked, if_written}
 use Rattle.ivy_scope.proofs.watched.session.run_watched.Goals as goal
 
 fault_of_stop : (fault : Fault) → IsStop fault → IsSessionFault fault
@@ -25,16 +25,32 @@ stop_is_not_bad r stop is =
 
 pub returns-clause-report : goal.returns-clause-report
 returns-clause-report g c =
-    if_written c.args.config c.args.programs.items c.args.keep c.play.result
+    if_written c.args.config c.args.programs.items c.args.terms.now.keep c.play.result
     (subst (All IsWritten) c.deref.ensures.value c.are_written.ensures) c.play.ensures.played
 
 pub returns-clause-keep : goal.returns-clause-keep
 returns-clause-keep g c =
-    if_kept c.args.config c.args.programs.items c.args.keep c.play.result c.play.ensures.played
+    if_kept c.args.config c.args.programs.items c.args.terms.now.keep c.play.result
+    c.play.ensures.played
+
+pub returns-clause-ended : goal.returns-clause-ended
+returns-clause-ended g c =
+    if_ended c.args.config c.args.programs.items c.args.terms.now.keep c.play.result
+    c.play.ensures.played
 
 pub returns-clause-still : goal.returns-clause-still
 returns-clause-still g c =
-    if_still c.args.config c.args.programs.items c.args.keep c.play.result
+    if_still c.args.config c.args.programs.items c.args.terms.now.keep c.play.result
+    c.play.ensures.played
+
+pub returns-clause-unblocked : goal.returns-clause-unblocked
+returns-clause-unblocked g c =
+    if_unblocked c.args.config c.args.programs.items c.args.terms.now.keep c.play.result
+    (subst (All IsWritten) c.deref.ensures.value c.are_written.ensures) c.play.ensures.played
+
+pub returns-clause-settled : goal.returns-clause-settled
+returns-clause-settled g c =
+    if_settled c.args.config c.args.programs.items c.args.terms.now.keep c.play.result
     (subst (All IsWritten) c.deref.ensures.value c.are_written.ensures) c.play.ensures.played
 
 pub returns-in_err-check-clause-report : goal.returns-in_err-check-clause-report
@@ -43,8 +59,17 @@ returns-in_err-check-clause-report g c = IfOk-from_err c.from_residual.result _ 
 pub returns-in_err-check-clause-keep : goal.returns-in_err-check-clause-keep
 returns-in_err-check-clause-keep g c = IfOk-from_err c.from_residual.result _ c.from_residual.ensures.0
 
+pub returns-in_err-check-clause-ended : goal.returns-in_err-check-clause-ended
+returns-in_err-check-clause-ended g c = IfOk-from_err c.from_residual.result _ c.from_residual.ensures.0
+
 pub returns-in_err-check-clause-still : goal.returns-in_err-check-clause-still
 returns-in_err-check-clause-still g c = IfOk-from_err c.from_residual.result _ c.from_residual.ensures.0
+
+pub returns-in_err-check-clause-unblocked : goal.returns-in_err-check-clause-unblocked
+returns-in_err-check-clause-unblocked g c = IfOk-from_err c.from_residual.result _ c.from_residual.ensures.0
+
+pub returns-in_err-check-clause-settled : goal.returns-in_err-check-clause-settled
+returns-in_err-check-clause-settled g c = IfOk-from_err c.from_residual.result _ c.from_residual.ensures.0
 
 pub play-requires-clause-config : goal.play-requires-clause-config
 play-requires-clause-config g c = λ lifetimes outlives. refl
