@@ -142,12 +142,22 @@ static void hand_over(long times) {
   }
 }
 
+/* The least of some tries, beside a plain copy of as many bytes. */
 static void handed(uint32_t page_size) {
-  open_both(page_size);
-  double begun = now();
-  hand_over(HANDED);
-  printf("a page of %u bytes handed over: %.0f ns\n", page_size, (now() - begun) * 1e9 / HANDED);
-  close_both();
+  double least = 1e9, plain = 1e9;
+  for (int i = 0; i < TRIES; i++) {
+    open_both(page_size);
+    double begun = now();
+    hand_over(HANDED);
+    double took = (now() - begun) * 1e9 / HANDED;
+    if (took < least) least = took;
+    begun = now();
+    for (long k = 0; k < BLOCKS; k++) plain_copy(there, here, page_size);
+    took = (now() - begun) * 1e9 / BLOCKS;
+    if (took < plain) plain = took;
+    close_both();
+  }
+  printf("a page of %u bytes handed over: %.0f ns, a plain copy %.1f, ratio %.1f\n", page_size, least, plain, least / plain);
 }
 
 static void flat(void) {

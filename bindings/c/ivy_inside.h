@@ -51,7 +51,8 @@ struct ivy_process {
   uint8_t *room; /* of the transport, where it was given and nothing was sent from it yet */
   ivy_progress progress;
   uint32_t me, all;
-  ivy_counts counts;
+  ivy_counts counts; /* but for the hits, which are the other calls */
+  uint64_t roots;    /* where they are, or 0 */
 
   uint8_t draws[MOST_NODES][DRAW]; /* of whom a draw is known */
   uint8_t names[MOST_NODES][2 * DRAW]; /* once the run is fixed: its name and the draw, as strings of that node have them */
@@ -215,14 +216,21 @@ static inline void ivy_in_leave(ivy_process *p) {
 
 /* ---- ivy_runtime.c ------------------------------------------------------------------------------------------------------ */
 
-/* Its log is closed where it leaves. */
-void ivy_in_own_log(ivy_process *p);
+/* A process joins, as by ivy_join_as; where it owns its log that is closed as it leaves; and it may have roots. */
+uint32_t ivy_in_join(const ivy_start *start, int owns_log, int has_roots, ivy_process **process);
+/* A call that was refused, and gives a value and no status: the failure is kept. */
+void ivy_in_refuse(ivy_process *p, uint32_t kind, uint64_t place, uint32_t status);
 /* A call, the lock held. */
 uint32_t ivy_in_call(ivy_process *p, const call *c, uint64_t *value);
 /* A call that waited is over. */
 void ivy_in_end_call(ivy_process *p);
 /* Whether the run is over, and calls in progress get no reply. */
 static inline int ivy_in_is_over(const ivy_process *p) { return p->dead || p->error == IVY_LOG_FULL; }
+
+/* ---- ivy_places.c ----------------------------------------------------------------------------------------------------- */
+
+/* Node 0 allocates the roots, before others are here. */
+void ivy_in_make_roots(ivy_process *p);
 
 /* ---- ivy_key.c -------------------------------------------------------------------------------------------------------- */
 

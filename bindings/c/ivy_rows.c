@@ -25,7 +25,7 @@ static void go_on_together(ivy_process *p, row *r) {
   else status = ivy_begin_store_block(&p->node, address, r->from + r->done, left, &words);
   if (status != IVY_PENDING) return;
   p->in_call = 1;
-  p->counts.waits++;
+  p->counts.misses++;
   ivy_in_send_frames(p);
   for (words = 0; !words && !ivy_in_is_over(p);) {
     ivy_in_wait(p);

@@ -97,6 +97,7 @@ ivy_counts ivy_counts_of(ivy_process *p) {
   ivy_in_lock(p);
   ivy_counts counts = p->counts;
   ivy_in_unlock(p);
+  counts.hits = counts.calls - counts.misses - counts.waits;
   return counts;
 }
 
@@ -141,7 +142,6 @@ static uint32_t open_node(ivy_process *p, const ivy_start *start) {
 static uint32_t set_up(ivy_process *p, const ivy_start *start) {
   uint32_t status = open_node(p, start), nodes = start->config.nodes;
   if (status != IVY_DONE) return status;
-  p->log = start->log;
   p->config = start->config;
   p->transport = start->transport;
   p->me = start->me;
@@ -157,8 +157,6 @@ static uint32_t set_up(ivy_process *p, const ivy_start *start) {
   return ivy_in_draw(p) ? IVY_DONE : IVY_MEMORY;
 }
 
-void ivy_in_own_log(ivy_process *p) { p->owns_log = p->log != NULL; }
-
 static void end(ivy_process *p) {
   if (p->owns_log) fclose(p->log);
   for (int i = 0; i < MOST_NODES; i++)
@@ -167,12 +165,14 @@ static void end(ivy_process *p) {
   free(p);
 }
 
-uint32_t ivy_join_as(const ivy_start *start, ivy_process **process) {
+uint32_t ivy_in_join(const ivy_start *start, int owns_log, int has_roots, ivy_process **process) {
   ivy_process *p = (ivy_process *)calloc(1, sizeof *p);
+  if (p) p->log = start->log, p->owns_log = owns_log && p->log;
   uint32_t status = p ? set_up(p, start) : (uint32_t)IVY_MEMORY;
   *process = NULL;
   if (status == IVY_DONE) {
     ivy_in_lock(p);
+    if (has_roots) ivy_in_make_roots(p);
     status = meet(p, start->start_ms);
     ivy_in_unlock(p);
   }
@@ -183,8 +183,11 @@ uint32_t ivy_join_as(const ivy_start *start, ivy_process **process) {
   }
   if (start->transport.close) start->transport.close(start->transport.state);
   if (p) end(p);
+  else if (owns_log && start->log) fclose(start->log);
   return status;
 }
+
+uint32_t ivy_join_as(const ivy_start *start, ivy_process **process) { return ivy_in_join(start, 0, 0, process); }
 
 ivy_process *ivy_join_logging(const ivy_config *config, uint32_t me, ivy_transport transport, ivy_progress progress,
                               long start_ms, long death_ms, FILE *log) {
@@ -256,7 +259,7 @@ static uint32_t go_on(ivy_process *p, const call *c, uint32_t status, uint64_t *
     return status;
   }
   p->in_call = 1;
-  p->counts.waits++;
+  *(c->kind == IVY_AWAIT ? &p->counts.waits : &p->counts.misses) += 1;
   ivy_in_send_frames(p);
   while ((status == IVY_PENDING || status == IVY_MEMORY) && !ivy_in_is_over(p)) {
     ivy_in_wait(p);
@@ -291,6 +294,7 @@ uint32_t ivy_call(ivy_process *p, uint32_t kind, uint32_t width, uint64_t place,
 
 uint32_t ivy_progress_now(ivy_process *p) {
   uint32_t status = ivy_in_enter(p);
+  p->counts.calls--;
   if (status == IVY_DONE && !p->receiving) ivy_in_serve(p, 0, MANY);
   status = p->error;
   ivy_in_leave(p);
@@ -340,8 +344,7 @@ uint32_t ivy_wait_until(ivy_process *p, uint32_t width, uint64_t address, ivy_co
   return look_until(p, &look, comparison, number, wait_us, value);
 }
 
-/* A call that was refused, and gives a value and no status: the failure is kept. */
-static void refuse(ivy_process *p, uint32_t kind, uint64_t place, uint32_t status) {
+void ivy_in_refuse(ivy_process *p, uint32_t kind, uint64_t place, uint32_t status) {
   ivy_in_lock(p);
   if (!p->error) {
     fprintf(stderr, "ivy: node %u: %s at %llu: %s\n", p->me, ivy_in_kind(kind), (unsigned long long)place, ivy_text(status));
@@ -355,7 +358,7 @@ static uint64_t sure(ivy_process *p, uint32_t kind, uint32_t width, uint64_t pla
   uint64_t value = 0;
   uint32_t status = make_call(p, &c, &value);
   if (status == IVY_DONE) return value;
-  refuse(p, kind, place, status);
+  ivy_in_refuse(p, kind, place, status);
   return 0;
 }
 
@@ -381,7 +384,7 @@ uint64_t ivy_await(ivy_process *p, uint64_t count, uint64_t least) {
   if (!p->shared) return sure(p, IVY_AWAIT, 0, count, least, 0);
   uint32_t status = ivy_await_for(p, count, least, -1, &value);
   if (status == IVY_DONE) return value;
-  refuse(p, IVY_AWAIT, count, status);
+  ivy_in_refuse(p, IVY_AWAIT, count, status);
   return 0;
 }
 uint64_t ivy_alloc(ivy_process *p, uint64_t bytes) { return sure(p, IVY_ALLOC, 0, 0, bytes, 0); }

@@ -69,7 +69,8 @@ int ivy_exit_status(uint32_t status);
  * IVY_NODES, over UDP from the port IVY_PORT on. A process that is started without them is alone, as in a debugger. Further
  * variables have defaults: IVY_PAGES (256) and IVY_PAGE_SIZE (1024), unless the program says so; IVY_MANAGER (dynamic, or
  * fixed), IVY_PROGRESS (thread, or calls), IVY_START_MS (10000), IVY_DEATH_MS (5000), IVY_LOG (none, or the folder of logs),
- * IVY_LOST, IVY_TWICE and IVY_LATE (0, as for ivy_udp), IVY_KEY or IVY_KEY_FILE (none), IVY_REPORT (1: ivy_finalize prints the
+ * IVY_LOST, IVY_TWICE and IVY_LATE (0, as for ivy_udp), IVY_HOSTS and IVY_BIND (none; else over UDP between machines, as for
+ * ivy_open_hosts: IVY_NODES is how many hosts there are, and each process is told its IVY_NODE), IVY_KEY or IVY_KEY_FILE (none), IVY_REPORT (1: ivy_finalize prints the
  * counts of the process on stderr). */
 
 /* Joins; null, with a line on stderr, where that fails. No word of the command line is read yet. */
@@ -122,9 +123,10 @@ uint32_t ivy_leave(ivy_process *process);
 uint32_t ivy_me(const ivy_process *process);
 uint32_t ivy_nodes(const ivy_process *process);
 
-/* What a process has done: calls, of which so many waited for others; strings of its node that it sent, and sent again since
- * they were not acknowledged; and those that it heard. A row counts as one call for each page at least. */
-typedef struct ivy_counts { uint64_t calls, waits, sent, again, heard; } ivy_counts;
+/* What a process has done: calls, which are hits, done at once, misses, which waited for a page or for the heap, and waits, which
+ * are awaits of a count; strings of its node that it sent, and sent again since they were not acknowledged; and those that it
+ * heard. A row counts as one call for each page at least. */
+typedef struct ivy_counts { uint64_t calls, hits, misses, waits, sent, again, heard; } ivy_counts;
 ivy_counts ivy_counts_of(ivy_process *process);
 
 /* Several threads of the program make calls: none waits in the memory for what another one of them has to do. */
@@ -189,6 +191,30 @@ uint32_t ivy_wait_until(ivy_process *process, uint32_t width, uint64_t address, 
 uint32_t ivy_read(ivy_process *process, uint64_t address, void *into, size_t len);
 uint32_t ivy_write(ivy_process *process, uint64_t address, const void *from, size_t len);
 
+/* ---- Addresses ---------------------------------------------------------------------------------------------------------
+ *
+ * Layout: words on one page move together, and a page is at one node to be written, or at several to be read. So what different
+ * nodes write lies on different pages, also where they never ask for the same word; what is read together lies on one. In
+ * ivy_native.h is a block that begins with a page. */
+
+/* Numbers that one node gives and all find, as the addresses of blocks. A process of ivy_init has so many, from 0 on, where the
+ * heap has the bytes for them: they are its last ones, a block that no ivy_alloc gives. */
+enum { IVY_ROOTS = 16 };
+
+/* Gives a root a number, which is not 0. IVY_BAD_ARGUMENT where there is no such root, else the first status of a failure, or
+ * IVY_DONE. */
+uint32_t ivy_give_root(ivy_process *process, uint32_t root, uint64_t number);
+
+/* Waits until a root was given: its number. */
+uint64_t ivy_root(ivy_process *process, uint32_t root);
+
+/* The same for so many microseconds at most: with 0 it looks once. IVY_DONE, IVY_TIMEOUT, IVY_BAD_ARGUMENT, or a failure. */
+uint32_t ivy_root_for(ivy_process *process, uint32_t root, long wait_us, uint64_t *number);
+
+/* The page that an address is on, and whether the word of 8 bytes about it can be read at once, since its page is here. */
+uint64_t ivy_page_of(const ivy_process *process, uint64_t address);
+int ivy_is_here(ivy_process *process, uint64_t address);
+
 /* ---- Transports -------------------------------------------------------------------------------------------------------- */
 
 /* UDP: process i listens at port + i of 127.0.0.1, and looks only at what comes from these ports; of each hundred strings that
@@ -198,6 +224,15 @@ ivy_transport ivy_udp(uint32_t me, uint32_t nodes, uint16_t port, unsigned lost,
 /* The same with a status: IVY_DONE or IVY_NO_TRANSPORT. */
 uint32_t ivy_open_udp(ivy_transport *transport, uint32_t me, uint32_t nodes, uint32_t port, unsigned lost, unsigned twice,
                       unsigned late);
+/* UDP between machines. `hosts` has a place for each node, parted by commas: an address of IPv4, or all of IPv6, or a name, and
+ * after a colon its port, which else is port + i; an address of IPv6 with a port stands in brackets. A node listens at its own
+ * place, or at the address `own` where that is not null, and looks only at what comes from the places of the list. A string may
+ * be longer than what the way takes at once: it goes in pieces. Where a place is not on this machine's loopback a key is
+ * wanted, and without one the status is IVY_NO_KEY. */
+uint32_t ivy_open_hosts(ivy_transport *transport, uint32_t me, const char *hosts, const char *own, uint32_t port, unsigned lost,
+                        unsigned twice, unsigned late);
+/* So many places the list has. */
+uint32_t ivy_hosts_in(const char *hosts);
 /* MPI_COMM_WORLD, as ivy_mpi.h says, in the library libivy_mpi. */
 ivy_transport ivy_mpi(void);
 

@@ -5,7 +5,7 @@
 #include <string.h>
 #include <time.h>
 
-enum { PAGES = 256, PAGE_SIZE = 1024, START_MS = 10000, DEATH_MS = 5000, PATH = 4096 };
+enum { PAGES = 256, PAGE_SIZE = 1024, START_MS = 10000, DEATH_MS = 5000, PORT = 7300, PATH = 4096 };
 
 /* Reads the number that a variable of the environment has, if there is one. Whether it has no other text. */
 static int read_number(const char *name, uint32_t *number) {
@@ -83,10 +83,7 @@ uint32_t ivy_start_over(ivy_transport transport, uint32_t me, uint32_t nodes, co
     if (transport.close) transport.close(transport.state);
     return IVY_BAD_ARGUMENT;
   }
-  uint32_t status = ivy_join_as(&start, process);
-  if (*process) ivy_in_own_log(*process);
-  else if (start.log) fclose(start.log);
-  return status;
+  return ivy_in_join(&start, 1, 1, process);
 }
 
 /* The place of this process among others, over UDP. */
@@ -105,15 +102,32 @@ static int is_of_several(void) {
   return 1;
 }
 
+/* Over UDP between the hosts that the environment names. */
+static uint32_t open_hosts(place *it, const char *hosts, ivy_transport *transport) {
+  const char *own = getenv("IVY_BIND");
+  uint32_t many = ivy_hosts_in(hosts);
+  if (!getenv("IVY_NODE") || (getenv("IVY_NODES") && it->nodes != many)) {
+    fprintf(stderr, "ivy: IVY_HOSTS has %u hosts: IVY_NODE says which is this one, and IVY_NODES, if it is said, how many\n", many);
+    return IVY_BAD_ARGUMENT;
+  }
+  it->nodes = many;
+  return ivy_open_hosts(transport, it->me, hosts, own && *own ? own : NULL, it->port, it->lost, it->twice, it->late);
+}
+
+static uint32_t open_place(place *it, ivy_transport *transport) {
+  const char *hosts = getenv("IVY_HOSTS");
+  if (hosts && *hosts) return open_hosts(it, hosts, transport);
+  if (it->nodes < 2) return is_of_several() ? (uint32_t)IVY_NO_TRANSPORT : open_alone(transport);
+  return ivy_open_udp(transport, it->me, it->nodes, it->port, it->lost, it->twice, it->late);
+}
+
 uint32_t ivy_init_as(int *argc, char ***argv, const ivy_config *config, ivy_process **process) {
-  place it = { 0, 1, 0, 0, 0, 0 };
+  place it = { 0, 1, PORT, 0, 0, 0 };
   ivy_transport transport;
   (void)argc, (void)argv;
   *process = NULL;
   if (!read_place(&it)) return IVY_BAD_ARGUMENT;
-  if (it.nodes < 2 && is_of_several()) return IVY_NO_TRANSPORT;
-  uint32_t status = it.nodes < 2 ? open_alone(&transport)
-                                 : ivy_open_udp(&transport, it.me, it.nodes, it.port, it.lost, it.twice, it.late);
+  uint32_t status = open_place(&it, &transport);
   return status == IVY_DONE ? ivy_start_over(transport, it.me, it.nodes, config, process) : status;
 }
 
@@ -125,9 +139,10 @@ ivy_process *ivy_init(int *argc, char ***argv) {
 
 static void report(ivy_process *process) {
   const ivy_counts c = ivy_counts_of(process);
-  fprintf(stderr, "ivy: node %u: %llu calls, %llu waited, %llu strings sent, %llu again, %llu heard\n", ivy_me(process),
-          (unsigned long long)c.calls, (unsigned long long)c.waits, (unsigned long long)c.sent, (unsigned long long)c.again,
-          (unsigned long long)c.heard);
+  fprintf(stderr,
+          "ivy: node %u: %llu calls, %llu hits, %llu misses, %llu waits; %llu strings sent, %llu again, %llu heard\n",
+          ivy_me(process), (unsigned long long)c.calls, (unsigned long long)c.hits, (unsigned long long)c.misses,
+          (unsigned long long)c.waits, (unsigned long long)c.sent, (unsigned long long)c.again, (unsigned long long)c.heard);
 }
 
 int ivy_finalize(ivy_process *process) {

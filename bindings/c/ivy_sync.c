@@ -1,60 +1,168 @@
 /* Locks, barriers, queues and reductions: see ivy_sync.h. Not proved. */
+#define _POSIX_C_SOURCE 200809L
 #include "ivy_sync.h"
+#include "ivy_inside.h"
 #include <stdlib.h>
 
+enum { WORD = 8 };
+
 uint64_t ivy_cleared_word(ivy_process *process) {
-  uint64_t address = ivy_alloc(process, 8);
-  ivy_store(process, 8, address, 0);
+  uint64_t address = ivy_alloc(process, WORD);
+  ivy_store(process, WORD, address, 0);
   return address;
 }
 
-void ivy_lock_acquire(ivy_process *process, ivy_lock lock) {
-  while (ivy_swap(process, 8, lock.address, 1) != 0) {
+/* ---- Locks ------------------------------------------------------------------------------------------------------------------ */
+
+uint32_t ivy_lock_acquire(ivy_process *process, ivy_lock lock) {
+  while (ivy_swap(process, WORD, lock.address, 1) != 0) {
   }
+  return ivy_error(process);
 }
 
 int ivy_lock_try(ivy_process *process, ivy_lock lock) {
   uint64_t was = 1;
-  return ivy_call(process, IVY_SWAP, 8, lock.address, 1, 0, &was) == IVY_DONE && was == 0;
+  return ivy_call(process, IVY_SWAP, WORD, lock.address, 1, 0, &was) == IVY_DONE && was == 0;
 }
 
-void ivy_lock_release(ivy_process *process, ivy_lock lock) {
-  ivy_store(process, 8, lock.address, 0);
+/* When a time is over; 0 where it has no end. */
+static int64_t end_of(long wait_us) { return wait_us < 0 ? 0 : ivy_in_now() + wait_us; }
+
+/* What is left of it. */
+static long left_until(int64_t end) {
+  int64_t now = ivy_in_now();
+  return end == 0 ? -1 : end > now ? (long)(end - now) : 0;
+}
+
+/* Waits until a word compares so with a number, before a time is over. */
+static int becomes(ivy_process *process, uint64_t address, ivy_comparison comparison, uint64_t number, int64_t end) {
+  uint64_t found;
+  return ivy_wait_until(process, WORD, address, comparison, number, left_until(end), &found) == IVY_DONE;
+}
+
+int ivy_lock_acquire_for(ivy_process *process, ivy_lock lock, long wait_us) {
+  int64_t end = end_of(wait_us);
+  do {
+    if (ivy_lock_try(process, lock)) return 1;
+  } while (becomes(process, lock.address, IVY_EQ, 0, end));
+  return 0;
+}
+
+uint32_t ivy_lock_release(ivy_process *process, ivy_lock lock) {
+  ivy_store(process, WORD, lock.address, 0);
+  return ivy_error(process);
 }
 
 uint64_t ivy_ticket_lock_acquire(ivy_process *process, ivy_ticket_lock lock) {
-  uint64_t ticket = ivy_fetch_add(process, 8, lock.next, 1);
+  uint64_t ticket = ivy_fetch_add(process, WORD, lock.next, 1);
   ivy_await(process, lock.turn, ticket);
   return ticket;
 }
 
-void ivy_ticket_lock_release(ivy_process *process, ivy_ticket_lock lock) {
-  ivy_advance(process, lock.turn);
+/* The next ticket is drawn where it is that of this turn. */
+static int draw_ticket(ivy_process *process, ivy_ticket_lock lock, uint64_t turn) {
+  uint64_t was = 0;
+  return ivy_call(process, IVY_COMPARE_AND_SWAP, WORD, lock.next, turn + 1, turn, &was) == IVY_DONE && was == turn;
 }
 
-void ivy_barrier_wait(ivy_process *process, ivy_barrier *barrier) {
+int ivy_ticket_lock_try(ivy_process *process, ivy_ticket_lock lock) {
+  return ivy_ticket_lock_acquire_for(process, lock, 0);
+}
+
+int ivy_ticket_lock_acquire_for(ivy_process *process, ivy_ticket_lock lock, long wait_us) {
+  int64_t end = end_of(wait_us);
+  uint64_t turn = 0;
+  uint32_t status = ivy_call(process, IVY_COUNT, 0, lock.turn, 0, 0, &turn);
+  while (status == IVY_DONE && !draw_ticket(process, lock, turn))
+    status = ivy_await_for(process, lock.turn, turn + 1, left_until(end), &turn);
+  return status == IVY_DONE;
+}
+
+uint32_t ivy_ticket_lock_release(ivy_process *process, ivy_ticket_lock lock) {
+  ivy_advance(process, lock.turn);
+  return ivy_error(process);
+}
+
+/* In the word of a readers' lock, while a writer is inside or the number of readers is changed. */
+static const uint64_t taken = UINT64_MAX;
+
+/* Takes the word, where nobody has it: whether it is had now, and then how many readers are inside. */
+static int take(ivy_process *process, ivy_readers_lock lock, uint64_t *readers) {
+  return ivy_call(process, IVY_SWAP, WORD, lock.address, taken, 0, readers) == IVY_DONE && *readers != taken;
+}
+
+/* Changes the number of readers, by one. */
+static uint32_t count_reader(ivy_process *process, ivy_readers_lock lock, uint64_t by) {
+  uint64_t readers = ivy_swap(process, WORD, lock.address, taken);
+  while (readers == taken) readers = ivy_swap(process, WORD, lock.address, taken);
+  ivy_store(process, WORD, lock.address, readers + by);
+  return ivy_error(process);
+}
+
+uint32_t ivy_readers_lock_read(ivy_process *process, ivy_readers_lock lock) { return count_reader(process, lock, 1); }
+
+uint32_t ivy_readers_lock_leave_read(ivy_process *process, ivy_readers_lock lock) {
+  return count_reader(process, lock, UINT64_MAX);
+}
+
+uint32_t ivy_readers_lock_write(ivy_process *process, ivy_readers_lock lock) {
+  ivy_readers_lock_write_for(process, lock, -1);
+  return ivy_error(process);
+}
+
+uint32_t ivy_readers_lock_leave_write(ivy_process *process, ivy_readers_lock lock) {
+  ivy_store(process, WORD, lock.address, 0);
+  return ivy_error(process);
+}
+
+int ivy_readers_lock_read_for(ivy_process *process, ivy_readers_lock lock, long wait_us) {
+  int64_t end = end_of(wait_us);
+  uint64_t readers = 0;
+  do {
+    if (!take(process, lock, &readers)) continue;
+    ivy_store(process, WORD, lock.address, readers + 1);
+    return ivy_error(process) == IVY_DONE;
+  } while (becomes(process, lock.address, IVY_NE, taken, end));
+  return 0;
+}
+
+int ivy_readers_lock_write_for(ivy_process *process, ivy_readers_lock lock, long wait_us) {
+  int64_t end = end_of(wait_us);
+  uint64_t readers = 0;
+  do {
+    if (!take(process, lock, &readers)) continue;
+    if (readers == 0) return 1;
+    ivy_store(process, WORD, lock.address, readers);
+  } while (becomes(process, lock.address, IVY_EQ, 0, end));
+  return 0;
+}
+
+/* ---- What nodes do together --------------------------------------------------------------------------------------------- */
+
+uint32_t ivy_barrier_wait(ivy_process *process, ivy_barrier *barrier) {
   uint64_t all = barrier->passed + barrier->nodes;
   ivy_advance(process, barrier->count);
   ivy_await(process, barrier->count, all);
   barrier->passed = all;
+  return ivy_error(process);
 }
 
-void ivy_broadcast_give(ivy_process *process, const ivy_broadcast *broadcast, uint64_t value) {
-  ivy_store(process, 8, broadcast->address, value);
-  ivy_barrier_wait(process, broadcast->barrier);
+uint32_t ivy_broadcast_give(ivy_process *process, const ivy_broadcast *broadcast, uint64_t value) {
+  ivy_store(process, WORD, broadcast->address, value);
+  return ivy_barrier_wait(process, broadcast->barrier);
 }
 
 uint64_t ivy_broadcast_get(ivy_process *process, const ivy_broadcast *broadcast) {
   ivy_barrier_wait(process, broadcast->barrier);
-  return ivy_load(process, 8, broadcast->address);
+  return ivy_load(process, WORD, broadcast->address);
 }
 
 uint64_t ivy_reduction_fold(ivy_process *process, const ivy_reduction *reduction, uint32_t me, uint64_t value, uint64_t first,
                             uint64_t (*fold)(uint64_t so_far, uint64_t one)) {
-  ivy_store(process, 8, reduction->address + 8 * (uint64_t)me, value);
+  ivy_store(process, WORD, reduction->address + WORD * (uint64_t)me, value);
   ivy_barrier_wait(process, reduction->barrier);
   for (uint32_t node = 0; node < reduction->barrier->nodes; node++)
-    first = fold(first, ivy_load(process, 8, reduction->address + 8 * (uint64_t)node));
+    first = fold(first, ivy_load(process, WORD, reduction->address + WORD * (uint64_t)node));
   return first;
 }
 
@@ -89,37 +197,41 @@ double ivy_sum_of_doubles(double so_far, double one) { return so_far + one; }
 double ivy_least_of_doubles(double so_far, double one) { return one < so_far ? one : so_far; }
 double ivy_greatest_of_doubles(double so_far, double one) { return one > so_far ? one : so_far; }
 
-void ivy_queue_send(ivy_process *process, ivy_queue_end *sender, uint64_t value) {
+uint32_t ivy_queue_send(ivy_process *process, ivy_queue_end *sender, uint64_t value) {
   ivy_queue queue = sender->queue;
   uint64_t after = sender->next + 1;
   ivy_await(process, queue.taken, after > queue.size ? after - queue.size : 0);
-  ivy_store(process, 8, queue.at + 8 * (sender->next % queue.size), value);
+  ivy_store(process, WORD, queue.at + WORD * (sender->next % queue.size), value);
   ivy_advance(process, queue.sent);
   sender->next = after;
+  return ivy_error(process);
 }
 
 uint64_t ivy_queue_take(ivy_process *process, ivy_queue_end *receiver) {
   ivy_queue queue = receiver->queue;
   uint64_t value;
   ivy_await(process, queue.sent, receiver->next + 1);
-  value = ivy_load(process, 8, queue.at + 8 * (receiver->next % queue.size));
+  value = ivy_load(process, WORD, queue.at + WORD * (receiver->next % queue.size));
   ivy_advance(process, queue.taken);
   receiver->next++;
   return value;
 }
 
-void ivy_queue_send_shared(ivy_process *process, ivy_queue queue, ivy_lock lock, uint64_t value) {
+uint32_t ivy_queue_send_shared(ivy_process *process, ivy_queue queue, ivy_lock lock, uint64_t value) {
   ivy_queue_end sender = { queue, 0 };
   ivy_lock_acquire(process, lock);
   sender.next = ivy_count(process, queue.sent);
   ivy_queue_send(process, &sender, value);
-  ivy_lock_release(process, lock);
+  return ivy_lock_release(process, lock);
 }
 
 int ivy_once_begin(ivy_process *process, ivy_once once) {
-  if (ivy_compare_and_swap(process, 8, once.word, 0, 1) == 0) return 1;
+  if (ivy_compare_and_swap(process, WORD, once.word, 0, 1) == 0) return 1;
   ivy_await(process, once.done, 1);
   return 0;
 }
 
-void ivy_once_finish(ivy_process *process, ivy_once once) { ivy_advance(process, once.done); }
+uint32_t ivy_once_finish(ivy_process *process, ivy_once once) {
+  ivy_advance(process, once.done);
+  return ivy_error(process);
+}

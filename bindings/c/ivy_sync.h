@@ -1,11 +1,15 @@
 /* ivy_sync.h: locks, barriers, queues and reductions over the calls of ivy_runtime.h.
  *
- * Each lies in memory as that of the same name in the Rattle crate ivy_sync, so nodes in C and nodes in Rattle meet at one
- * barrier and wait for one lock. The functions here are tested; what is proved is proved of the crate.
+ * Each lies in memory as that of the same name in the Rattle crate ivy_sync, or the readers' lock in example_programs, so nodes
+ * in C and nodes in Rattle meet at one barrier and wait for one lock. The functions here are tested; what is proved is proved
+ * of the crates.
  *
  * A word is one of 8 bytes at an address that is a multiple of 8; a count is an eventcount, by its number. Both are 0 at
  * first, where nothing else is said. A value of these types is a node's own: it says where the thing lies, and how far the
- * node has come. After a failure, as ivy_runtime.h says, nothing here waits or changes anything: ask ivy_error. */
+ * node has come. After a failure, as ivy_runtime.h says, nothing here waits or changes anything. What gives a status gives the first one
+ * of a failure, or IVY_DONE; of what gives a number ask ivy_error.
+ *
+ * A time is in microseconds: with 0 a function tries once, with less it waits without an end. */
 #ifndef IVY_SYNC_H
 #define IVY_SYNC_H
 #include "ivy_native.h"
@@ -20,13 +24,16 @@ uint64_t ivy_cleared_word(ivy_process *process);
 
 typedef struct { uint64_t address; } ivy_lock;
 
-void ivy_lock_acquire(ivy_process *process, ivy_lock lock);
+uint32_t ivy_lock_acquire(ivy_process *process, ivy_lock lock);
 
 /* 1 where it was free, and is held now. */
 int ivy_lock_try(ivy_process *process, ivy_lock lock);
 
+/* 1 where it was free within a time, and is held now. It looks with rests. */
+int ivy_lock_acquire_for(ivy_process *process, ivy_lock lock, long wait_us);
+
 /* Only who holds the lock may leave it. */
-void ivy_lock_release(ivy_process *process, ivy_lock lock);
+uint32_t ivy_lock_release(ivy_process *process, ivy_lock lock);
 
 /* ---- A lock by tickets: the word has the next ticket, the count the one whose turn it is. It waits with one call ------ */
 
@@ -35,10 +42,28 @@ typedef struct { uint64_t next, turn; } ivy_ticket_lock;
 /* The ticket that was drawn. */
 uint64_t ivy_ticket_lock_acquire(ivy_process *process, ivy_ticket_lock lock);
 
-/* Only who is inside may leave. */
-void ivy_ticket_lock_release(ivy_process *process, ivy_ticket_lock lock);
+/* 1 where nobody had a ticket that is not used up, at once or within a time, and the lock is held now. Only then a ticket is
+ * drawn, so others may come first. */
+int ivy_ticket_lock_try(ivy_process *process, ivy_ticket_lock lock);
+int ivy_ticket_lock_acquire_for(ivy_process *process, ivy_ticket_lock lock, long wait_us);
 
-/* ---- A barrier of all nodes, over and over ---------------------------------------------------------------------------- */
+/* Only who is inside may leave. */
+uint32_t ivy_ticket_lock_release(ivy_process *process, ivy_ticket_lock lock);
+
+/* ---- A lock for many readers or one writer, in a word: how many readers are inside, or that it is taken. It spins ------ */
+
+typedef struct { uint64_t address; } ivy_readers_lock;
+
+uint32_t ivy_readers_lock_read(ivy_process *process, ivy_readers_lock lock);
+uint32_t ivy_readers_lock_leave_read(ivy_process *process, ivy_readers_lock lock);
+uint32_t ivy_readers_lock_write(ivy_process *process, ivy_readers_lock lock);
+uint32_t ivy_readers_lock_leave_write(ivy_process *process, ivy_readers_lock lock);
+
+/* 1 where no writer is inside, or nobody, within a time, and it is held now. */
+int ivy_readers_lock_read_for(ivy_process *process, ivy_readers_lock lock, long wait_us);
+int ivy_readers_lock_write_for(ivy_process *process, ivy_readers_lock lock, long wait_us);
+
+/* ---- A barrier of so many nodes, all or those of a list, over and over ------------------------------------------------ */
 
 typedef struct {
   uint64_t count;
@@ -46,7 +71,7 @@ typedef struct {
   uint64_t passed; /* what the count is when the next phase begins: at first 0 */
 } ivy_barrier;
 
-void ivy_barrier_wait(ivy_process *process, ivy_barrier *barrier);
+uint32_t ivy_barrier_wait(ivy_process *process, ivy_barrier *barrier);
 
 /* ---- A number that one node gives to all -------------------------------------------------------------------------------- */
 
@@ -55,12 +80,14 @@ typedef struct {
   ivy_barrier *barrier; /* the node's own of these nodes, not a copy: who has one that is behind goes through too early */
 } ivy_broadcast;
 
-void ivy_broadcast_give(ivy_process *process, const ivy_broadcast *broadcast, uint64_t value);
+uint32_t ivy_broadcast_give(ivy_process *process, const ivy_broadcast *broadcast, uint64_t value);
 
 /* Until all have met again nobody gives another one. */
 uint64_t ivy_broadcast_get(ivy_process *process, const ivy_broadcast *broadcast);
 
-/* ---- A number of each node, from which each works out the same: a word for each node ------------------------------------- */
+/* ---- A number of each node, from which each works out the same: a word for each node ---------------------------------
+ *
+ * Where the nodes are those of a list, `me` is the place of this node in it. */
 
 typedef struct {
   uint64_t address;
@@ -100,12 +127,12 @@ typedef struct {
   uint64_t next; /* so many were sent, or taken: at first 0 */
 } ivy_queue_end;
 
-void ivy_queue_send(ivy_process *process, ivy_queue_end *sender, uint64_t value);
+uint32_t ivy_queue_send(ivy_process *process, ivy_queue_end *sender, uint64_t value);
 
 uint64_t ivy_queue_take(ivy_process *process, ivy_queue_end *receiver);
 
 /* Several nodes send to one queue, one after another under a lock: no other sender of it may be used beside. */
-void ivy_queue_send_shared(ivy_process *process, ivy_queue queue, ivy_lock lock, uint64_t value);
+uint32_t ivy_queue_send_shared(ivy_process *process, ivy_queue queue, ivy_lock lock, uint64_t value);
 
 /* ---- Something that one node does for all: a word and a count ---------------------------------------------------------- */
 
@@ -115,7 +142,7 @@ typedef struct { uint64_t word, done; } ivy_once;
  * has finished. */
 int ivy_once_begin(ivy_process *process, ivy_once once);
 
-void ivy_once_finish(ivy_process *process, ivy_once once);
+uint32_t ivy_once_finish(ivy_process *process, ivy_once once);
 
 #ifdef __cplusplus
 }

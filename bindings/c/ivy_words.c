@@ -1,7 +1,7 @@
 /* Who is in a run, and the words of the runtime. Not proved.
  *
- * Each process draws 128 bits. Node 0 fixes the run once it has heard of all: it is the list of their draws, and its name is
- * their sum by exclusive or. From then on each string names the run and its sender's draw, and what names others is dropped:
+ * Each process draws 128 bits. Node 0 fixes the run once all have answered with its draw, so none of them is a process of
+ * earlier: it is the list of their draws, and its name is their sum by exclusive or. From then on each string names the run and its sender's draw, and what names others is dropped:
  * late words of an earlier run, and a process that was started again. */
 #define _POSIX_C_SOURCE 200809L
 #include "ivy_inside.h"
@@ -41,7 +41,7 @@ static void say_to(ivy_process *p, uint32_t to, uint8_t kind, uint32_t set, cons
 
 void ivy_in_say(ivy_process *p, uint8_t kind, uint32_t set) {
   for (uint32_t i = 0; i < p->config.nodes; i++)
-    if (i != p->me && p->all >> i & 1u) say_to(p, i, kind, set, nothing);
+    if (i != p->me && p->all >> i & 1u) say_to(p, i, kind, set, kind == HELLO ? p->draws[i] : nothing);
 }
 
 void ivy_in_speak(ivy_process *p) {
@@ -105,23 +105,33 @@ int ivy_in_draw(ivy_process *p) {
   return 1;
 }
 
-/* A process that is in no run yet. In a run it is one of them who has not heard so, or another one, which is refused. */
+/* A process that is in no run yet comes while this one is in a run: it is one of them who has not heard so, or another one,
+ * which is refused. */
+static void hear_late(ivy_process *p, uint32_t from, const uint8_t *draw) {
+  if (!memcmp(p->draws[from], draw, DRAW)) {
+    if (p->me == 0) say_to(p, from, RUN, p->here, nothing);
+    return;
+  }
+  say_to(p, from, REFUSED, 0, draw);
+  if (p->has_told >> from & 1u) return;
+  p->has_told |= 1u << from;
+  fprintf(stderr, "ivy: node %u: another process came as node %u, and is refused\n", p->me, from);
+}
+
+/* A process that is in no run yet. Its draw counts where it answers this one's; else it is told that, and asked for the answer. */
 static void hear_hello(ivy_process *p, uint32_t from, const uint8_t *bytes) {
   const uint8_t *draw = bytes + DRAW_AT;
-  if (!agrees(p, from, bytes) || from >= p->config.nodes) return;
-  int is_known = p->drawn >> from & 1u && !memcmp(p->draws[from], draw, DRAW);
-  if (!p->is_fixed) {
-    memcpy(p->draws[from], draw, DRAW);
-    p->drawn |= 1u << from;
-    if (p->me == 0 && p->drawn == p->all) fix_run(p);
-  } else if (is_known) {
-    if (p->me == 0) say_to(p, from, RUN, p->here, nothing);
-  } else {
-    say_to(p, from, REFUSED, 0, draw);
-    if (p->has_told >> from & 1u) return;
-    p->has_told |= 1u << from;
-    fprintf(stderr, "ivy: node %u: another process came as node %u, and is refused\n", p->me, from);
+  int is_answer = !memcmp(bytes + ECHO_AT, p->draws[p->me], DRAW), is_new = memcmp(p->draws[from], draw, DRAW) != 0;
+  if (p->is_fixed) {
+    if (from < p->config.nodes) hear_late(p, from, draw);
+    return;
   }
+  if (is_answer || !(p->drawn >> from & 1u)) memcpy(p->draws[from], draw, DRAW);
+  if ((is_answer || (from >= p->config.nodes && !p->key_length)) && !agrees(p, from, bytes)) return;
+  if (from >= p->config.nodes) return;
+  if (is_answer) p->drawn |= 1u << from;
+  if (is_new) say_to(p, from, HELLO, p->drawn, draw);
+  if (p->me == 0 && p->drawn == p->all) fix_run(p);
 }
 
 /* Node 0 tells who is in the run. One without this process is none of it. */

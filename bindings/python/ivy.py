@@ -1,6 +1,6 @@
 """One node of a coherent shared memory, over libivy.so by ctypes. ivy.h says what whoever drives a node owes.
 
-The library is IVY_LIB, or bindings/out/libivy.so. Not proved; what it calls is.
+The library is IVY_LIB, or bindings/out/libivy.so, or that of the install. Not proved; what it calls is.
 """
 import ctypes
 import os
@@ -17,8 +17,9 @@ class Handle(ctypes.Structure):
 
 
 def _library():
-    beside = os.path.join(os.path.dirname(os.path.abspath(__file__)), "..", "out", "libivy.so")
-    lib = ctypes.CDLL(os.environ.get("IVY_LIB", beside))
+    here = os.path.dirname(os.path.abspath(__file__))
+    beside = [os.path.join(here, *words, "libivy.so") for words in (("..", "out"), ("..", "..", "..", "lib"))]
+    lib = ctypes.CDLL(os.environ.get("IVY_LIB") or next(filter(os.path.exists, beside), beside[0]))
     node, u8, u32, u64 = ctypes.POINTER(Handle), ctypes.c_uint8, ctypes.c_uint32, ctypes.c_uint64
     size, text = ctypes.c_size_t, ctypes.c_char_p
     to32, to64, to_size = ctypes.POINTER(u32), ctypes.POINTER(u64), ctypes.POINTER(size)

@@ -2,15 +2,19 @@
 
     with Process() as ivy:
         ivy.fetch_add(1024, 1)
+        with ivy.lock(2048):
+            ivy.put_array(4096, numpy.ones(10))
 
-The library is IVY_LIB, or bindings/out/libivy.so. Not proved; the node that it runs is. A call lets other threads of the
-interpreter run; a program of which several make calls says so by use_threads.
+The library is IVY_LIB, or bindings/out/libivy.so, or that of the install. Not proved; the node that it runs is. A call lets
+other threads of the interpreter run; a program of which several make calls says so by use_threads.
 """
 import ctypes
 import os
+from contextlib import contextmanager
 
 LOAD, STORE, SWAP, COMPARE_AND_SWAP, FETCH_AND_ADD, COUNT, ADVANCE, AWAIT, ALLOC, FREE = range(10)
 DONE, TIMEOUT = 0, 406
+COMPARISONS = ("==", "!=", "<", "<=", ">", ">=")
 
 
 class Config(ctypes.Structure):
@@ -19,22 +23,58 @@ class Config(ctypes.Structure):
     _fields_ = [(name, ctypes.c_uint32) for name in ("nodes", "pages", "page_size", "manager")]
 
 
+class _Word(ctypes.Structure):
+    """A lock, or a lock for readers."""
+
+    _fields_ = [("address", ctypes.c_uint64)]
+
+
+class _Tickets(ctypes.Structure):
+    _fields_ = [("next", ctypes.c_uint64), ("turn", ctypes.c_uint64)]
+
+
+class _Meeting(ctypes.Structure):
+    _fields_ = [("count", ctypes.c_uint64), ("nodes", ctypes.c_uint32), ("passed", ctypes.c_uint64)]
+
+
+class _Pieces(ctypes.Structure):
+    _fields_ = [("address", ctypes.c_uint64), ("barrier", ctypes.POINTER(_Meeting))]
+
+
+class Counts(ctypes.Structure):
+    """What a process has done, as ivy_runtime.h says."""
+
+    _fields_ = [(name, ctypes.c_uint64) for name in ("calls", "hits", "misses", "waits", "sent", "again", "heard")]
+
+
 def _library():
-    beside = os.path.join(os.path.dirname(os.path.abspath(__file__)), "..", "out", "libivy.so")
-    lib = ctypes.CDLL(os.environ.get("IVY_LIB", beside))
+    here = os.path.dirname(os.path.abspath(__file__))
+    beside = [os.path.join(here, *words, "libivy.so") for words in (("..", "out"), ("..", "..", "..", "lib"))]
+    lib = ctypes.CDLL(os.environ.get("IVY_LIB") or next(filter(os.path.exists, beside), beside[0]))
     process, u32, u64, size = ctypes.c_void_p, ctypes.c_uint32, ctypes.c_uint64, ctypes.c_size_t
     to64, buffer = ctypes.POINTER(u64), ctypes.c_void_p
     types = {
         "init_as": [buffer, buffer, ctypes.POINTER(Config), ctypes.POINTER(process)], "leave": [process],
-        "me": [process], "nodes": [process], "use_threads": [process], "error": [process],
+        "me": [process], "nodes": [process], "use_threads": [process], "error": [process], "forget": [process],
         "call": [process, u32, u32, u64, u64, u64, to64], "await_for": [process, u64, u64, ctypes.c_long, to64],
         "get": [process, u64, buffer, size], "put": [process, u64, buffer, size], "text": [u32],
-        "add_double": [process, u64, ctypes.c_double],
+        "add_double": [process, u64, ctypes.c_double], "counts_of": [process], "page_of": [process, u64],
+        "wait_until": [process, u32, u64, ctypes.c_int, u64, ctypes.c_long, to64], "is_here": [process, u64],
+        "give_root": [process, u32, u64], "root_for": [process, u32, ctypes.c_long, to64],
+        "calloc": [process, u64], "alloc_aligned": [process, u64, u64], "free_aligned": [process, u64],
+        "lock_acquire_for": [process, _Word, ctypes.c_long], "lock_release": [process, _Word],
+        "ticket_lock_acquire": [process, _Tickets], "ticket_lock_release": [process, _Tickets],
+        "readers_lock_read": [process, _Word], "readers_lock_leave_read": [process, _Word],
+        "readers_lock_write": [process, _Word], "readers_lock_leave_write": [process, _Word],
+        "barrier_wait": [process, ctypes.POINTER(_Meeting)],
+        "gather": [process, ctypes.POINTER(_Pieces), u32, buffer, size, buffer],
     }
+    gives = {"use_threads": None, "free_aligned": None, "text": ctypes.c_char_p, "add_double": ctypes.c_double}
+    gives |= {"counts_of": Counts} | dict.fromkeys(("page_of", "calloc", "alloc_aligned", "ticket_lock_acquire"), u64)
     for name, arguments in types.items():
         function = getattr(lib, "ivy_" + name)
         function.argtypes = arguments
-        function.restype = {"use_threads": None, "text": ctypes.c_char_p, "add_double": ctypes.c_double}.get(name, u32)
+        function.restype = gives.get(name, u32)
     return lib
 
 
@@ -58,6 +98,29 @@ def _bytes_of(buffer):
     """The bytes of something that can be written, as a bytearray, an array or one of numpy, and how many."""
     view = memoryview(buffer).cast("B")
     return (ctypes.c_char * len(view)).from_buffer(view), len(view)
+
+
+def _microseconds(seconds):
+    return -1 if seconds is None else int(seconds * 1e6)
+
+
+class Barrier:
+    """So many nodes meet over and over, by a count that is 0 at first. Each has one of its own for it."""
+
+    def __init__(self, process, count, nodes):
+        self._process, self._at, self._meeting = process, process._at, _Meeting(count, nodes, 0)
+
+    def wait(self):
+        _done(_lib.ivy_barrier_wait(self._at, self._meeting))
+
+    def gather(self, address, data, place):
+        """The bytes of all nodes, in the order of their places, each as many as these: at the address is room for all. Before
+        they are given again all have to meet once more."""
+        data = bytes(memoryview(data).cast("B"))
+        pieces, found = _Pieces(address, ctypes.pointer(self._meeting)), bytearray(len(data) * self._meeting.nodes)
+        room, _ = _bytes_of(found)
+        _done(_lib.ivy_gather(self._at, pieces, place, data, len(data), room))
+        return [bytes(found[at : at + len(data)]) for at in range(0, len(found), len(data))]
 
 
 class Process:
@@ -112,8 +175,16 @@ class Process:
 
     def wait(self, count, least, seconds=None):
         """Waits until the count is at least so much: the count, or None where the time is over before."""
+        return self._within_time(_lib.ivy_await_for, count, least, _microseconds(seconds))
+
+    def wait_until(self, address, comparison, number, seconds=None, width=8):
+        """Waits until a word compares so, as "==" or "<": the word, or None where the time is over before."""
+        by = COMPARISONS.index(comparison)
+        return self._within_time(_lib.ivy_wait_until, width, address, by, number, _microseconds(seconds))
+
+    def _within_time(self, function, *arguments):
         value = ctypes.c_uint64()
-        status = _lib.ivy_await_for(self._at, count, least, -1 if seconds is None else int(seconds * 1e6), value)
+        status = function(self._at, *arguments, value)
         if status == TIMEOUT:
             return None
         _done(status)
@@ -121,6 +192,44 @@ class Process:
 
     def alloc(self, size):
         return self._call(ALLOC, operand=size)
+
+    def calloc(self, size):
+        """A block whose bytes are 0."""
+        return self._sure(_lib.ivy_calloc(self._at, size))
+
+    def alloc_aligned(self, size, alignment):
+        """A block at a multiple of a power of two, as of the size of a page, that free_aligned frees."""
+        return self._sure(_lib.ivy_alloc_aligned(self._at, size, alignment))
+
+    def free_aligned(self, address):
+        _lib.ivy_free_aligned(self._at, address)
+        self._sure(None)
+
+    def _sure(self, value):
+        """What a function gives that keeps a failure."""
+        status = _lib.ivy_error(self._at)
+        if status != DONE:
+            _lib.ivy_forget(self._at)
+            raise Refused(status)
+        return value
+
+    def give_root(self, root, number):
+        """Gives all nodes a number under a root, as the address of a block."""
+        _done(_lib.ivy_give_root(self._at, root, number))
+
+    def root(self, root, seconds=None):
+        """The number that a root was given, or None where the time is over before."""
+        return self._within_time(_lib.ivy_root_for, root, _microseconds(seconds))
+
+    def page_of(self, address):
+        return _lib.ivy_page_of(self._at, address)
+
+    def is_here(self, address):
+        """Whether the word can be read at once, since its page is here."""
+        return bool(_lib.ivy_is_here(self._at, address))
+
+    def counts(self):
+        return _lib.ivy_counts_of(self._at)
 
     def free(self, address):
         self._call(FREE, address)
@@ -143,6 +252,63 @@ class Process:
 
     def add_double(self, address, addend):
         """Adds to a number of 8 bytes with a point in one step: what it was."""
-        was = _lib.ivy_add_double(self._at, address, addend)
-        _done(_lib.ivy_error(self._at))
-        return was
+        return self._sure(_lib.ivy_add_double(self._at, address, addend))
+
+    def get_array(self, address, shape, dtype=float):
+        """An array of numpy, as it was put."""
+        import numpy
+
+        found = numpy.empty(shape, dtype)
+        self.get_into(address, found)
+        return found
+
+    def put_array(self, address, array):
+        """Puts the numbers of an array of numpy, row by row."""
+        import numpy
+
+        self.put(address, numpy.ascontiguousarray(array))
+
+    def barrier(self, count, nodes=None):
+        """A barrier of so many nodes, or of all."""
+        return Barrier(self, count, nodes or self.nodes)
+
+    @contextmanager
+    def lock(self, address, seconds=None):
+        """Holds the lock in a word, which is 0 where it is free. Where the time is over before it raises TimeoutError."""
+        word = _Word(address)
+        if not _lib.ivy_lock_acquire_for(self._at, word, _microseconds(seconds)):
+            _done(_lib.ivy_error(self._at))
+            raise TimeoutError
+        with self._leaving(_lib.ivy_lock_release, word):
+            yield
+
+    @contextmanager
+    def ticket_lock(self, next_ticket, turn):
+        """Holds the lock whose next ticket is in a word and whose turn is a count: the ticket."""
+        tickets = _Tickets(next_ticket, turn)
+        ticket = self._sure(_lib.ivy_ticket_lock_acquire(self._at, tickets))
+        with self._leaving(_lib.ivy_ticket_lock_release, tickets):
+            yield ticket
+
+    @contextmanager
+    def reading(self, address):
+        """Is inside a lock for readers, with other readers."""
+        word = _Word(address)
+        _done(_lib.ivy_readers_lock_read(self._at, word))
+        with self._leaving(_lib.ivy_readers_lock_leave_read, word):
+            yield
+
+    @contextmanager
+    def writing(self, address):
+        """Is inside a lock for readers, alone."""
+        word = _Word(address)
+        _done(_lib.ivy_readers_lock_write(self._at, word))
+        with self._leaving(_lib.ivy_readers_lock_leave_write, word):
+            yield
+
+    @contextmanager
+    def _leaving(self, leave, lock):
+        try:
+            yield
+        finally:
+            _done(leave(self._at, lock))

@@ -34,10 +34,14 @@ static uint32_t kept_many;
 static int keeps;
 static pthread_mutex_t keeping = PTHREAD_MUTEX_INITIALIZER;
 
+/* From now on all is lost that comes to a node, or goes from it. */
+static inline void channel_cut(uint32_t me) { __atomic_store_n(&channels[me].is_cut, 1, __ATOMIC_RELAXED); }
+static inline int channel_is_cut(const channel *c) { return __atomic_load_n(&c->is_cut, __ATOMIC_RELAXED); }
+
 static inline void channel_put(uint32_t to, const uint8_t *bytes, size_t len) {
   channel *c = &channels[to];
   pthread_mutex_lock(&c->lock);
-  if (!c->is_cut && c->many < WAITING) {
+  if (!channel_is_cut(c) && c->many < WAITING) {
     channel_string *place = &c->waiting[(c->first + c->many++) % WAITING];
     memcpy(place->bytes, bytes, len);
     place->len = len;
@@ -58,7 +62,7 @@ static inline void channel_send(void *state, uint32_t to, size_t len) {
     kept[kept_many++].to = to;
   }
   pthread_mutex_unlock(&keeping);
-  if (!c->is_cut) channel_put(to, c->room, len);
+  if (!channel_is_cut(c)) channel_put(to, c->room, len);
 }
 
 static inline const uint8_t *channel_receive(void *state, size_t *len, long wait_us) {
@@ -125,6 +129,9 @@ static inline void *channel_run(void *argument) {
   return NULL;
 }
 
+/* What is done once the channels are open, and before the nodes are there. */
+static void (*channel_opened)(void);
+
 /* Runs two nodes until both are done. */
 static inline void channel_run_two(ivy_progress progress, long death_ms, void (*first)(ivy_process *, uint32_t),
                                    void (*second)(ivy_process *, uint32_t)) {
@@ -138,6 +145,7 @@ static inline void channel_run_two(ivy_progress progress, long death_ms, void (*
     nodes[i].work = i ? second : first;
     nodes[i].transport = channel_open(i);
   }
+  if (channel_opened) channel_opened();
   for (uint32_t i = 0; i < 2; i++) pthread_create(&nodes[i].thread, NULL, channel_run, &nodes[i]);
   for (uint32_t i = 0; i < 2; i++) pthread_join(nodes[i].thread, NULL);
 }

@@ -69,7 +69,7 @@ static void count_death(void *context, uint32_t node) {
 
 static void die(ivy_process *ivy, uint32_t me) {
   ivy_fetch_add(ivy, 8, PAGE, 1);
-  channels[me].is_cut = 1;
+  channel_cut(me);
   ivy_await(ivy, 5, 1); /* hears nobody, and thinks that the other is dead */
 }
 

@@ -4,7 +4,7 @@ use std::fmt;
 
 mod process;
 
-pub use process::{Guard, Number, Process};
+pub use process::{Barrier, Counts, Guard, Number, Process};
 
 mod header {
     #[repr(C)]

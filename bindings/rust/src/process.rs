@@ -1,4 +1,4 @@
-//! A process of a program that `ivyrun` starts: a safe wrapper of `ivy_runtime.h` and `ivy_native.h`.
+//! A process of a program that `ivyrun` starts: a safe wrapper of `ivy_runtime.h`, `ivy_native.h` and `ivy_sync.h`.
 use crate::{Call, Manager, Status};
 use std::ffi::{c_char, c_int, c_long, c_void};
 use std::mem::{forget, size_of};
@@ -14,6 +14,46 @@ struct Config {
     pages: u32,
     page_size: u32,
     manager: u32,
+}
+
+/// A lock in a word, or one for readers.
+#[repr(C)]
+#[derive(Clone, Copy)]
+struct Word {
+    address: u64,
+}
+
+#[repr(C)]
+#[derive(Clone, Copy)]
+struct Tickets {
+    next: u64,
+    turn: u64,
+}
+
+#[repr(C)]
+struct Meeting {
+    count: u64,
+    nodes: u32,
+    passed: u64,
+}
+
+#[repr(C)]
+struct Pieces {
+    address: u64,
+    barrier: *mut Meeting,
+}
+
+/// What a process has done, as `ivy_runtime.h` says.
+#[repr(C)]
+#[derive(Clone, Copy, Debug, PartialEq, Eq)]
+pub struct Counts {
+    pub calls: u64,
+    pub hits: u64,
+    pub misses: u64,
+    pub waits: u64,
+    pub sent: u64,
+    pub again: u64,
+    pub heard: u64,
 }
 
 unsafe extern "C" {
@@ -39,6 +79,27 @@ unsafe extern "C" {
     fn ivy_await_for(process: *mut c_void, count: u64, least: u64, wait_us: c_long, value: *mut u64) -> u32;
     fn ivy_get(process: *mut c_void, address: u64, into: *mut c_void, len: usize) -> u32;
     fn ivy_put(process: *mut c_void, address: u64, from: *const c_void, len: usize) -> u32;
+    fn ivy_counts_of(process: *mut c_void) -> Counts;
+    fn ivy_error(process: *mut c_void) -> u32;
+    fn ivy_give_root(process: *mut c_void, root: u32, number: u64) -> u32;
+    fn ivy_root_for(process: *mut c_void, root: u32, wait_us: c_long, number: *mut u64) -> u32;
+    fn ivy_lock_acquire_for(process: *mut c_void, lock: Word, wait_us: c_long) -> c_int;
+    fn ivy_lock_release(process: *mut c_void, lock: Word) -> u32;
+    fn ivy_ticket_lock_acquire(process: *mut c_void, lock: Tickets) -> u64;
+    fn ivy_ticket_lock_release(process: *mut c_void, lock: Tickets) -> u32;
+    fn ivy_readers_lock_read(process: *mut c_void, lock: Word) -> u32;
+    fn ivy_readers_lock_leave_read(process: *mut c_void, lock: Word) -> u32;
+    fn ivy_readers_lock_write(process: *mut c_void, lock: Word) -> u32;
+    fn ivy_readers_lock_leave_write(process: *mut c_void, lock: Word) -> u32;
+    fn ivy_barrier_wait(process: *mut c_void, barrier: *mut Meeting) -> u32;
+    fn ivy_gather(
+        process: *mut c_void,
+        pieces: *const Pieces,
+        me: u32,
+        piece: *const c_void,
+        len: usize,
+        all: *mut c_void,
+    ) -> u32;
 }
 
 mod sealed {
@@ -62,6 +123,11 @@ pub struct Process {
 // The library's calls of one process wait for each other.
 unsafe impl Send for Process {}
 unsafe impl Sync for Process {}
+
+/// A time as the library has it: without one it waits without an end.
+fn microseconds(time: Option<Duration>) -> c_long {
+    time.map_or(-1, |it| c_long::try_from(it.as_micros()).unwrap_or(c_long::MAX / 2))
+}
 
 fn done(status: u32) -> Result<(), Status> {
     if status == DONE { Ok(()) } else { Err(Status(status)) }
@@ -101,12 +167,30 @@ impl Process {
 
     /// Waits until a count is at least so much: the count, or nothing where the time is over before.
     pub fn wait(&self, count: u64, least: u64, time: Option<Duration>) -> Result<Option<u64>, Status> {
-        let wait_us = time.map_or(-1, |it| c_long::try_from(it.as_micros()).unwrap_or(c_long::MAX / 2));
         let mut value = 0;
-        match unsafe { ivy_await_for(self.at, count, least, wait_us, &mut value) } {
+        match unsafe { ivy_await_for(self.at, count, least, microseconds(time), &mut value) } {
             TIMEOUT => Ok(None),
             status => done(status).map(|()| Some(value)),
         }
+    }
+
+    /// Gives all nodes a number under a root, as the address of a block.
+    pub fn give_root(&self, root: u32, number: u64) -> Result<(), Status> {
+        done(unsafe { ivy_give_root(self.at, root, number) })
+    }
+
+    /// The number that a root was given, or nothing where the time is over before.
+    pub fn root(&self, root: u32, time: Option<Duration>) -> Result<Option<u64>, Status> {
+        let mut number = 0;
+        match unsafe { ivy_root_for(self.at, root, microseconds(time), &mut number) } {
+            TIMEOUT => Ok(None),
+            status => done(status).map(|()| Some(number)),
+        }
+    }
+
+    /// What the process has done.
+    pub fn counts(&self) -> Counts {
+        unsafe { ivy_counts_of(self.at) }
     }
 
     /// Numbers from an address on.
@@ -136,7 +220,45 @@ impl Process {
     /// Takes the lock in a word of 8 bytes, which is 0 where it is free: it is held until the guard goes.
     pub fn lock(&self, address: u64) -> Result<Guard<'_>, Status> {
         while self.call(Call::Swap { width: 8, address, value: 1 })? != 0 {}
-        Ok(Guard { process: self, address })
+        Ok(self.guard(Held::Lock(Word { address })))
+    }
+
+    /// The same, or nothing where the time is over before.
+    pub fn lock_for(&self, address: u64, time: Duration) -> Result<Option<Guard<'_>>, Status> {
+        let word = Word { address };
+        if unsafe { ivy_lock_acquire_for(self.at, word, microseconds(Some(time))) } == 1 {
+            return Ok(Some(self.guard(Held::Lock(word))));
+        }
+        done(unsafe { ivy_error(self.at) }).map(|()| None)
+    }
+
+    /// Takes the lock whose next ticket is in a word and whose turn is a count.
+    pub fn ticket_lock(&self, next: u64, turn: u64) -> Result<Guard<'_>, Status> {
+        let tickets = Tickets { next, turn };
+        unsafe { ivy_ticket_lock_acquire(self.at, tickets) };
+        done(unsafe { ivy_error(self.at) })?;
+        Ok(self.guard(Held::Tickets(tickets)))
+    }
+
+    /// Enters a lock for readers, with other readers.
+    pub fn read(&self, address: u64) -> Result<Guard<'_>, Status> {
+        done(unsafe { ivy_readers_lock_read(self.at, Word { address }) })?;
+        Ok(self.guard(Held::Read(Word { address })))
+    }
+
+    /// Enters a lock for readers, alone.
+    pub fn write(&self, address: u64) -> Result<Guard<'_>, Status> {
+        done(unsafe { ivy_readers_lock_write(self.at, Word { address }) })?;
+        Ok(self.guard(Held::Write(Word { address })))
+    }
+
+    fn guard(&self, held: Held) -> Guard<'_> {
+        Guard { process: self, held }
+    }
+
+    /// A barrier of so many nodes, by a count that is 0 at first.
+    pub fn barrier(&self, count: u64, nodes: u32) -> Barrier<'_> {
+        Barrier { process: self, meeting: Meeting { count, nodes, passed: 0 } }
     }
 
     /// Serves the others until all leave.
@@ -156,15 +278,51 @@ impl Drop for Process {
     }
 }
 
-/// A lock that is held.
+enum Held {
+    Lock(Word),
+    Tickets(Tickets),
+    Read(Word),
+    Write(Word),
+}
+
+/// A lock that is held, until this goes.
 pub struct Guard<'p> {
     process: &'p Process,
-    address: u64,
+    held: Held,
 }
 
 impl Drop for Guard<'_> {
     fn drop(&mut self) {
+        let at = self.process.at;
         // After a failure nobody gets a lock any more.
-        let _ = self.process.call(Call::Store { width: 8, address: self.address, value: 0 });
+        let _ = match self.held {
+            Held::Lock(word) => unsafe { ivy_lock_release(at, word) },
+            Held::Tickets(tickets) => unsafe { ivy_ticket_lock_release(at, tickets) },
+            Held::Read(word) => unsafe { ivy_readers_lock_leave_read(at, word) },
+            Held::Write(word) => unsafe { ivy_readers_lock_leave_write(at, word) },
+        };
+    }
+}
+
+/// So many nodes meet, over and over: each has one of its own for it.
+pub struct Barrier<'p> {
+    process: &'p Process,
+    meeting: Meeting,
+}
+
+impl Barrier<'_> {
+    /// Waits for the others.
+    pub fn wait(&mut self) -> Result<(), Status> {
+        done(unsafe { ivy_barrier_wait(self.process.at, &mut self.meeting) })
+    }
+
+    /// The numbers of all nodes, in the order of their places, each as many as these: at the address is room for all. Before
+    /// they are given again all have to meet once more.
+    pub fn gather<T: Number>(&mut self, address: u64, place: u32, own: &[T]) -> Result<Vec<T>, Status> {
+        let mut all = vec![T::default(); own.len() * self.meeting.nodes as usize];
+        let pieces = Pieces { address, barrier: &mut self.meeting };
+        let (at, bytes) = (self.process.at, size_of::<T>() * own.len());
+        done(unsafe { ivy_gather(at, &pieces, place, own.as_ptr().cast(), bytes, all.as_mut_ptr().cast()) })?;
+        Ok(all)
     }
 }
