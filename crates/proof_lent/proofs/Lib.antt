@@ -5,3 +5,4 @@ pub mod Once
 pub mod Members
 pub mod WordCalls
 pub mod LentWorlds
+pub mod Numbers

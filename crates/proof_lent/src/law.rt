@@ -1,6 +1,7 @@
 //! The law of accesses by pointers to pages that are lent.
 ghost use Rattle.proof_lent.specs.Lent.{MappedAccessesAreFlat};
 ghost use Rattle.proof_lent.specs.LentWorlds.{LentPagesAreFlat};
+ghost use Rattle.proof_lent.specs.Numbers.{NumbersAreTurned};
 
 /// What programs call and what they do by pointers with pages that are lent to them are of one flat memory, in the
 /// order in which they made it. This is a fact, and the call does nothing.
@@ -28,4 +29,13 @@ pub fn mapped_accesses_are_flat()
 /// write, and stands in the node when such a page is given back; and that a program accesses what is lent to it.
 pub fn lent_pages_are_flat()
     ensures { LentPagesAreFlat }
+{}
+
+/// An access by a pointer to an aligned number is a call on a word. This is a fact, and the call does nothing.
+///
+/// On a machine that stores the low byte first, an aligned load of 1, 2, 4 or 8 bytes is a `Load` of that width, a store
+/// a `Store`, and an atomic operation that writes a `Swap` by what it wrote, each of the numbers with their bytes turned
+/// round. One that does not write is a load.
+pub fn numbers_are_turned()
+    ensures { NumbersAreTurned }
 {}

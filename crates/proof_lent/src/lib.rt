@@ -5,4 +5,4 @@
 
 mod law;
 
-pub use law::{lent_pages_are_flat, mapped_accesses_are_flat};
+pub use law::{lent_pages_are_flat, mapped_accesses_are_flat, numbers_are_turned};
