@@ -1,5 +1,6 @@
 /* What bindings_mpi.c and bindings_udp.c share: a read miss and a page handed over between two processes, node 0 and node 1,
- * by turns with the same bytes sent without Ivy. What is told is the median of all rounds. */
+ * by turns with the same bytes sent without Ivy. What is told is the median of all, and that of the quietest round, since the
+ * machine may do other work. */
 #ifndef BINDINGS_PACE_H
 #define BINDINGS_PACE_H
 #include "ivy_runtime.h"
@@ -44,9 +45,20 @@ static int compare(const void *a, const void *b) {
   return x < y ? -1 : x > y;
 }
 
-static double median(samples *s) {
-  qsort(s->took, (size_t)s->many, sizeof s->took[0], compare);
-  return s->took[s->many / 2];
+static double median_of(double *took, int many) {
+  qsort(took, (size_t)many, sizeof took[0], compare);
+  return took[many / 2];
+}
+
+/* The least median of a round: each has as many samples. */
+static double quietest(samples *s) {
+  int many = s->many / ROUNDS;
+  double least = 1e9;
+  for (int i = 0; i < ROUNDS; i++) {
+    double its = median_of(s->took + i * many, many);
+    if (its < least) least = its;
+  }
+  return least;
 }
 
 static void wrong(const char *what) {
@@ -108,8 +120,10 @@ static void plain(int me, size_t out, size_t back, double part, samples *s, void
 }
 
 static void tell(const char *by, uint32_t page, const char *what, samples *ours, const char *beside, samples *plainly) {
-  double own = median(ours), other = median(plainly);
-  printf("%s, pages of %u: %s %.2f us, %s %.2f, ratio %.2f\n", by, page, what, own, beside, other, own / other);
+  double own_least = quietest(ours), other_least = quietest(plainly); /* before the rounds are put together */
+  double own = median_of(ours->took, ours->many), other = median_of(plainly->took, plainly->many);
+  printf("%s, pages of %u: %s %.2f us, %s %.2f, ratio %.2f; in the quietest rounds %.2f, %.2f, ratio %.2f\n", by, page, what,
+         own, beside, other, own / other, own_least, other_least, own_least / other_least);
 }
 
 /* What node 1 found. */
