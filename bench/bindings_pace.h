@@ -1,5 +1,6 @@
 /* What bindings_mpi.c and bindings_udp.c share: a read miss and a page handed over between two processes, node 0 and node 1,
- * by turns with the same bytes sent without Ivy. What is told is the median of all rounds. */
+ * by turns with the same bytes sent without Ivy. What is told are medians of all, and the ratios of the medians of each round,
+ * since the machine may do other work. */
 #ifndef BINDINGS_PACE_H
 #define BINDINGS_PACE_H
 #include "ivy_runtime.h"
@@ -44,9 +45,20 @@ static int compare(const void *a, const void *b) {
   return x < y ? -1 : x > y;
 }
 
-static double median(samples *s) {
-  qsort(s->took, (size_t)s->many, sizeof s->took[0], compare);
-  return s->took[s->many / 2];
+static double median_of(double *took, int many) {
+  qsort(took, (size_t)many, sizeof took[0], compare);
+  return took[many / 2];
+}
+
+/* The least and the greatest ratio of the medians of a round: each has as many samples. */
+static void find_ratios(samples *ours, samples *plainly, double *least, double *most) {
+  int own = ours->many / ROUNDS, other = plainly->many / ROUNDS;
+  *least = 1e9, *most = 0;
+  for (int i = 0; i < ROUNDS; i++) {
+    double its = median_of(ours->took + i * own, own) / median_of(plainly->took + i * other, other);
+    if (its < *least) *least = its;
+    if (its > *most) *most = its;
+  }
 }
 
 static void wrong(const char *what) {
@@ -108,8 +120,11 @@ static void plain(int me, size_t out, size_t back, double part, samples *s, void
 }
 
 static void tell(const char *by, uint32_t page, const char *what, samples *ours, const char *beside, samples *plainly) {
-  double own = median(ours), other = median(plainly);
-  printf("%s, pages of %u: %s %.2f us, %s %.2f, ratio %.2f\n", by, page, what, own, beside, other, own / other);
+  double least, most;
+  find_ratios(ours, plainly, &least, &most); /* before the rounds are put together */
+  double own = median_of(ours->took, ours->many), other = median_of(plainly->took, plainly->many);
+  printf("%s, pages of %u: %s %.2f us, %s %.2f, ratio %.2f, of rounds %.2f to %.2f\n", by, page, what, own, beside, other,
+         own / other, least, most);
 }
 
 /* What node 1 found. */

@@ -92,6 +92,7 @@ struct ivy_process {
   int waits, sleepers;     /* so many calls wait; so many threads sleep until something changes */
   int in_call;             /* a call of another thread of the program is in progress */
   int shared;              /* several threads of the program make calls */
+  int has_more;            /* a call that is over at once has more to do: there is a log, or it is shared */
   uint32_t served, changes; /* calls looked after their peers so often; so often something changed here */
   int knocks;              /* the thread has a string, and waits for the lock */
   ivy_process *next;       /* another one in this program */

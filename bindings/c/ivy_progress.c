@@ -13,6 +13,9 @@ enum { TICK_US = 1000, PULSE_US = 2000, MOST_GAP_US = 64000, SPEAK_US = 20000 };
 enum { LOOK_US = 200, THREAD_LOOK_US = 20, LOOKS = 16, IDLE_US = 100000 };
 enum { LISTEN_US = 500, IDLE_LISTEN_US = 10000, NAP_US = 200, IDLE_NAP_US = 2000 };
 
+/* Calls that do not wait serve at each 64th, but no sooner after the last look at the clock. */
+enum { BETWEEN_US = 4 };
+
 /* Who finds the thread at the door lets it in, and looks at most so often whether it is. */
 enum { LETS = 1000 };
 
@@ -220,6 +223,6 @@ uint32_t ivy_in_enter_slowly(ivy_process *p) {
   while (p->in_call && !p->error) sleep_on(p, 0);
   if (p->error) return p->error;
   p->served++;
-  if (!p->receiving) serve(p, 0, MANY, 0);
+  if (!p->receiving && ivy_in_now() - p->now >= BETWEEN_US) serve(p, 0, MANY, 0);
   return p->error;
 }

@@ -86,7 +86,7 @@ void ivy_on_death(ivy_process *p, void (*on_death)(void *context, uint32_t node)
 
 void ivy_use_threads(ivy_process *p) {
   ivy_in_lock(p);
-  p->shared = 1;
+  p->shared = p->has_more = 1;
   ivy_in_unlock(p);
 }
 
@@ -167,7 +167,7 @@ static void end(ivy_process *p) {
 
 uint32_t ivy_in_join(const ivy_start *start, int owns_log, int has_roots, ivy_process **process) {
   ivy_process *p = (ivy_process *)calloc(1, sizeof *p);
-  if (p) p->log = start->log, p->owns_log = owns_log && p->log;
+  if (p) p->log = start->log, p->has_more = p->log != NULL, p->owns_log = owns_log && p->log;
   uint32_t status = p ? set_up(p, start) : (uint32_t)IVY_MEMORY;
   *process = NULL;
   if (status == IVY_DONE) {
@@ -273,14 +273,19 @@ static uint32_t go_on(ivy_process *p, const call *c, uint32_t status, uint64_t *
 
 uint32_t ivy_in_call(ivy_process *p, const call *c, uint64_t *value) {
   uint32_t status = begin(p, c, value);
-  return status < 256 && !p->log && !p->shared ? status : go_on(p, c, status, value);
+  return status < 256 && !p->has_more ? status : go_on(p, c, status, value);
 }
 
-static inline uint32_t make_call(ivy_process *p, const call *c, uint64_t *value) {
+/* It is put in place where the kind is known, since most calls are over at once. */
+__attribute__((always_inline)) static inline uint32_t make_call(ivy_process *p, const call *c, uint64_t *value) {
   uint32_t status = ivy_in_enter(p);
   if (status == IVY_DONE) {
     status = begin(p, c, value);
-    if (status >= 256 || p->log || p->shared) status = go_on(p, c, status, value);
+    if (status == IVY_DONE && !p->has_more) {
+      ivy_in_unlock(p);
+      return status;
+    }
+    if (status >= 256 || p->has_more) status = go_on(p, c, status, value);
   }
   ivy_in_leave(p);
   return status;
@@ -353,7 +358,8 @@ void ivy_in_refuse(ivy_process *p, uint32_t kind, uint64_t place, uint32_t statu
   ivy_in_leave(p);
 }
 
-static uint64_t sure(ivy_process *p, uint32_t kind, uint32_t width, uint64_t place, uint64_t operand, uint64_t expected) {
+__attribute__((always_inline)) static inline uint64_t sure(ivy_process *p, uint32_t kind, uint32_t width, uint64_t place,
+                                                           uint64_t operand, uint64_t expected) {
   const call c = { kind, width, place, operand, expected };
   uint64_t value = 0;
   uint32_t status = make_call(p, &c, &value);

@@ -1,5 +1,7 @@
 /* Strings over UDP, with loss, repeats and late ones drawn for tests. Not proved. */
-#define _POSIX_C_SOURCE 200809L
+#ifndef _GNU_SOURCE
+#define _GNU_SOURCE
+#endif
 #include "ivy_inside.h"
 #include <arpa/inet.h>
 #include <errno.h>
@@ -9,6 +11,7 @@
 #include <stdlib.h>
 #include <string.h>
 #include <sys/socket.h>
+#include <time.h>
 #include <unistd.h>
 
 enum { MOST_PORT = 65535, BUFFER = 1 << 21, MOST_HOST = 256 };
@@ -20,6 +23,7 @@ typedef struct {
   int socket;
   uint32_t nodes;
   unsigned lost, twice, late;
+  int is_drawn; /* what becomes of a string */
   uint64_t seed;
   place places[MOST_NODES];
   uint8_t sent[IVY_STRING_MOST], came[IVY_STRING_MOST + 1];
@@ -50,6 +54,10 @@ static uint8_t *udp_room(void *state) {
 
 static void udp_send(void *state, uint32_t to, size_t len) {
   udp *u = (udp *)state;
+  if (!u->is_drawn) {
+    put(u, to, u->sent, len);
+    return;
+  }
   if (draw(u) < u->lost) return;
   if (!u->held_len && draw(u) < u->late) {
     memcpy(u->held, u->sent, len);
@@ -88,7 +96,8 @@ static const uint8_t *udp_receive(void *state, size_t *len, long wait_us) {
   udp *u = (udp *)state;
   const uint8_t *bytes = take(u, len);
   struct pollfd one = { u->socket, POLLIN, 0 };
-  if (!bytes && wait_us && poll(&one, 1, (int)((wait_us + 999) / 1000)) > 0) bytes = take(u, len);
+  const struct timespec time = { wait_us / 1000000, wait_us % 1000000 * 1000 };
+  if (!bytes && wait_us && ppoll(&one, 1, &time, NULL) > 0) bytes = take(u, len);
   return bytes;
 }
 
@@ -145,6 +154,7 @@ static udp *new_udp(uint32_t nodes, unsigned lost, unsigned twice, unsigned late
   u->lost = lost;
   u->twice = twice;
   u->late = late;
+  u->is_drawn = lost || twice || late;
   return u;
 }
 
