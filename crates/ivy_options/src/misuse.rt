@@ -119,7 +119,11 @@ impl<'a> Misuse<'a> {
                 write!(f, "`{command}` has no option `{}`", Shown(word))
             }
             Misuse::UnknownManager { word, .. } => {
-                write!(f, "a manager is `fixed` or `dynamic`, and not `{}`", Shown(word))
+                write!(
+                    f,
+                    "a manager is `fixed` or `dynamic`, and not `{}`",
+                    Shown(word)
+                )
             }
             Misuse::Lacks { name, what } => write!(f, "`{name}` lacks its {what}"),
             Misuse::FurtherFile { command, word } => {

@@ -171,25 +171,30 @@ numbers_are_turned c config old new node page offset width wide even = (
       let same : ◌≡◌ {A = Memory} new old =
       (λ k. record { bytes = a.does.1 k; counts = a.counts k; blocks = a.blocks k }) in
       served c config page offset width wide even a.inside.heap a.inside.page within old new act.Load
-      (Value (turned width n))
-      (ap Value (sym (stands c config page offset width
-      wide even a.inside.heap a.inside.page within old n a.does.0)), same)),
+      (Value (turned width n)) (
+        ap Value (sym (stands c config page offset width
+            wide even a.inside.heap a.inside.page within old n a.does.0)),
+        same,
+      )),
   λ n a.
       (let fits = length-bytes_low_first 0 width n in
       let within : offset + width ≤ c.page_size = (let w = a.inside.within in omega (arith, w, fits)) in
       served c config page offset width wide even a.inside.heap a.inside.page within old new
-      (act.Store (turned width n)) Done
-      (refl, put c config page offset width wide even a.inside.heap a.inside.page within old new n a.does
-      a.counts a.blocks)),
+      (act.Store (turned width n)) Done (
+        refl,
+        put c config page offset width wide even a.inside.heap a.inside.page within old new n a.does
+            a.counts a.blocks,
+      )),
   λ n m a.
       (let fits = length-bytes_low_first 0 width n in
       let within : offset + width ≤ c.page_size =
       (let w = a.inside.within.0 in omega (arith, w, fits)) in
       served c config page offset width wide even a.inside.heap a.inside.page within old new
       (act.Swap (turned width m))
-      (Value (turned width n))
-      (ap Value (sym (stands c config page offset width
-      wide even a.inside.heap a.inside.page within old n a.does.0)),
-      put c config page offset width wide even a.inside.heap a.inside.page within old new m a.does.1
-      a.counts a.blocks)),
+      (Value (turned width n)) (
+        ap Value (sym (stands c config page offset width
+            wide even a.inside.heap a.inside.page within old n a.does.0)),
+        put c config page offset width wide even a.inside.heap a.inside.page within old new m a.does.1
+            a.counts a.blocks,
+      )),
 )
