@@ -1,10 +1,10 @@
 -- Numbers whose bytes are turned round.
-use Rattle.std.proofs.Common.{◌≡◌, ℕ, zero, suc, ◌+◌, ◌-◌, ◌*◌, ◌/◌, ◌%◌, ◌^◌, ◌<◌, ◌≤◌, Bool, true, false, List, [], ◌∷◌, ◌++◌, length, take, drop, Option, Some, None, refl, sym, ap, subst, ◌∙◌, arith, nat_lt, ◌==◌, if◌then◌else◌}
+use Rattle.std.proofs.Common.{◌≡◌, ℕ, zero, suc, ◌+◌, ◌-◌, ◌*◌, ◌/◌, ◌%◌, ◌^◌, ◌<◌, ◌≤◌, List, [], ◌∷◌, length, take, drop, Some, None, refl, sym, ap, subst, ◌∙◌, arith, nat_lt, if◌then◌else◌}
 use Rattle.std.specs.Prelude.{MatchOption}
 use Rattle.std.proofs.lemmas.Bool.{eq-eqb, lt-ltb, le-ltb}
 use Rattle.std.proofs.lemmas.List.{append-nil}
 use Rattle.std.proofs.lemmas.List.Elements.{All-contains, All-from_recursion}
-use Rattle.std.proofs.Math.Nat.{mod-eq_of_lt, one-le-pow, pow-suc}
+use Rattle.std.proofs.Math.Nat.{mod-eq_of_lt, pow-suc}
 use Rattle.std.proofs.lemmas.Nat.{div-mul-add, mod_below, mul-le}
 use Rattle.std.specs.Int.{byte_at, bytes_high_first, bytes_low_first}
 use Rattle.byteorder.specs.Endian.{big_from, big_number, big_bytes, little_bytes}
@@ -17,9 +17,9 @@ use Rattle.ivy_model.specs.declared.Reply.TheVariants.{Value, Done}
 use Rattle.ivy_model.specs.stated.Config.{IsConfig, heap_end}
 use Rattle.ivy_model.specs.stated.Legal.{IsWidth}
 use Rattle.ivy_model.specs.stated.Memory.{Memory}
-use Rattle.ivy_model.specs.stated.Serves.{ServesKind, Accesses as MakesAccess, Refuses, access_refusal, number_in_word, overwrite}
+use Rattle.ivy_model.specs.stated.Serves.{Accesses as MakesAccess, Refuses, access_refusal, number_in_word, overwrite}
 use Rattle.ivy_model.proofs.Limits.{page_has_words}
-use Rattle.proof_lent.specs.Lent.{Accesses, IsInside, StandAt}
+use Rattle.proof_lent.specs.Lent.{StandAt}
 use Rattle.proof_lent.specs.Numbers.{turned, NumbersAreTurned}
 
 -- each of these is a byte

@@ -9,7 +9,7 @@ use Rattle.ivy_model.specs.stated.Config.{IsConfig}
 use Rattle.ivy_model.specs.stated.Legal.{IsWidth}
 use Rattle.ivy_model.specs.stated.Memory.{Memory}
 use Rattle.ivy_model.specs.stated.Serves.{Serves}
-use Rattle.proof_lent.specs.Lent.{Access, Deed, Loads, Stores, Exchanges, Accesses}
+use Rattle.proof_lent.specs.Lent.{Deed, Loads, Stores, Exchanges, Accesses}
 
 -- the number whose bytes, so many, are those of this one the other way round
 abbrev pub turned : ℕ → ℕ → ℕ
