@@ -7,3 +7,4 @@ pub mod Texts
 pub mod Written
 pub mod ReadBack
 pub mod SpelledOnce
+pub mod Faulty

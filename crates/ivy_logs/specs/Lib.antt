@@ -3,3 +3,4 @@ pub mod Printed
 pub mod Entries
 pub mod Digits
 pub mod ReadBack
+pub mod Faults

@@ -1,12 +1,14 @@
 //! Logs: what a node in a process of its own did, one entry a line.
-ghost use Rattle.std.specs.Prelude.{◌≡◌, [], ◌∷◌, IfOk, IfErr, IfSome, map};
+ghost use Rattle.std.specs.Prelude.{◌≡◌, ◌<◌, ◌^◌, ℕ, [], ◌∷◌, IfOk, IfErr, IfNone, IfSome, map};
 ghost use Rattle.std.specs.List.{AllZip};
 ghost use Rattle.std.specs.Str.Lines.{lines};
 ghost use Rattle.ivy_program.specs.texts.Lines.{IsNumberWord};
-ghost use Rattle.ivy_program.specs.texts.Texts.{IsRefusal};
 ghost use Rattle.ivy_program.specs.texts.TextWords.{words_of};
 ghost use Rattle.ivy_texts.specs.Spelled.{worded, BeginsWith};
 ghost use Rattle.ivy_logs.specs.Entries.{SpellsIn, SpellsLog};
+ghost use Rattle.ivy_logs.specs.Faults.{IsFaultAmong, IsFaultOfLog, IsHead};
+ghost use Rattle.ivy_logs.specs.declared.log.LogHead.{LogHead};
+ghost use Rattle.ivy_model.specs.declared.Kind.{Kind};
 ghost use Rattle.ivy_logs.specs.Spelled.{kind_word, log_word, HasWholeLines, SpellsHead, SpellsNode};
 
 use crate::entry::{LogEntry, parse_entry};
@@ -61,14 +63,16 @@ pub struct Log<A: Allocator> {
 
 /// A number of four bytes.
 fn parse_size(word: &str) -> Option<u32>
-    ensures { IfSome result (IsNumberWord word.now) }
+    ensures number { IfSome result (IsNumberWord word.now) }
+    ensures none { IfNone result ((n : ℕ) → n < 2 ^ 32 → ¬ IsNumberWord word.now n) }
 {
     u32::try_from(parse_number(word)?).ok()
 }
 
 /// How the owner of a page is found, by its word.
 fn parse_kind(word: &str) -> Option<Kind>
-    ensures { IfSome result (λ kind. word.now ≡ kind_word kind) }
+    ensures kind { IfSome result (λ kind. word.now ≡ kind_word kind) }
+    ensures none { IfNone result ((kind : Kind) → ¬ (word.now ≡ kind_word kind)) }
 {
     match word {
         "fixed" => Some(Kind::Fixed),
@@ -79,7 +83,8 @@ fn parse_kind(word: &str) -> Option<Kind>
 
 /// What these words say, of a node's number and of a configuration.
 fn node_of(me: &str, nodes: &str, pages: &str, page_size: &str, manager: &str) -> Option<LogHead>
-    ensures { IfSome result (SpellsNode (me.now ∷ nodes.now ∷ pages.now ∷ page_size.now ∷ manager.now ∷ [])) }
+    ensures spelled { IfSome result (SpellsNode (me.now ∷ nodes.now ∷ pages.now ∷ page_size.now ∷ manager.now ∷ [])) }
+    ensures none { IfNone result ((h : LogHead) → IsHead h → ¬ SpellsNode (me.now ∷ nodes.now ∷ pages.now ∷ page_size.now ∷ manager.now ∷ []) h) }
 {
     Some(LogHead {
         me: parse_byte(me)?,
@@ -94,7 +99,8 @@ fn node_of(me: &str, nodes: &str, pages: &str, page_size: &str, manager: &str) -
 
 /// What words say of a node's number and of a configuration.
 fn parse_node(words: &[&str]) -> Option<LogHead>
-    ensures { IfSome result (SpellsNode (map (λ w. w.now) words.now)) }
+    ensures spelled { IfSome result (SpellsNode (map (λ w. w.now) words.now)) }
+    ensures none { IfNone result ((h : LogHead) → IsHead h → ¬ SpellsNode (map (λ w. w.now) words.now) h) }
 {
     match *words {
         [me, nodes, pages, page_size, manager] => node_of(me, nodes, pages, page_size, manager),
@@ -104,7 +110,8 @@ fn parse_node(words: &[&str]) -> Option<LogHead>
 
 /// What words say, where the first is the one of this kind and the others are a node's.
 fn parse_named(kind: LogKind, words: &[&str]) -> Option<LogHead>
-    ensures { IfSome result (λ h. BeginsWith (log_word kind) (λ rest. SpellsNode rest h) (map (λ w. w.now) words.now)) }
+    ensures spelled { IfSome result (λ h. BeginsWith (log_word kind) (λ rest. SpellsNode rest h) (map (λ w. w.now) words.now)) }
+    ensures none { IfNone result ((h : LogHead) → IsHead h → ¬ BeginsWith (log_word kind) (λ rest. SpellsNode rest h) (map (λ w. w.now) words.now)) }
 {
     let (word, rest) = words.split_first()?;
     if *word != kind.word() {
@@ -115,7 +122,8 @@ fn parse_named(kind: LogKind, words: &[&str]) -> Option<LogHead>
 
 /// What the words of a first line say, where they are one of a log of this kind.
 fn parse_head(kind: LogKind, words: &[&str]) -> Option<LogHead>
-    ensures { IfSome result (SpellsHead kind (map (λ w. w.now) words.now)) }
+    ensures spelled { IfSome result (SpellsHead kind (map (λ w. w.now) words.now)) }
+    ensures none { IfNone result ((h : LogHead) → IsHead h → ¬ SpellsHead kind (map (λ w. w.now) words.now) h) }
 {
     match words.split_first() {
         Some((&"ivy", rest)) => parse_named(kind, rest),
@@ -125,7 +133,8 @@ fn parse_head(kind: LogKind, words: &[&str]) -> Option<LogHead>
 
 /// What the first line of a log of this kind says, or none where it is no such line.
 fn head_of(kind: LogKind, line: &str) -> Option<LogHead>
-    ensures { IfSome result (SpellsHead kind (words_of line.now)) }
+    ensures spelled { IfSome result (SpellsHead kind (words_of line.now)) }
+    ensures none { IfNone result ((h : LogHead) → IsHead h → ¬ SpellsHead kind (words_of line.now) h) }
 {
     let mut places = [""; MOST_WORDS];
     let count = few_words(line, &mut places)?;
@@ -149,12 +158,12 @@ fn parse_entries<A: Allocator + Copy>(
     text: &str,
 ) -> Result<(Vec<LogEntry<Bytes<A>>, A>, Vec<u64, A>), Fault>
     ensures entries { IfOk result (λ r. AllZip (SpellsIn kind) (worded (lines text.now)) r.0.items) }
-    ensures refused { IfErr result IsRefusal }
+    ensures refused { IfErr result (IsFaultAmong kind (lines text.now)) }
 {
     let mut entries = Vec::new(alloc);
     let mut numbers = Vec::new(alloc);
     for (before, line) in text.lines().enumerate() {
-        let number = (before as u64).saturating_add(2);
+        let number = before as u64 + 2;
         let mut places = [""; MOST_WORDS];
         let Some(count) = few_words(line, &mut places) else {
             return Err(Fault::ProgramFault(number));
@@ -177,7 +186,7 @@ fn parse_entries<A: Allocator + Copy>(
 /// 1 where a growth was refused, and 20 with the first line that is none of such a log, counted from 1.
 pub fn parse_log<A: Allocator + Copy>(alloc: A, kind: LogKind, text: &str) -> Result<Log<A>, Fault>
     ensures log { IfOk result (λ log. SpellsLog kind text.now log.head log.entries.items) }
-    ensures refused { IfErr result IsRefusal }
+    ensures refused { IfErr result (IsFaultOfLog kind text.now) }
 {
     let Some((first, rest)) = text.split_once('\n') else {
         return Err(Fault::ProgramFault(1));

@@ -1,14 +1,19 @@
 -- A line more says an entry more, or has no words.
-use Rattle.std.proofs.Common.{rules, ◌≡◌, ◌<◌, [], ◌∷◌, ◌++◌, length, map, take, subst, sym}
+use Rattle.std.proofs.Common.{rules, arith, ◌≡◌, ◌<◌, ◌∙◌, [], ◌∷◌, ◌++◌, length, map, take, refl, ap, subst, sym, inr}
 use Rattle.std.specs.List.{AllZip}
 use Rattle.std.specs.Str.Lines.{lines}
 use Rattle.std.proofs.lemmas.Iterator.Splits.{YieldsList-from_lines}
-use Rattle.std.proofs.lemmas.Iterator.Consumers.{YieldsList-from_enumerate, YieldsList-end}
+use Rattle.std.proofs.lemmas.Iterator.Consumers.{YieldsList-from_enumerate, YieldsList-end, YieldsList-so_far, YieldsList-turn}
+use Rattle.std.proofs.lemmas.Grind.{common_steps}
+use Rattle.std.proofs.lemmas.List.{length-map}
+use Rattle.ivy_program.specs.texts.TextWords.{words_of}
 use Rattle.ivy_program.proofs.reading.Reading.{texts_of}
 use Rattle.ivy_program.proofs.reading.Zips.{zip_push}
 use Rattle.ivy_texts.specs.Spelled.{worded}
 use Rattle.ivy_texts.proofs.Worded.{texts-all, texts-blank, texts-more}
 use Rattle.ivy_logs.specs.Entries.{SpellsIn}
+use Rattle.ivy_logs.specs.Faults.{SpellsNone}
+use Rattle.ivy_logs.proofs.Faulty.{first-fault, none-of, too_many}
 use Rattle.ivy_logs.proofs.log.parse_entries.Goals as goal
 
 pub loop-before-preserved-then-is_empty : goal.loop-before-preserved-then-is_empty
@@ -44,3 +49,40 @@ returns-clause-entries g c =
     c.next.ensures.steps in
     subst (λ ls. AllZip (SpellsIn c.args.kind) (worded ls) c.loop-before.entries.items)
     (texts-all (lines c.args.text.now) c.loop-before.yielded t.0) c.loop-before.invariant
+
+pub returns-in_default-clause-refused : goal.returns-in_default-clause-refused
+returns-in_default-clause-refused g c =
+    let chain = YieldsList-from_enumerate (YieldsList-from_lines c.args.text.now cc) cc in
+    let t = YieldsList-turn chain c.loop-before.yielded _ c.loop-before.yielded_by _ _
+    (c.in-Some.before, c.in-Some.line) c.in-Some.is c.next.ensures.steps in
+    let many : 7 < length (words_of c.in-Some.line.now) =
+    first_of (search rules, omega (arith, c.in_default.ensures), grind (arith, common_steps)) in
+    inr (
+      c.in-Some.before,
+      refl,
+      first-fault c.args.kind (lines c.args.text.now) c.loop-before.yielded c.in-Some.before c.in-Some.line
+          (YieldsList-so_far chain c.loop-before.yielded _ c.loop-before.yielded_by) t c.loop-before.entries.items
+          c.loop-before.invariant
+          ((λ none. omega (arith, many, ap length none)), too_many c.args.kind (words_of c.in-Some.line.now) many),
+    )
+
+pub returns-in_default-2-clause-refused : goal.returns-in_default-2-clause-refused
+returns-in_default-2-clause-refused g c =
+    let chain = YieldsList-from_enumerate (YieldsList-from_lines c.args.text.now cc) cc in
+    let t = YieldsList-turn chain c.loop-before.yielded _ c.loop-before.yielded_by _ _
+    (c.in-Some.before, c.in-Some.line) c.in-Some.is c.next.ensures.steps in
+    let words = take c.in-Some-few_words.count c.few_words.new.words in
+    let are : map (λ w. w.now) words ≡ words_of c.in-Some.line.now = c.in-Some-few_words.ensures.1 in
+    let some : 0 < length (take c.in-Some-few_words.count c.few_words.new.words) = search rules in
+    let none : SpellsNone c.args.kind (map (λ w. w.now) (take c.in-Some-few_words.count c.few_words.new.words)) =
+    none-of c.in_ok-entry.field-0 _ c.in_default-2.is c.in_ok-entry.ensures.none in
+    inr (
+      c.in-Some.before,
+      refl,
+      first-fault c.args.kind (lines c.args.text.now) c.loop-before.yielded c.in-Some.before c.in-Some.line
+          (YieldsList-so_far chain c.loop-before.yielded _ c.loop-before.yielded_by) t c.loop-before.entries.items
+          c.loop-before.invariant (
+            (λ empty. omega (arith, some, length-map words (λ w. w.now), ap length (are ∙ empty))),
+            subst (SpellsNone c.args.kind) are none,
+          ),
+    )
