@@ -1,5 +1,5 @@
 -- How a node stands by what its work came to.
-use Rattle.std.proofs.Common.{◌≡◌, ℕ, List, slice_get, Bool, true, false, Option, Some, None, Result, Ok, Err, refl, sym, ap, subst, ◌∙◌}
+use Rattle.std.proofs.Common.{◌≡◌, ℕ, List, slice_get, Bool, true, false, Option, Some, None, Result, Ok, Err, refl, sym, subst}
 use Rattle.std.specs.Prelude.{IfOk, IfSome, MatchResult, ◌||◌, if◌then◌else◌}
 use Rattle.std.specs.Option.{is_some}
 use Rattle.ivy_model.specs.declared.Call.{Call}

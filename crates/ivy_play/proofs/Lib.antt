@@ -1,6 +1,7 @@
 mod Each
 mod InRow
 mod Playing
+mod Making
 pub mod Stops
 mod Reported
 mod Ending

@@ -1,5 +1,5 @@
 -- A play that goes on.
-use Rattle.std.proofs.Common.{◌≡◌, ◌≢◌, ℕ, zero, suc, List, [], ◌∷◌, ◌++◌, Result, Ok, Err, OnOk, OnErr, append-nil, refl, sym, ap, subst, ◌∙◌}
+use Rattle.std.proofs.Common.{◌≡◌, ◌≢◌, ℕ, zero, suc, List, [], ◌∷◌, ◌++◌, Result, Ok, Err, OnErr, append-nil, refl, sym, ap, subst, ◌∙◌}
 use Rattle.std.specs.Prelude.{IfOk}
 use Rattle.ivy_model.specs.declared.Call.{Call}
 use Rattle.ivy_model.specs.declared.Config.{Config}
@@ -20,13 +20,19 @@ use Rattle.ivy_world.specs.Settling.{HasSettled}
 use Rattle.ivy_play.specs.declared.handed.Handed.{Handed}
 use Rattle.ivy_play.specs.Played.{Step, Calls, Makes, moves_in, with_world, PlaysTo, own_opening, IsPlayed, IsStillWhere}
 
-plays_more : (r mid end : Run) (steps : List Step) (s : Step) → PlaysTo r steps mid
-    → PlaysTo mid (s ∷ []) end → PlaysTo r (steps ++ s ∷ []) end
-plays_more r mid end [] s is last = subst (λ x. PlaysTo x (s ∷ []) end) is last
-plays_more r mid end (Calls i calls ∷ steps) s plays last =
-    plays_more (run_handed i (calls ∷ []) r) mid end steps s plays last
-plays_more r mid end (Makes m ∷ steps) s plays last =
-    (plays.0, plays.1, plays_more (with_world r plays.0) mid end steps s plays.2 last)
+-- what is done after other steps
+pub plays_on : (r mid end : Run) (first more : List Step) → PlaysTo r first mid
+    → PlaysTo mid more end → PlaysTo r (first ++ more) end
+plays_on r mid end [] more is on = subst (λ x. PlaysTo x more end) is on
+plays_on r mid end (Calls i calls ∷ steps) more plays on =
+    plays_on (run_handed i (calls ∷ []) r) mid end steps more plays on
+plays_on r mid end (Makes m ∷ steps) more plays on =
+    (plays.0, plays.1, plays_on (with_world r plays.0) mid end steps more plays.2 on)
+
+-- a world that a move led to, as one that goes on
+pub went_on : (old new : Run) → IsSameRun old new → new ≡ with_world old new.world
+went_on old new same =
+    λ k. record { config = same.0 k; programs = same.1 k; world = new.world }
 
 moves_more : (steps : List Step) (s : Step)
     → moves_in (steps ++ s ∷ []) ≡ moves_in steps ++ moves_in (s ∷ [])
@@ -50,12 +56,11 @@ pub played_move : (c : Config) (moves more : List Move) (m : Move) (old new : Ru
     → Moves (host_rules managed_ops) old.config old.world m new.world → IsPlayed c moves old
     → IsPlayed c more new
 played_move c moves more m old new is same made p =
-    let end : new ≡ with_world old new.world =
-    λ k. record { config = same.0 k; programs = same.1 k; world = new.world } in
     record {
       steps = p.steps ++ Makes m ∷ [];
       made = moves_more p.steps (Makes m) ∙ ap (λ l. l ++ m ∷ []) p.made ∙ sym is;
-      plays = plays_more (own_opening c) old new p.steps (Makes m) p.plays (new.world, made, end);
+      plays = plays_on (own_opening c) old new p.steps (Makes m ∷ []) p.plays
+          (new.world, made, went_on old new same);
       config = same.0 ∙ p.config;
     }
 
@@ -65,7 +70,7 @@ pub played_calls : (c : Config) (moves : List Move) (i : ℕ) (calls : List Call
 played_calls c moves i calls old new is p = record {
   steps = p.steps ++ Calls i calls ∷ [];
   made = moves_more p.steps (Calls i calls) ∙ append-nil (moves_in p.steps) ∙ p.made;
-  plays = plays_more (own_opening c) old new p.steps (Calls i calls) p.plays is;
+  plays = plays_on (own_opening c) old new p.steps (Calls i calls ∷ []) p.plays is;
   config = ap (λ (x : Run). x.config) is ∙ p.config;
 }
 

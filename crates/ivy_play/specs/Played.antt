@@ -32,6 +32,18 @@ moves_in [] = []
 moves_in (Calls i calls ∷ steps) = moves_in steps
 moves_in (Makes move ∷ steps) = move ∷ moves_in steps
 
+-- the calls among them
+abbrev pub calls_in : List Step → List Call
+calls_in [] = []
+calls_in (Calls i calls ∷ steps) = calls ++ calls_in steps
+calls_in (Makes move ∷ steps) = calls_in steps
+
+-- they are calls of this node, and turns of it
+abbrev pub AreOf : ℕ → List Step → Type 0
+AreOf node [] = Unit {0}
+AreOf node (Calls i calls ∷ steps) = (i ≡ node) × AreOf node steps
+AreOf node (Makes move ∷ steps) = (move ≡ Turn node) × AreOf node steps
+
 -- the world goes on
 abbrev pub with_world : Run → World (Host Managed) → Run
 with_world r w = record { config = r.config; programs = r.programs; world = w }
@@ -44,6 +56,13 @@ PlaysTo r (Calls i calls ∷ steps) end = PlaysTo (run_handed i (calls ∷ []) r
 PlaysTo r (Makes move ∷ steps) end =
     (mid : World (Host Managed)) × Moves (host_rules managed_ops) r.config r.world move mid
     × PlaysTo (with_world r mid) steps end
+
+-- the node makes exactly these calls, with turns of its own alone between them
+pub record MakesCalls (node : ℕ) (calls : List Call) (old new : Run) : Type 0 where
+  pub steps : List Step
+  pub own : AreOf node steps
+  pub made : calls_in steps ≡ calls
+  pub plays : PlaysTo old steps new
 
 -- own code at each node, before any call
 abbrev pub own_opening : Config → Run

@@ -1,11 +1,13 @@
 -- What a play says of its report.
-use Rattle.std.specs.Prelude.{◌≡◌, ℕ, List, length, map, slice_get, Some, None}
+use Rattle.std.specs.Prelude.{◌≡◌, ℕ, List, length, map, slice_get, Option, Some, None, option_map}
+use Rattle.ivy_model.specs.declared.Call.{Call}
 use Rattle.ivy_model.specs.declared.Config.{Config}
 use Rattle.ivy_model.specs.declared.Record.{Record}
 use Rattle.ivy_model.specs.stated.Explains.{part, Answered, IsExplained}
 use Rattle.ivy_calls.specs.declared.answer.Answer.{Answer}
 use Rattle.ivy_calls.specs.Answers.{answers}
 use Rattle.ivy_calls.specs.Shared.{AreShared}
+use Rattle.ivy_moves.specs.Keeping.{last_of}
 use Rattle.ivy_moves.specs.declared.Move.{Move}
 use Rattle.ivy_moves.specs.stated.Nodes.{Node}
 use Rattle.ivy_moves.specs.stated.Worlds.{World}
@@ -53,6 +55,10 @@ abbrev pub standing_of : {Out : Type 0} → Outcome Out → Outcome (Unit {0})
 standing_of (Gave out) = Gave tt
 standing_of (GaveUp fault) = GaveUp fault
 standing_of Waits = Waits
+
+-- the call in the last of these records
+abbrev pub last_call_in : List Record → Option Call
+last_call_in records = option_map (λ (r : Record). r.call) (last_of records)
 
 -- Exactly these moves, with calls of the nodes' work between them, led from the opening to this
 -- world, of which all holds that is promised of worlds; where it is said to stand still it does; one

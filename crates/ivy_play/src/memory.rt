@@ -1,5 +1,5 @@
 //! The memory of a play as the work of one node has it.
-ghost use Rattle.std.specs.Prelude.{◌≡◌, ◌+◌, ◌*◌, ◌^◌, ◌<◌, ◌≤◌, ◌++◌, ◌∷◌, [], false, length, vec_capacity, vec_len, IfErr, IfOk, IsTrue};
+ghost use Rattle.std.specs.Prelude.{◌≡◌, ◌+◌, ◌*◌, ◌^◌, ◌<◌, ◌≤◌, ◌++◌, ◌∷◌, [], false, length, vec_capacity, vec_len, IfErr, IfOk, IfSome, IsTrue};
 ghost use Rattle.ivy_model.specs.stated.Legal.{HasWidth};
 ghost use Rattle.ivy_model.specs.Rows.{numbers_in};
 ghost use Rattle.ivy_calls.specs.BlockAnswers.{in_row};
@@ -8,6 +8,7 @@ ghost use Rattle.ivy_play.specs.Faults.{IsUnanswered};
 use crate::driver::Play;
 use crate::handed::Handed;
 use crate::stage::Setting;
+use crate::together::{HandedRow, RowCalls};
 use ivy_calls::{Answer, SharedMemory};
 use ivy_model::{Call, Fault, Reply, Row};
 use std::alloc::Allocator;
@@ -104,22 +105,24 @@ where
         self.take(handed.call())
     }
 
-    /// Makes calls of a row with no other move between, and says how many.
-    fn call_row(&self, kind: Row, addr: u64, bytes: &[u8]) -> usize
-        ensures { 8 * result ≤ length bytes.now }
+    /// Makes calls of a row with no other move between, where it can.
+    fn call_row<'w>(&self, kind: Row, addr: u64, bytes: &'w [u8]) -> Option<HandedRow<'w>>
+        ensures own { IfSome result (λ handed. (handed.asked.node ≡ self.now.me) × (handed.asked.kind ≡ kind) × (handed.asked.addr ≡ addr) × (handed.asked.bytes.now ≡ bytes.now)) }
+        ensures fits { IfSome result (λ handed. 8 * handed.calls ≤ length bytes.now) }
     {
         if self.play.baton.is_over() {
-            return 0;
+            return None;
         }
-        let begun = self
-            .play
-            .stage
-            .lock(self.play.rt)
-            .call_row(self.me, kind, addr, bytes);
-        match begun {
-            Ok(calls) => calls,
+        let asked = RowCalls {
+            node: u64::from(self.me),
+            kind,
+            addr,
+            bytes,
+        };
+        match self.play.stage.lock(self.play.rt).call_row(asked) {
+            Ok(handed) => handed,
             // the call of the first word alone tells why
-            Err(_) => 0,
+            Err(_) => None,
         }
     }
 
@@ -137,7 +140,10 @@ where
         if self.answers.reserve(bytes.len() / 8).is_err() {
             return 0;
         }
-        let calls = self.call_row(kind, addr, bytes);
+        let calls = match self.call_row(kind, addr, bytes) {
+            Some(handed) => handed.calls(),
+            None => 0,
+        };
         if calls > 0 {
             self.play.baton.give_back();
             self.play.baton.wait(self.play.rt, self.me);

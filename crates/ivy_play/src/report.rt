@@ -1,8 +1,8 @@
 //! What a play came to.
 ghost use Rattle.std.specs.Prelude.{◌≡◌, ◌<◌, ◌↔◌, IfSome, IsTrue, slice_get};
-ghost use Rattle.ivy_play.specs.Reports.{AllGave, standing_of};
+ghost use Rattle.ivy_play.specs.Reports.{AllGave, last_call_in, standing_of};
 
-use ivy_model::{Call, Fault};
+use ivy_model::{Call, Fault, Record};
 use ivy_texts::{CallText, Decimal, MoveText};
 use ivy_world::{Move, Rest, World};
 use std::alloc::Allocator;
@@ -44,6 +44,8 @@ pub struct Standing {
     pub outcome: Outcome<()>,
     /// The call that the node has in progress.
     pub asked: Option<Call>,
+    /// The call that was answered to it last.
+    pub last: Option<Call>,
 }
 
 impl<T> Outcome<T> {
@@ -56,6 +58,16 @@ impl<T> Outcome<T> {
             Outcome::GaveUp(fault) => Outcome::GaveUp(*fault),
             Outcome::Waits => Outcome::Waits,
         }
+    }
+}
+
+/// The call in the last of these records.
+fn last_call(history: &[Record]) -> Option<Call>
+    ensures { result ≡ last_call_in history.now }
+{
+    match history.last() {
+        Some(record) => Some(record.call),
+        None => None,
     }
 }
 
@@ -79,12 +91,14 @@ impl<T: Drop, A: Allocator + Copy> PlayReport<T, A> {
         all_gave(&self.outcomes)
     }
 
-    /// How a node stands, with the call that it has in progress. The node is one of the world's.
+    /// How a node stands, with the call that it has in progress, and the one that was answered last. The node is one of the
+    /// world's.
     pub fn standing(&self, node: u64) -> Standing
         requires { node < self.now.world.config.nodes }
         ensures node { result.node ≡ node }
         ensures outcome { IfSome (slice_get self.now.outcomes.items node) (λ outcome. result.outcome ≡ standing_of outcome) }
         ensures asked { IfSome (slice_get self.now.world.world.nodes node) (λ n. result.asked ≡ n.core.memory.asked) }
+        ensures last { IfSome (slice_get self.now.world.world.nodes node) (λ n. result.last ≡ last_call_in n.core.history) }
     {
         let outcome = match self.outcomes.get(node as usize) {
             Some(outcome) => outcome.standing(),
@@ -94,6 +108,7 @@ impl<T: Drop, A: Allocator + Copy> PlayReport<T, A> {
             node,
             outcome,
             asked: self.world.asked(node),
+            last: last_call(self.world.history(node)),
         }
     }
 }
@@ -104,9 +119,10 @@ impl fmt::Display for Standing {
         match self.outcome {
             Outcome::Gave(()) => write!(f, "node {node} ended"),
             Outcome::GaveUp(fault) => write!(f, "node {node} gave up: {fault}"),
-            Outcome::Waits => match self.asked {
-                Some(call) => write!(f, "node {node} waits: {}", CallText(call)),
-                None => write!(f, "node {node} is open"),
+            Outcome::Waits => match (self.asked, self.last) {
+                (Some(call), _) => write!(f, "node {node} waits: {}", CallText(call)),
+                (None, Some(call)) => write!(f, "node {node} is still going: {}", CallText(call)),
+                (None, None) => write!(f, "node {node} is open"),
             },
         }
     }

@@ -15,8 +15,8 @@ ghost use Rattle.ivy_play.specs.Played.{HasDrawn, IsPlayed, IsAnsweredAt, IsStil
 use crate::budget::Budget;
 use crate::handed::{Handed, hand};
 use crate::source::MoveSource;
-use crate::together::{RowCalls, play_row};
-use ivy_model::{CANNOT_HAPPEN, Call, Config, Fault, Reply, Row};
+use crate::together::{HandedRow, RowCalls, play_row};
+use ivy_model::{CANNOT_HAPPEN, Call, Config, Fault, Reply};
 use ivy_world::{Move, Rest, World};
 use std::alloc::Allocator;
 use std::marker::{Brand, Model, PhantomData};
@@ -191,36 +191,27 @@ impl<S: Setting, A: Allocator + Copy> Stage<S, A> {
         hand(&mut self.world, node, call)
     }
 
-    /// The work of a node makes calls of a row, on words of 8 bytes from `addr` on, with no other move between [1, 17]. It says
-    /// how many, which have their replies or wait. None where the first would be refused. The turns in which they were made
-    /// are those that the node is asked to have next, the first of them that before which the work goes on.
-    pub(crate) fn call_row(
+    /// The work of a node makes these calls of a row, with no other move between [1, 17]. It says how many, which have their
+    /// replies or wait; none where the moves have run out. The turns in which they were made are those that the node is asked
+    /// to have next, the first of them that before which the work goes on.
+    pub(crate) fn call_row<'b>(
         &mut self,
-        node: u8,
-        kind: Row,
-        addr: u64,
-        bytes: &[u8],
-    ) -> Result<usize, Fault>
-        ensures fits { IfOk result (λ calls. 8 * calls ≤ length bytes.now) }
+        asked: RowCalls<'b>,
+    ) -> Result<Option<HandedRow<'b>>, Fault>
+        ensures own { IfOk result (λ row. IfSome row (λ handed. handed.asked ≡ asked.entry)) }
+        ensures fits { IfOk result (λ row. IfSome row (λ handed. 8 * handed.calls ≤ length asked.entry.bytes.now)) }
         ensures stop { IfErr result IsPlayStop }
     {
-        let node = u64::from(node);
         let made = self.moves.len();
-        if node >= self.world.nodes() || self.budget.is_spent(made) {
-            return Ok(0);
+        if asked.node >= self.world.nodes() || self.budget.is_spent(made) {
+            return Ok(None);
         }
         self.rest = Rest::Going;
-        let row = RowCalls {
-            node,
-            kind,
-            addr,
-            bytes,
-        };
-        let calls = play_row(&mut self.world, &mut self.moves, &self.config, row)?;
+        let handed = play_row(&mut self.world, &mut self.moves, &self.config, asked)?;
         self.budget = self.budget.after(self.moves.len());
         self.ahead = self.moves.len().saturating_sub(made);
-        self.of_node = node;
-        Ok(calls)
+        self.of_node = asked.node;
+        Ok(Some(handed))
     }
 
     /// The reply that a node got to its call of this number, counted from 0, where it got one.

@@ -5,7 +5,7 @@ ghost use Rattle.ivy_model.specs.stated.Config.{IsConfig};
 ghost use Rattle.ivy_model.specs.Rows.{calls_of, numbers_in, row};
 ghost use Rattle.ivy_world.specs.HandedWorlds.{run_handed};
 ghost use Rattle.ivy_play.specs.Faults.{IsPlayStop};
-ghost use Rattle.ivy_play.specs.Played.{AddsTurns, IsPlayed};
+ghost use Rattle.ivy_play.specs.Played.{AddsTurns, IsPlayed, MakesCalls};
 
 use crate::stage::play_move;
 use ivy_model::{Config, Fault, Row, access_refusal};
@@ -14,12 +14,28 @@ use ivy_world::{Move, World};
 use std::alloc::Allocator;
 
 /// A row of calls that the work of a node makes, on words of 8 bytes from `addr` on.
-#[derive(Clone, Copy)]
+#[derive(Clone, Copy, Drop)]
 pub(crate) struct RowCalls<'b> {
     pub(crate) node: u64,
     pub(crate) kind: Row,
     pub(crate) addr: u64,
     pub(crate) bytes: &'b [u8],
+}
+
+/// That a node was handed so many calls of a row. Only [`play_row`] makes one, so who has it knows which calls these were.
+#[derive(Clone, Copy, Drop)]
+pub(crate) struct HandedRow<'b> {
+    asked: RowCalls<'b>,
+    calls: usize,
+}
+
+impl<'b> HandedRow<'b> {
+    /// How many calls these were.
+    pub(crate) fn calls(self) -> usize
+        ensures { result ≡ self.entry.calls }
+    {
+        self.calls
+    }
 }
 
 /// How many words a row of so many bytes has in the page of its address; none where the first is no word of the heap.
@@ -45,6 +61,7 @@ fn play_block<A: Allocator + Copy>(
 ) -> Result<usize, Fault>
     requires { asked.node < world.old.config.nodes }
     ensures played { (c : Config) → IsPlayed c moves.old.items world.old → IsPlayed c moves.new.items world.new }
+    ensures made { IfOk result (λ calls. MakesCalls asked.entry.node (calls_of (row asked.entry.kind 0 asked.entry.addr (numbers_in calls asked.entry.bytes.now))) world.old world.new) }
     ensures fits { IfOk result (λ calls. 8 * calls ≤ length asked.entry.bytes.now) }
     ensures few { IfOk result (λ calls. calls ≤ words) }
     ensures turns { IfOk result (λ calls. AddsTurns asked.entry.node calls moves.old.items moves.new.items) }
@@ -99,6 +116,7 @@ fn play_words<A: Allocator + Copy>(
     requires fits { 8 * words ≤ length asked.bytes.now }
     requires below { asked.addr + 8 * words < 2 ^ 64 }
     ensures played { (c : Config) → IsPlayed c moves.old.items world.old → IsPlayed c moves.new.items world.new }
+    ensures made { MakesCalls asked.entry.node (calls_of (row asked.entry.kind 0 asked.entry.addr (numbers_in result asked.entry.bytes.now))) world.old world.new }
     ensures turns { AddsTurns asked.entry.node result moves.old.items moves.new.items }
     ensures few { result ≤ words }
 {
@@ -118,25 +136,29 @@ fn play_words<A: Allocator + Copy>(
 /// the node alone are listed; or nothing changes [1, 17]. Where the first has to wait, they are made together, in one turn.
 /// Else the page is at hand, and each is made and answered in a turn of its own. It says how many, of which each has its reply,
 /// or waits for later turns.
-pub(crate) fn play_row<A: Allocator + Copy>(
+pub(crate) fn play_row<'b, A: Allocator + Copy>(
     world: &mut World<A>,
     moves: &mut Vec<Move, A>,
     config: &Config,
-    asked: RowCalls,
-) -> Result<usize, Fault>
+    asked: RowCalls<'b>,
+) -> Result<HandedRow<'b>, Fault>
     requires node { asked.node < world.old.config.nodes }
     requires limits { IsConfig config.now }
     ensures played { (c : Config) → IsPlayed c moves.old.items world.old → IsPlayed c moves.new.items world.new }
-    ensures fits { IfOk result (λ calls. 8 * calls ≤ length asked.entry.bytes.now) }
-    ensures page { IfOk result (λ calls. 8 * calls ≤ config.now.page_size) }
-    ensures turns { IfOk result (λ calls. AddsTurns asked.entry.node calls moves.old.items moves.new.items) }
+    ensures own { IfOk result (λ handed. handed.asked ≡ asked.entry) }
+    ensures made { IfOk result (λ handed. MakesCalls asked.entry.node (calls_of (row asked.entry.kind 0 asked.entry.addr (numbers_in handed.calls asked.entry.bytes.now))) world.old world.new) }
+    ensures fits { IfOk result (λ handed. 8 * handed.calls ≤ length asked.entry.bytes.now) }
+    ensures page { IfOk result (λ handed. 8 * handed.calls ≤ config.now.page_size) }
+    ensures turns { IfOk result (λ handed. AddsTurns asked.entry.node handed.calls moves.old.items moves.new.items) }
     ensures refused { OnErr result ((world.new ≡ world.old) × (moves.new.items ≡ moves.old.items)) }
     ensures stop { IfErr result IsPlayStop }
 {
     let words = words_of(config, asked.addr, asked.bytes.len());
     let calls = play_block(world, moves, asked, words)?;
-    if calls > 0 {
-        return Ok(calls);
-    }
-    Ok(play_words(world, moves, asked, words))
+    let calls = if calls > 0 {
+        calls
+    } else {
+        play_words(world, moves, asked, words)
+    };
+    Ok(HandedRow { asked, calls })
 }

@@ -1,6 +1,6 @@
-use Rattle.std.proofs.Common.{rules, arith, ◌≡◌, ◌+◌, ℕ, Some, length, slice_get, sym, subst, vec_len, [], ◌∷◌, ◌++◌, ◌∙◌}
+use Rattle.std.proofs.Common.{rules, arith, ◌≡◌, ◌+◌, Some, length, slice_get, sym, subst, vec_len, [], ◌∷◌, ◌++◌, ◌∙◌}
 use Rattle.std.specs.Prelude.{IfOk, MatchResult}
-use Rattle.std.specs.Vec.Iter.{into_iter_items, into_iter_len}
+use Rattle.std.specs.Vec.Iter.{into_iter_len}
 use Rattle.std.proofs.lemmas.Option.{same_Some}
 use Rattle.ivy_play.specs.Ends.{HasEnded, HasGivenUp}
 use Rattle.ivy_play.specs.Reports.{HasGiven}
