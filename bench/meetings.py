@@ -2,7 +2,9 @@
 """Counts the messages of meetings and locks by N, in drawn worlds: N nodes of libivy in one process, whose turns and
 deliveries a seed draws.
 
-    bench/meetings.py LIBRARY [SEEDS]    LIBRARY is libivy.so, as tools/bindings makes it; SEEDS is 3 where it is left out
+    bench/meetings.py LIBRARY [SEEDS [LINE..]]
+
+LIBRARY is libivy.so, as tools/bindings makes it. SEEDS is 3 where it is left out, and the lines are all.
 
 A message is a frame that its receiver serves as a new one; a page is such a frame that carries one. Nothing is lost, so no
 pulse is made. Each waiting node looks whenever its turn is drawn. The first meetings, in which words move for the first
@@ -179,13 +181,14 @@ def adds(lock):
     return program
 
 
-def tables(library, seeds):
+def tables(library, seeds, wanted):
     lines = {"count": meets(by_count), "words": meets(by_words), "tree": meets(by_tree),
              "reduce count": reduces(by_count), "reduce words": reduces(by_words), "reduce tree": reduces(by_tree),
              "spin": adds(spin), "tickets": adds(tickets), "places": adds(places)}
     print("| Line, manager | " + " | ".join(f"{n} nodes" for n in NODES) + " |")
     print("|---" * (1 + len(NODES)) + "|")
-    for name, program in lines.items():
+    for name in wanted or lines:
+        program = lines[name]
         lock = name in ("spin", "tickets", "places")
         for manager in KINDS:
             cells = []
@@ -206,11 +209,11 @@ def tables(library, seeds):
 
 
 if __name__ == "__main__":
-    if len(sys.argv) not in (2, 3):
+    if len(sys.argv) < 2:
         sys.exit(__doc__)
     LIBRARY = ctypes.CDLL(sys.argv[1])
     for function in ("ivy_open", "ivy_begin", "ivy_reply", "ivy_deliver", "ivy_next_frame"):
         getattr(LIBRARY, function).restype = ctypes.c_uint32
     LIBRARY.ivy_begin.argtypes = [ctypes.c_void_p, ctypes.c_uint32, ctypes.c_uint32, ctypes.c_uint64, ctypes.c_uint64,
                                   ctypes.c_uint64, ctypes.c_void_p]
-    tables(LIBRARY, int(sys.argv[2]) if len(sys.argv) == 3 else 3)
+    tables(LIBRARY, int(sys.argv[2]) if len(sys.argv) > 2 else 3, sys.argv[3:])

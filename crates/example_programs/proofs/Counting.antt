@@ -1,9 +1,9 @@
 -- Nodes that count themselves are inside one at a time, and none is lost.
 use Rattle.std.proofs.Common.{◌≡◌, ◌≢◌, ℕ, zero, suc, ◌+◌, ◌*◌, ◌/◌, ◌%◌, ◌^◌, ◌<◌, ◌≤◌, inl, inr, Bool, false, List, []}
-use Rattle.std.proofs.Common.{if◌then◌else◌, cond, IsTrue, ◌∷◌, ◌++◌, length, Some, refl, sym, ap, ap₂, subst}
-use Rattle.std.proofs.Common.{◌∙◌, mod-eq_of_lt, arith, append-nil}
+use Rattle.std.proofs.Common.{if◌then◌else◌, cond, IsTrue, ◌∷◌, ◌++◌, length, refl, sym, ap, subst}
+use Rattle.std.proofs.Common.{◌∙◌, mod-eq_of_lt, arith}
 use Rattle.std.specs.List.{AllByRecursion as Each, flat_map, slice_index_or}
-use Rattle.std.proofs.lemmas.Bool.{both_ways, cases_lt}
+use Rattle.std.proofs.lemmas.Bool.{cases_lt}
 use Rattle.ivy_model.specs.declared.config.Config.{Config}
 use Rattle.ivy_model.specs.declared.call.Call.{Call}
 use Rattle.ivy_model.specs.declared.call.Call.TheVariants.{Store}
@@ -14,8 +14,8 @@ use Rattle.ivy_calls.specs.declared.answer.Answer.{Answer}
 use Rattle.ivy_calls.specs.Answers.{answers, answers_of}
 use Rattle.ivy_calls.specs.Shared.{AreShared}
 use Rattle.ivy_calls.proofs.Answers.{answers-append, answers_of-nobody}
-use Rattle.ivy_sync.specs.Doing.{LooksInVain, draws, loads, stores}
-use Rattle.ivy_sync.specs.HeapWords.{word, IsHeapWord, is_access_in, is_write_in, IsWhole, NoWrite}
+use Rattle.ivy_sync.specs.Doing.{draws, loads, stores}
+use Rattle.ivy_sync.specs.HeapWords.{word, is_access_in, is_write_in, IsWhole, NoWrite}
 use Rattle.ivy_sync.specs.HeapWords.{word_after, last, LeadsThrough}
 use Rattle.ivy_sync.specs.excluding.ArrayLocks.{by_places, place, AreFree, KeepsPlaces}
 use Rattle.ivy_sync.specs.excluding.Registers.{ReadsTheLast}
@@ -23,7 +23,7 @@ use Rattle.ivy_sync.specs.excluding.Sections.{turns_of}
 use Rattle.ivy_sync.specs.excluding.Serial.{GuardsInside, state, stays, AreTurnsOf}
 use Rattle.ivy_sync.specs.excluding.TicketLocks.{draws_of, idle}
 use Rattle.ivy_sync.specs.meeting.Sums.{sum_up_to}
-use Rattle.ivy_sync.proofs.answers.AnswerTotals.{parts_tally, tally, tally-append, sum_up_to-same, total_most}
+use Rattle.ivy_sync.proofs.answers.AnswerTotals.{parts_tally, tally, sum_up_to-same, total_most}
 use Rattle.ivy_sync.proofs.answers.Below.{looks_quiet}
 use Rattle.ivy_sync.proofs.answers.Cuts.{all_parts, nodes_there}
 use Rattle.ivy_sync.proofs.answers.First.{first_run, first_word}

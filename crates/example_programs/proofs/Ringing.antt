@@ -13,8 +13,8 @@ use Rattle.ivy_model.specs.stated.Memory.{first}
 use Rattle.ivy_calls.specs.declared.answer.Answer.{Answer}
 use Rattle.ivy_calls.specs.Answers.{answers_of}
 use Rattle.ivy_calls.specs.Shared.{AreShared}
-use Rattle.ivy_sync.specs.Doing.{loads, stores}
-use Rattle.ivy_sync.specs.HeapWords.{word, IsHeapWord, is_write_in, IsWhole, NoWrite, Reads, last}
+use Rattle.ivy_sync.specs.Doing.{loads}
+use Rattle.ivy_sync.specs.HeapWords.{word, NoWrite, Reads, last}
 use Rattle.ivy_sync.specs.HeapWords.{LeadsThrough}
 use Rattle.ivy_sync.specs.meeting.Separated.{IsSeparated}
 use Rattle.ivy_sync.specs.meeting.TreeBarriers.{ClimbsAt, Climbs, IsTreePlace, opened_at, phase_of, raised_at}
@@ -25,7 +25,7 @@ use Rattle.ivy_sync.proofs.meeting.TreeBarriers.{tree_barrier-separates, tree_ph
 use Rattle.ivy_sync.proofs.meeting.WordBarriers.{word_barrier-separates, word_phases-share}
 use Rattle.example_programs.specs.Ring.{next}
 use Rattle.example_programs.specs.Rings.{gives, finds_next, HasTurnedByWords, HasTurnedByTree}
-use Rattle.example_programs.specs.Rings.{IsRingPlace, IsWordRingPlace, IsTreeRingPlace, StoreFirst}
+use Rattle.example_programs.specs.Rings.{IsWordRingPlace, IsTreeRingPlace, StoreFirst}
 use Rattle.example_programs.specs.Rings.{WordRingsMeet, TreeRingsMeet, WordRingsTurn, TreeRingsTurn}
 use Rattle.example_programs.specs.declared.rings.TreeRing.{TreeRing}
 use Rattle.example_programs.specs.declared.rings.WordRing.{WordRing}

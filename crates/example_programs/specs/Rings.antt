@@ -3,7 +3,6 @@ use Rattle.std.specs.Prelude.{◌≡◌, ◌≢◌, ℕ, ◌+◌, ◌*◌, ◌/�
 use Rattle.std.specs.Prelude.{slice_get, Some}
 use Rattle.ivy_model.specs.declared.config.Config.{Config}
 use Rattle.ivy_model.specs.declared.call.Record.{Record}
-use Rattle.ivy_model.specs.stated.Memory.{first}
 use Rattle.ivy_calls.specs.declared.answer.Answer.{Answer}
 use Rattle.ivy_calls.specs.Answers.{answers_of}
 use Rattle.ivy_calls.specs.Shared.{AreShared}

@@ -1,12 +1,12 @@
 -- Words that stay below a number.
-use Rattle.std.proofs.Common.{◌≡◌, ℕ, ◌<◌, false, List, [], ◌∷◌, refl, ap, subst, ◌∙◌}
+use Rattle.std.proofs.Common.{◌≡◌, ℕ, ◌<◌, false, List, [], ◌∷◌, ap, subst}
 use Rattle.std.specs.List.{AllByRecursion as Each}
 use Rattle.ivy_model.specs.declared.config.Config.{Config}
 use Rattle.ivy_model.specs.declared.call.Record.{Record}
 use Rattle.ivy_model.specs.stated.Memory.{Memory}
 use Rattle.ivy_calls.specs.declared.answer.Answer.{Answer}
 use Rattle.ivy_calls.specs.Answers.{answers}
-use Rattle.ivy_sync.specs.Doing.{LooksInVain, loads}
+use Rattle.ivy_sync.specs.Doing.{LooksInVain}
 use Rattle.ivy_sync.specs.HeapWords.{word, IsHeapWord, is_write_in, IsWhole, KeepsBelow, NoWrite}
 use Rattle.ivy_sync.specs.HeapWords.{word_after, last, LeadsThrough}
 use Rattle.ivy_sync.proofs.answers.HeapWords.{word_last, whole_quiet, written_quiet}

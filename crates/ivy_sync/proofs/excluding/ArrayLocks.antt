@@ -9,7 +9,6 @@ use Rattle.std.proofs.lemmas.Option.{same_Some, none-some}
 use Rattle.ivy_model.specs.declared.config.Config.{Config}
 use Rattle.ivy_model.specs.declared.call.Act.{Act}
 use Rattle.ivy_model.specs.declared.call.Act.TheVariants as act
-use Rattle.ivy_model.specs.declared.call.Call.{Call}
 use Rattle.ivy_model.specs.declared.call.CallKind.{CallKind}
 use Rattle.ivy_model.specs.declared.call.CallKind.TheVariants.{Word, Count, Advance, Await, Alloc}
 use Rattle.ivy_model.specs.declared.call.CallKind.TheVariants.{Free}
@@ -36,7 +35,7 @@ use Rattle.ivy_sync.specs.HeapWords.{word, IsHeapWord, is_in, is_write_in, is_wr
 use Rattle.ivy_sync.specs.HeapWords.{ReadsKind, put_after, LeadsThrough}
 use Rattle.ivy_sync.proofs.answers.Cuts.{leads_cut}
 use Rattle.ivy_sync.proofs.answers.Lists.{one_more}
-use Rattle.ivy_sync.proofs.answers.HeapWords.{IsPlace, is_place, word_step, read_step, written_quiet}
+use Rattle.ivy_sync.proofs.answers.HeapWords.{is_place, word_step, read_step, written_quiet}
 use Rattle.ivy_sync.proofs.answers.HeapWords.{whole_quiet}
 use Rattle.ivy_sync.proofs.excluding.Serial.{state-append}
 use Rattle.ivy_sync.proofs.excluding.TicketLocks.{IsFair, draws-append, draw_at, draw_puts, draw_reads}

@@ -1,14 +1,12 @@
 -- What is guarded by a lock of tickets and places is done in one whole section after another.
-use Rattle.std.proofs.Common.{◌≡◌, ℕ, ◌+◌, ◌^◌, ◌<◌, ◌≤◌, inl, inr, Bool, true, false, IsTrue, List, []}
+use Rattle.std.proofs.Common.{◌≡◌, ℕ, ◌+◌, ◌^◌, ◌<◌, inl, inr, Bool, true, false, IsTrue, List, []}
 use Rattle.std.proofs.Common.{if◌then◌else◌, ◌∷◌, ◌++◌, Option, Some, None, refl, sym, ap, subst, ◌∙◌}
 use Rattle.std.proofs.Common.{arith, true≢false}
-use Rattle.std.specs.List.{AllByRecursion as Each}
 use Rattle.std.proofs.lemmas.Bool.{cases_Bool}
 use Rattle.std.proofs.lemmas.Option.{none-some}
 use Rattle.ivy_model.specs.declared.config.Config.{Config}
 use Rattle.ivy_model.specs.declared.call.Call.{Call}
 use Rattle.ivy_model.specs.declared.call.Record.{Record}
-use Rattle.ivy_model.specs.stated.Accesses.{kind_of_call}
 use Rattle.ivy_model.specs.stated.Memory.{Memory}
 use Rattle.ivy_calls.specs.declared.answer.Answer.{Answer}
 use Rattle.ivy_calls.specs.Answers.{answer, answers, answers_of}
@@ -16,7 +14,7 @@ use Rattle.ivy_calls.proofs.Answers.{answers-append, answers_of-append, answers_
 use Rattle.ivy_sync.specs.excluding.ArrayLocks.{after_place, after_ticket, place_after, by_places}
 use Rattle.ivy_sync.specs.excluding.ArrayLocks.{KeepsPlaces, AreFree, ArraySectionsAreSerial}
 use Rattle.ivy_sync.specs.excluding.Serial.{is_inside, AreTurnsOf, GuardsInside, state}
-use Rattle.ivy_sync.specs.excluding.TicketLocks.{Turn, idle, with_drawn, IsDraw, draws_of}
+use Rattle.ivy_sync.specs.excluding.TicketLocks.{Turn, idle, with_drawn, draws_of}
 use Rattle.ivy_sync.specs.HeapWords.{is_write_in, LeadsThrough}
 use Rattle.ivy_sync.proofs.answers.Cuts.{leads_cut, nodes_there}
 use Rattle.ivy_sync.proofs.excluding.ArrayLocks.{AreSeated, one_inside, places_at, places_front}

@@ -1,8 +1,8 @@
 -- What the calls of a lock of tickets and places do to its node's turn, and to its sections.
-use Rattle.std.proofs.Common.{◌≡◌, ◌≢◌, ℕ, ◌+◌, ◌/◌, ◌<◌, ◌≤◌, Bool, true, false, IsTrue, List, [], ◌∷◌}
+use Rattle.std.proofs.Common.{◌≡◌, ◌≢◌, ℕ, ◌+◌, ◌/◌, ◌≤◌, Bool, true, false, IsTrue, List, [], ◌∷◌}
 use Rattle.std.proofs.Common.{if◌then◌else◌, ◌++◌, Some, None, refl, sym, ap, ap₂, subst, ◌∙◌}
-use Rattle.std.proofs.Common.{append_assoc, arith, true≢false}
-use Rattle.std.specs.Prelude.{◌==◌, nat_lt}
+use Rattle.std.proofs.Common.{append_assoc, true≢false}
+use Rattle.std.specs.Prelude.{nat_lt}
 use Rattle.std.specs.List.{AllByRecursion as Each, filter}
 use Rattle.std.proofs.lemmas.Bool.{both_ways, eq-eqb, lt-ltb, le-ltb}
 use Rattle.ivy_model.specs.declared.call.Call.{Call}
@@ -11,7 +11,7 @@ use Rattle.ivy_model.specs.declared.call.Reply.TheVariants.{Value}
 use Rattle.ivy_calls.specs.declared.answer.Answer.{Answer}
 use Rattle.ivy_sync.specs.Doing.{LooksInVain, LooksUntil, draws, loads, stores}
 use Rattle.ivy_sync.specs.HeapWords.{is_write_in, NoWrite}
-use Rattle.ivy_sync.specs.excluding.ArrayLocks.{sees, after_place, after_ticket, place_after, by_places}
+use Rattle.ivy_sync.specs.excluding.ArrayLocks.{sees, after_place, place_after, by_places}
 use Rattle.ivy_sync.specs.excluding.ArrayLocks.{KeepsPlaces}
 use Rattle.ivy_sync.specs.excluding.Sections.{onto_first}
 use Rattle.ivy_sync.specs.excluding.Serial.{GuardsInside, stays}

@@ -1,10 +1,10 @@
 -- What is guarded by a lock of any kind is done in one whole section after another.
-use Rattle.std.proofs.Common.{◌≡◌, ℕ, zero, suc, ◌<◌, ◌≤◌, ◌⊎◌, inl, inr, Bool, true, false, IsTrue}
+use Rattle.std.proofs.Common.{◌≡◌, ℕ, zero, suc, ◌<◌, ◌⊎◌, inl, inr, Bool, true, false, IsTrue}
 use Rattle.std.proofs.Common.{if◌then◌else◌, List, [], ◌∷◌, ◌++◌, map, refl, sym, ap, subst, ◌∙◌}
 use Rattle.std.proofs.Common.{append-nil, arith}
 use Rattle.std.specs.Prelude.{◌==◌}
 use Rattle.std.specs.List.{AllByRecursion as Each, filter, flat_map}
-use Rattle.std.proofs.lemmas.Bool.{both_ways, cases_Bool, cases_eq, cases_lt, cases_order}
+use Rattle.std.proofs.lemmas.Bool.{both_ways, cases_Bool, cases_eq, cases_lt, cases_order, eq-eqb, ne_eqb}
 use Rattle.ivy_model.specs.declared.call.Call.{Call}
 use Rattle.ivy_model.specs.declared.call.Record.{Record}
 use Rattle.ivy_calls.specs.declared.answer.Answer.{Answer}
@@ -14,7 +14,6 @@ use Rattle.ivy_calls.proofs.Answers.{answers_of-push_own, answers_of-push_other,
 use Rattle.ivy_sync.specs.excluding.Sections.{onto_first, turns_of}
 use Rattle.ivy_sync.specs.excluding.Serial.{Rule, state, is_inside, GuardsInside, stays, AreTurnsOf}
 use Rattle.ivy_sync.proofs.answers.Lists.{one_more}
-use Rattle.ivy_sync.proofs.excluding.Sections.{turn_own, turn_other}
 
 pub state-append : {S : Type 0} (rule : Rule S) (s : S) (xs ys : List Answer)
     → state rule s (xs ++ ys) ≡ state rule (state rule s xs) ys
@@ -58,6 +57,20 @@ pub record AreTurnsFrom {S : Type 0} (rule : Rule S) (guarded : Call → Bool) (
       ≡ stays rule guarded (state rule rule.first (answers_of i xs)) (answers_of i ys)
   pub first : (j : ℕ) → IsTrue (is_inside rule (answers_of j xs))
       → (s : List Answer) × (rest : List (ℕ × List Answer)) × (turns ≡ (j, s) ∷ rest)
+
+pub turn_own : (j : ℕ) (s : List Answer) (rest : List (ℕ × List Answer))
+    → turns_of j ((j, s) ∷ rest) ≡ s ∷ turns_of j rest
+turn_own j s rest =
+    ap (λ b. map (λ (t : ℕ × List Answer). t.1) (if b then (j, s) ∷ filter
+    (λ (t : ℕ × List Answer). t.0 == j) rest else filter (λ (t : ℕ × List Answer). t.0 == j) rest))
+    (eq-eqb j j refl)
+
+pub turn_other : (i j : ℕ) (s : List Answer) (rest : List (ℕ × List Answer)) → (j ≡ i → ⊥)
+    → turns_of i ((j, s) ∷ rest) ≡ turns_of i rest
+turn_other i j s rest ne =
+    ap (λ b. map (λ (t : ℕ × List Answer). t.1) (if b then (j, s) ∷ filter
+    (λ (t : ℕ × List Answer). t.0 == i) rest else filter (λ (t : ℕ × List Answer). t.0 == i) rest))
+    (ne_eqb j i ne)
 
 -- nobody is inside, or one node alone
 abbrev pub IsAlone : {S : Type 0} → Rule S → List Record → Type 0

@@ -1,6 +1,6 @@
 -- What a node of a tree has done so far at the barrier.
-use Rattle.std.proofs.Common.{◌≡◌, ℕ, zero, suc, ◌+◌, ◌-◌, ◌*◌, ◌/◌, ◌≤◌, inl, inr, List, [], ◌∷◌, ◌++◌}
-use Rattle.std.proofs.Common.{refl, sym, ap, subst, ◌∙◌, append_assoc, arith}
+use Rattle.std.proofs.Common.{◌≡◌, ℕ, zero, suc, ◌+◌, ◌-◌, ◌/◌, ◌≤◌, inl, inr, List, [], ◌∷◌, ◌++◌}
+use Rattle.std.proofs.Common.{refl, ap, subst, ◌∙◌, append_assoc, arith}
 use Rattle.ivy_model.specs.declared.call.Call.TheVariants.{Store}
 use Rattle.ivy_model.specs.declared.fault.Fault.{Fault}
 use Rattle.ivy_calls.specs.declared.answer.Answer.{Answer}

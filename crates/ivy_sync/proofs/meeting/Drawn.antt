@@ -1,12 +1,11 @@
 -- A word in which nodes write only to draw numbers holds what it held and how many were drawn.
 use Rattle.std.proofs.Common.{◌≡◌, ℕ, ◌+◌, ◌^◌, ◌<◌, ◌≤◌, Bool, true, false, cond, if◌then◌else◌}
-use Rattle.std.proofs.Common.{IsTrue, List, [], ◌∷◌, ◌++◌, refl, sym, ap, subst, ◌∙◌, arith}
+use Rattle.std.proofs.Common.{IsTrue, List, [], ◌∷◌, refl, ap, ◌∙◌, arith}
 use Rattle.std.specs.List.{AllByRecursion as Each}
 use Rattle.ivy_model.specs.declared.config.Config.{Config}
 use Rattle.ivy_model.specs.declared.call.Record.{Record}
 use Rattle.ivy_model.specs.declared.call.Reply.TheVariants.{Value}
 use Rattle.ivy_model.specs.stated.Accesses.{kind_of_call}
-use Rattle.ivy_model.specs.stated.Legal.{HasWidth}
 use Rattle.ivy_model.specs.stated.Memory.{Memory}
 use Rattle.ivy_model.specs.stated.Serves.{Serves}
 use Rattle.ivy_model.proofs.Sizes.{serves_sized}

@@ -13,7 +13,7 @@ use Rattle.ivy_calls.specs.declared.answer.Answer.{Answer}
 use Rattle.ivy_calls.specs.Answers.{answer, answers_of}
 use Rattle.ivy_calls.proofs.Answers.{answers_of-append, answers_of-push_own, answers_of-push_other}
 use Rattle.ivy_calls.proofs.Answers.{answers_of-first}
-use Rattle.ivy_sync.specs.meeting.Separated.{IsCutIn, IsSeparated}
+use Rattle.ivy_sync.specs.meeting.Separated.{IsSeparated}
 use Rattle.ivy_sync.proofs.answers.Cuts.{leads_cut}
 use Rattle.ivy_sync.proofs.answers.Lists.{one_more, two_cuts}
 

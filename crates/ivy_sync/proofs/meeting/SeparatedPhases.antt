@@ -1,5 +1,5 @@
 -- What one node writes before a barrier of any kind is read after it.
-use Rattle.std.proofs.Common.{◌≡◌, ◌≢◌, ℕ, ◌/◌, ◌<◌, inl, inr, false, List, [], ◌∷◌, ◌++◌, refl, sym}
+use Rattle.std.proofs.Common.{◌≡◌, ◌≢◌, ℕ, ◌<◌, inl, inr, false, List, ◌++◌, sym}
 use Rattle.std.proofs.Common.{ap, subst, ◌∙◌}
 use Rattle.std.proofs.Math.Bridge.{le_prop}
 use Rattle.std.specs.List.{AllByRecursion as Each}
@@ -13,7 +13,7 @@ use Rattle.ivy_calls.specs.declared.answer.Answer.{Answer}
 use Rattle.ivy_calls.specs.Answers.{answers, answers_of}
 use Rattle.ivy_sync.specs.HeapWords.{word, IsHeapWord, is_write_in, NoWrite, IsWhole, Reads, last}
 use Rattle.ivy_sync.specs.HeapWords.{LeadsThrough}
-use Rattle.ivy_sync.specs.meeting.Separated.{IsCutIn, IsSeparated}
+use Rattle.ivy_sync.specs.meeting.Separated.{IsSeparated}
 use Rattle.ivy_sync.proofs.answers.Cuts.{nodes_there, all_parts, part_all, own_or}
 use Rattle.ivy_sync.proofs.answers.Lists.{All-append, All-both}
 use Rattle.ivy_sync.proofs.answers.HeapWords.{word_last}

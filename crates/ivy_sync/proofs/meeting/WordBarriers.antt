@@ -1,6 +1,6 @@
 -- A barrier by two words separates.
-use Rattle.std.proofs.Common.{◌≡◌, ◌≢◌, ℕ, ◌+◌, ◌/◌, ◌^◌, ◌<◌, ◌≤◌, ◌⊎◌, inl, inr, true, false, cond}
-use Rattle.std.proofs.Common.{IsTrue, List, [], ◌∷◌, ◌++◌, length, refl, sym, ap, subst, ◌∙◌}
+use Rattle.std.proofs.Common.{◌≡◌, ◌≢◌, ℕ, ◌+◌, ◌/◌, ◌<◌, ◌≤◌, ◌⊎◌, inl, inr, false, cond}
+use Rattle.std.proofs.Common.{List, [], ◌∷◌, ◌++◌, length, refl, sym, ap, subst, ◌∙◌}
 use Rattle.std.proofs.Common.{append_assoc, length-append, arith}
 use Rattle.std.specs.List.{AllByRecursion as Each}
 use Rattle.std.proofs.lemmas.Bool.{both_ways}
@@ -13,11 +13,10 @@ use Rattle.ivy_model.specs.stated.Serves.{Serves}
 use Rattle.ivy_calls.specs.declared.answer.Answer.{Answer}
 use Rattle.ivy_calls.specs.Answers.{by, answer, answers, answers_of}
 use Rattle.ivy_calls.proofs.Answers.{answers-append}
-use Rattle.ivy_sync.specs.meeting.Separated.{IsSeparated}
-use Rattle.ivy_sync.specs.meeting.WordBarriers.{Passes, Meets, MeetsAt, IsMet, IsMeetingPlace}
+use Rattle.ivy_sync.specs.meeting.WordBarriers.{Meets, MeetsAt, IsMet, IsMeetingPlace}
 use Rattle.ivy_sync.specs.meeting.WordBarriers.{WordBarrierSeparates, WordPhasesShare}
 use Rattle.ivy_sync.specs.Doing.{draws, loads, stores}
-use Rattle.ivy_sync.specs.HeapWords.{word, IsHeapWord, is_write_in, IsWhole, KeepsBelow, NoWrite}
+use Rattle.ivy_sync.specs.HeapWords.{word, is_write_in, KeepsBelow, NoWrite}
 use Rattle.ivy_sync.specs.HeapWords.{LeadsThrough}
 use Rattle.ivy_sync.proofs.answers.AnswerTotals.{tally, tally-append, parts_tally, total_most, each_one}
 use Rattle.ivy_sync.proofs.answers.Below.{StaysBelow, looks_quiet, no_write_below, word_below}

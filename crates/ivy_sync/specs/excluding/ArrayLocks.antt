@@ -23,7 +23,7 @@ use Rattle.ivy_sync.specs.declared.error.SyncError.{SyncError}
 use Rattle.ivy_sync.specs.declared.error.SyncError.TheVariants.{Spent}
 use Rattle.ivy_sync.specs.excluding.Serial.{Rule, is_inside, GuardsInside, AreTurnsOf}
 use Rattle.ivy_sync.specs.excluding.TicketLocks.{Turn, idle, with_drawn, IsDraw, draws_of}
-use Rattle.ivy_sync.specs.Doing.{LooksUntil, draws, stores}
+use Rattle.ivy_sync.specs.Doing.{LooksUntil, draws}
 use Rattle.ivy_sync.specs.Failing.{FailsToLook, StopsIn}
 use Rattle.ivy_sync.specs.HeapWords.{word, IsHeapWord, is_write_in, LeadsThrough}
 

@@ -1,4 +1,4 @@
-use Rattle.std.proofs.Common.{◌≡◌, ◌+◌, ◌*◌, ap, subst, rules}
+use Rattle.std.proofs.Common.{◌≡◌, ◌+◌, ◌*◌, subst, rules}
 use Rattle.ivy_sync.specs.Doing.{AddsLooks}
 use Rattle.ivy_sync.specs.meeting.TreeBarriers.{phase_of, raised_at}
 use Rattle.ivy_sync.proofs.meeting.Climbed.{gathered_more}

@@ -1,4 +1,4 @@
-use Rattle.std.proofs.Common.{◌≡◌, ◌+◌, ◌*◌, ◌++◌, [], ◌∷◌, List, ap, ap₂, subst, ◌∙◌, rules}
+use Rattle.std.proofs.Common.{◌≡◌, ◌++◌, [], ◌∷◌, List, ap₂, subst, ◌∙◌, rules}
 use Rattle.ivy_model.specs.declared.call.Call.TheVariants.{Store}
 use Rattle.ivy_model.specs.declared.fault.Fault.{Fault}
 use Rattle.ivy_calls.specs.declared.answer.Answer.{Answer}

@@ -1,4 +1,4 @@
-use Rattle.std.proofs.Common.{rules, ◌≡◌, ◌+◌, subst}
+use Rattle.std.proofs.Common.{rules, ◌≡◌, subst}
 use Rattle.ivy_sync.specs.meeting.WordBarriers.{AddsMeeting, all_of}
 use Rattle.ivy_sync.proofs.meeting.Met.{meeting_of}
 use Rattle.ivy_sync.proofs.word_barrier.WordBarrier.wait.Goals as goal
