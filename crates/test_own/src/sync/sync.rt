@@ -135,32 +135,38 @@ fn a_barrier_by_two_words(rt: HostRuntime) {
     );
 }
 
+/// A tree of seven, whose words follow one another.
+const TREE: TreeBarrier = TreeBarrier {
+    raised: 64,
+    opened: 128,
+    apart: 8,
+    nodes: 7,
+    passed: 0,
+};
+
 #[test]
 fn a_barrier_by_a_tree(rt: HostRuntime) {
     let mut memory = small(&rt, rt.alloc());
-    let mut root = TreeBarrier {
-        raised: 64,
-        opened: 128,
-        apart: 8,
-        nodes: 7,
-        passed: 0,
-    };
-    let mut child = root;
     // node 1 has children 5 and 6, and node 0 the nodes 1 to 4
-    for addr in [64 + 8 * 2, 64 + 8 * 3, 64 + 8 * 4, 64 + 8 * 5, 64 + 8 * 6] {
+    for addr in [80, 88, 96, 104, 112] {
         expect_same(&rt, store(&mut memory, addr, 1u64), Ok(()));
     }
     expect_same(&rt, store(&mut memory, 128, 1u64), Ok(()));
+    let mut child = TREE;
     expect_same(&rt, child.wait(&mut memory, 1), Ok(()));
     expect_same(&rt, load(&mut memory, 72), Ok(1u64));
     expect_same(&rt, load(&mut memory, 136), Ok(1u64));
+    let mut root = TREE;
     expect_same(&rt, root.wait(&mut memory, 0), Ok(()));
     expect_same(&rt, load(&mut memory, 64), Ok(1u64));
     expect_same(&rt, (root.passed, child.passed), (1, 1));
-    root.passed = u64::MAX;
+    let mut spent = TreeBarrier {
+        passed: u64::MAX,
+        ..TREE
+    };
     expect_same(
         &rt,
-        root.wait(&mut memory, 0),
+        spent.wait(&mut memory, 0),
         Err(SyncError::Spent { place: 64 }),
     );
 }
