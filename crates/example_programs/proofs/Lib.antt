@@ -15,3 +15,6 @@ pub mod Counted
 pub mod Repeating
 pub mod Rowing
 pub mod Reading
+pub mod Ringing
+pub mod Counting
+pub mod Bidding

@@ -13,3 +13,7 @@ pub mod WorkMatrices
 pub mod Peterson
 pub mod Readers
 pub mod NumberRows
+pub mod Ring
+pub mod Rings
+pub mod InOrder
+pub mod Highest

@@ -2,9 +2,12 @@
 //! these is a fact, and the call does nothing.
 ghost use Rattle.example_programs.specs.AddsUp.{AllReadTheSum};
 ghost use Rattle.example_programs.specs.Farm.{EachJobOnce};
+ghost use Rattle.example_programs.specs.Highest.{AllNameTheHighest};
+ghost use Rattle.example_programs.specs.InOrder.{AllAreCounted, OnePlaceAtATime};
 ghost use Rattle.example_programs.specs.MadeLock.{MadeLocksExclude};
 ghost use Rattle.example_programs.specs.Pipeline.{PipelinesMap};
 ghost use Rattle.example_programs.specs.Product.{ProductsByRows};
+ghost use Rattle.example_programs.specs.Rings.{TreeRingsMeet, TreeRingsTurn, WordRingsMeet, WordRingsTurn};
 ghost use Rattle.example_programs.specs.RollCall.{AllAreCalled};
 ghost use Rattle.example_programs.specs.Turns.{OneTicketAtATime, OneTurnAtATime};
 
@@ -46,4 +49,39 @@ pub fn one_ticket_at_a_time()
 /// At no point are two nodes inside that come in by their numbers.
 pub fn one_turn_at_a_time()
     ensures { OneTurnAtATime }
+{}
+
+/// Nobody looks before all have stored, where the nodes of a ring meet by two words.
+pub fn word_rings_meet()
+    ensures { WordRingsMeet }
+{}
+
+/// Each node of such a ring gives the number of the next one and 1.
+pub fn word_rings_turn()
+    ensures { WordRingsTurn }
+{}
+
+/// Nobody looks before all have stored, where the nodes of a ring meet by a tree.
+pub fn tree_rings_meet()
+    ensures { TreeRingsMeet }
+{}
+
+/// Each node of such a ring gives the number of the next one and 1.
+pub fn tree_rings_turn()
+    ensures { TreeRingsTurn }
+{}
+
+/// At no point are two nodes inside that wait at places of their own.
+pub fn one_place_at_a_time()
+    ensures { OnePlaceAtATime }
+{}
+
+/// All nodes that count themselves under such a lock are counted.
+pub fn all_are_counted()
+    ensures { AllAreCounted }
+{}
+
+/// All nodes name the highest bid.
+pub fn all_name_the_highest()
+    ensures { AllNameTheHighest }
 {}

@@ -11,6 +11,8 @@
 mod adds_up;
 mod election;
 mod farm;
+mod highest;
+mod in_order;
 mod law;
 mod made_lock;
 mod matrix;
@@ -18,6 +20,7 @@ mod peterson;
 mod pipeline;
 mod product;
 mod readers_writer;
+mod rings;
 mod roll_call;
 mod turns;
 mod work_queue;
@@ -25,9 +28,13 @@ mod work_queue;
 pub use adds_up::AddsUp;
 pub use election::{Election, all_name_one, elect};
 pub use farm::Farm;
+pub use highest::Highest;
+pub use in_order::InOrder;
 pub use law::{
-    all_are_called, all_read_the_sum, each_job_once, made_locks_exclude, one_ticket_at_a_time,
-    one_turn_at_a_time, pipelines_map, products_by_rows,
+    all_are_called, all_are_counted, all_name_the_highest, all_read_the_sum, each_job_once,
+    made_locks_exclude, one_place_at_a_time, one_ticket_at_a_time, one_turn_at_a_time,
+    pipelines_map, products_by_rows, tree_rings_meet, tree_rings_turn, word_rings_meet,
+    word_rings_turn,
 };
 pub use made_lock::MadeLock;
 pub use matrix::Matrices;
@@ -35,6 +42,7 @@ pub use peterson::{Peterson, TwoCount, count, no_two_inside, none_is_lost};
 pub use pipeline::{Pipeline, Stage};
 pub use product::Product;
 pub use readers_writer::{Ledger, ReadersWriter};
+pub use rings::{TreeRing, WordRing};
 pub use roll_call::RollCall;
 pub use turns::{ByNumbers, ByTickets};
 pub use work_queue::{Squares, WorkQueue};

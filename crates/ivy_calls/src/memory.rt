@@ -50,4 +50,13 @@ pub trait SharedMemory {
     {
         0
     }
+
+    /// Lets others run: who waits for a word has looked at it so often, each time in vain.
+    ///
+    /// Nothing is asked. A memory whose node has a processor of its own may return at once, as this does.
+    fn rest(&mut self, looks: u64)
+        ensures { answers self.new ≡ answers self.old }
+    {
+        let _ = looks;
+    }
 }

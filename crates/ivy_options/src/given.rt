@@ -95,7 +95,7 @@ impl<'a> Given<'a> {
             return option.number;
         }
         match self.command.option(name)?.value {
-            Value::Number { missing, .. } => missing,
+            Value::Number { missing, .. } | Value::Power { missing, .. } => missing,
             _ => None,
         }
     }

@@ -19,7 +19,7 @@ fn print_program<W: Write>(program: &CommandTable, out: &mut W) -> io::Result<()
 fn behind(option: &CommandOption) -> &'static str {
     match option.value {
         Value::Nothing => "",
-        Value::Number { .. } => "N",
+        Value::Number { .. } | Value::Power { .. } => "N",
         Value::Manager => "fixed|dynamic",
         Value::Word(name) => name,
     }
@@ -31,6 +31,10 @@ fn print_option<W: Write>(option: &CommandOption, out: &mut W) -> io::Result<()>
     write!(out, "  {:<11} {behind:<14} {}", option.name, option.about)?;
     match option.value {
         Value::Number {
+            missing: Some(number),
+            ..
+        }
+        | Value::Power {
             missing: Some(number),
             ..
         } => writeln!(out, " ({number})"),

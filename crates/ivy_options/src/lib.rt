@@ -13,6 +13,7 @@ mod nearest;
 mod numbers;
 mod reader;
 mod settings;
+mod shown;
 mod table;
 
 pub use given::Given;
@@ -21,4 +22,5 @@ pub use line::{Line, read_line};
 pub use misuse::{Misuse, NoOptions};
 pub use nearest::Nearest;
 pub use settings::{MANAGER, PAGE_SIZE, PAGES};
+pub use shown::{Shown, width_of};
 pub use table::{ANY_NUMBER, Bounds, Command, CommandOption, CommandTable, Operand, Value};

@@ -1,6 +1,7 @@
 //! Why words are no command line.
 
 use crate::nearest::Nearest;
+use crate::shown::Shown;
 use crate::table::{Command, CommandTable};
 use std::alloc::{AllocError, AllocFailed};
 use std::fmt;
@@ -47,6 +48,8 @@ pub enum Misuse<'a> {
         name: &'static str,
         word: &'a str,
     },
+    /// The number of an option is no power of two.
+    NoPower(&'static str),
     /// The number of an option is below its least.
     TooLow {
         name: &'static str,
@@ -111,22 +114,23 @@ impl<'a> Misuse<'a> {
         match *self {
             Misuse::NoCommand(program) => write!(f, "no command; `{program} --help` names them"),
             Misuse::NotUtf8 => f.write_str("a word is not UTF-8"),
-            Misuse::UnknownCommand { word, .. } => write!(f, "`{word}` is no command"),
+            Misuse::UnknownCommand { word, .. } => write!(f, "`{}` is no command", Shown(word)),
             Misuse::UnknownOption { command, word, .. } => {
-                write!(f, "`{command}` has no option `{word}`")
+                write!(f, "`{command}` has no option `{}`", Shown(word))
             }
             Misuse::UnknownManager { word, .. } => {
-                write!(f, "a manager is `fixed` or `dynamic`, and not `{word}`")
+                write!(f, "a manager is `fixed` or `dynamic`, and not `{}`", Shown(word))
             }
             Misuse::Lacks { name, what } => write!(f, "`{name}` lacks its {what}"),
             Misuse::FurtherFile { command, word } => {
-                write!(f, "`{command}` takes no further file `{word}`")
+                write!(f, "`{command}` takes no further file `{}`", Shown(word))
             }
             Misuse::NeedlessValue(name) => write!(f, "`{name}` takes no value"),
             Misuse::GivenTwice(name) => write!(f, "`{name}` is given twice"),
             Misuse::NoNumber { name, word } => {
-                write!(f, "`{name}` takes a number, and not `{word}`")
+                write!(f, "`{name}` takes a number, and not `{}`", Shown(word))
             }
+            Misuse::NoPower(name) => write!(f, "`{name}` is a power of two"),
             Misuse::TooLow { name, least } => write!(f, "`{name}` is {least} at least"),
             Misuse::TooHigh { name, most } => write!(f, "`{name}` is {most} at most"),
         }

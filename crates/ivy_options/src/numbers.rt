@@ -33,3 +33,19 @@ pub(crate) fn number_within<'a>(
     }
     Ok(number)
 }
+
+/// The same, where the number is a power of two.
+pub(crate) fn power_within<'a>(
+    name: &'static str,
+    word: &'a str,
+    bounds: Bounds,
+) -> Result<u64, Misuse<'a>>
+    ensures spelled { IfOk result (λ n. IsNumber word.now × (n ≡ digits_value 10 word.now)) }
+    ensures within { IfOk result (λ n. (bounds.least ≤ n) × (n ≤ bounds.most)) }
+{
+    let number = number_within(name, word, bounds)?;
+    if !number.is_power_of_two() {
+        return Err(Misuse::NoPower(name));
+    }
+    Ok(number)
+}

@@ -2,7 +2,7 @@
 
 use crate::given::{Given, GivenOption};
 use crate::misuse::{Misuse, NoOptions};
-use crate::numbers::number_within;
+use crate::numbers::{number_within, power_within};
 use crate::table::{Command, CommandOption, Value};
 use std::alloc::Global;
 
@@ -32,6 +32,7 @@ fn given_option<'a>(
     let name = option.name;
     let number = match option.value {
         Value::Number { bounds, .. } => Some(number_within(name, word, bounds)?),
+        Value::Power { bounds, .. } => Some(power_within(name, word, bounds)?),
         Value::Manager => {
             manager_word(word)?;
             None

@@ -23,6 +23,11 @@ pub enum Value {
         missing: Option<u64>,
         bounds: Bounds,
     },
+    /// The same, of powers of two.
+    Power {
+        missing: Option<u64>,
+        bounds: Bounds,
+    },
     /// `fixed` or `dynamic`. A missing option stands for `dynamic`.
     Manager,
     /// Any word. Help calls it this.

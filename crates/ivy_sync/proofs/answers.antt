@@ -5,3 +5,4 @@ pub mod AnswerTotals
 pub mod HeapWords
 pub mod First
 pub mod Failing
+pub mod Below

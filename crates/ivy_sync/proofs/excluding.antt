@@ -5,3 +5,7 @@ pub mod Sections
 pub mod Tickets
 pub mod Locked
 pub mod TicketLocks
+pub mod Serial
+pub mod ArrayLocks
+pub mod ArraySections
+pub mod Seated

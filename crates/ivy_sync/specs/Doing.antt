@@ -1,5 +1,5 @@
 -- The answers that the calls of this library add.
-use Rattle.std.specs.Prelude.{◌≡◌, ◌≢◌, ℕ, Bool, true, false, List, [], ◌∷◌, ◌++◌}
+use Rattle.std.specs.Prelude.{◌≡◌, ◌≢◌, ℕ, ◌<◌, ◌≤◌, Bool, true, false, List, [], ◌∷◌, ◌++◌}
 use Rattle.std.specs.List.{AllByRecursion as Each}
 use Rattle.ivy_model.specs.declared.call.Call.TheVariants.{Load, Store, Swap, Cas, FetchAdd}
 use Rattle.ivy_model.specs.declared.call.Call.TheVariants.{Advance, Await, Alloc}
@@ -54,6 +54,25 @@ pub record Crosses (k least : ℕ) (old new : List Answer) : Type 0 where
 -- this ticket was drawn from the word at a
 abbrev pub draws : ℕ → ℕ → Answer
 draws a ticket = record { call = FetchAdd 8 a 1; reply = Value ticket }
+
+-- the word at a was looked at in vain: less than this stood there
+pub record LooksInVain (a least : ℕ) (r : Answer) : Type 0 where
+  pub found : ℕ
+  pub is : r ≡ loads a found
+  pub less : found < least
+
+-- the word at a was looked at until it was at least this
+pub record LooksUntil (a least : ℕ) (looks : List Answer) : Type 0 where
+  pub vain : List Answer
+  pub each : Each (LooksInVain a least) vain
+  pub found : ℕ
+  pub enough : least ≤ found
+  pub whole : looks ≡ vain ++ loads a found ∷ []
+
+pub record AddsLooks (a least : ℕ) (old new : List Answer) : Type 0 where
+  pub looks : List Answer
+  pub until : LooksUntil a least looks
+  pub whole : new ≡ old ++ looks
 
 -- a ticket was drawn, and its turn awaited
 pub record Enters (a k ticket : ℕ) (old new : List Answer) : Type 0 where

@@ -15,7 +15,8 @@ use Rattle.ivy_sync.specs.declared.error.SyncError.TheVariants as error
 use Rattle.ivy_sync.specs.declared.broadcast.Broadcast.{Broadcast}
 use Rattle.ivy_sync.specs.declared.queue.Queue.{Queue}
 use Rattle.ivy_sync.specs.meeting.Barriers.{least_of, passed_on}
-use Rattle.ivy_sync.specs.Doing.{AsksInVain, Crosses, allots, claims_word, draws, stores}
+use Rattle.ivy_sync.specs.Doing.{AsksInVain, LooksInVain, Crosses, allots}
+use Rattle.ivy_sync.specs.Doing.{claims_word, draws, stores}
 use Rattle.ivy_sync.specs.queueing.Queues.{slot}
 
 -- in some state of the memory a call may fail so
@@ -45,6 +46,21 @@ FailsToLock can_fail a (error.Call e) old new =
     × Fails can_fail (Swap 8 a 1) e tried new
 FailsToLock can_fail a (error.Spent place) old new =
     (place ≡ a) × HasAsked a (2 ^ 64 - 1) old new
+
+-- the word at a was looked at so often, each time in vain
+pub record HasLooked (a least times : ℕ) (old new : List Answer) : Type 0 where
+  pub vain : List Answer
+  pub each : Each (LooksInVain a least) vain
+  pub number : length vain ≡ times
+  pub whole : new ≡ old ++ vain
+
+-- the next look failed, or no more can be counted
+abbrev pub FailsToLook : (Fault → Type 0) → ℕ → ℕ → SyncError → List Answer → List Answer → Type 0
+FailsToLook can_fail a least (error.Call e) old new =
+    (times : ℕ) × (looked : List Answer) × HasLooked a least times old looked
+    × Fails can_fail (Load 8 a) e looked new
+FailsToLook can_fail a least (error.Spent place) old new =
+    (place ≡ a) × HasLooked a least (2 ^ 64 - 1) old new
 
 -- a barrier was not passed: the count can't be so great, or a call failed
 abbrev pub FailsToCross : (Fault → Type 0) → ℕ → ℕ → SyncError → List Answer → List Answer → Type 0

@@ -1,5 +1,5 @@
 -- Words of 8 bytes of the heap, and what calls do there.
-use Rattle.std.specs.Prelude.{◌≡◌, ℕ, ◌/◌, ◌%◌, ◌^◌, Bool, false, true, ◌==◌, if◌then◌else◌}
+use Rattle.std.specs.Prelude.{◌≡◌, ℕ, ◌/◌, ◌%◌, ◌^◌, ◌<◌, Bool, false, true, ◌==◌, if◌then◌else◌}
 use Rattle.std.specs.Prelude.{IsTrue, List, [], ◌∷◌, Option, Some, None}
 use Rattle.std.specs.List.{AllByRecursion as Each}
 use Rattle.ivy_model.specs.declared.config.Config.{Config}
@@ -83,6 +83,12 @@ put_after v _ = v
 -- what the word at a holds after a call, where it held v
 abbrev pub word_after : ℕ → ℕ → Call → ℕ
 word_after a v call = if is_write_in a call then put_after v (kind_of_call call) else v
+
+-- these answers write all of the word at a where they write in it, and leave it below least where it
+-- was below
+abbrev pub KeepsBelow : ℕ → ℕ → List Answer → Type 0
+KeepsBelow a least rs =
+    Each (λ r. IsWhole a r.call × ((v : ℕ) → v < least → word_after a v r.call < least)) rs
 
 -- what it holds after these answers, where it held v
 abbrev pub last : ℕ → ℕ → List Answer → ℕ

@@ -4,3 +4,4 @@ pub mod meeting
 pub mod Doing
 pub mod queueing
 pub mod Failing
+pub mod Touching

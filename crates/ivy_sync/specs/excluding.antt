@@ -4,3 +4,5 @@ pub mod Locks
 pub mod Sections
 pub mod Tickets
 pub mod TicketLocks
+pub mod Serial
+pub mod ArrayLocks

@@ -6,3 +6,6 @@ pub mod Reductions
 pub mod Broadcasts
 pub mod Sums
 pub mod Folds
+pub mod Separated
+pub mod WordBarriers
+pub mod TreeBarriers

@@ -1,5 +1,6 @@
 //! What holds of every order that explains what the nodes were answered. Each of these is a fact, and
 //! the call does nothing.
+ghost use Rattle.ivy_sync.specs.excluding.ArrayLocks.{ArrayLocksExclude, ArraySectionsAreSerial};
 ghost use Rattle.ivy_sync.specs.meeting.Barriers.{BarrierSeparates};
 ghost use Rattle.ivy_sync.specs.meeting.Broadcasts.{BroadcastsArrive};
 ghost use Rattle.ivy_sync.specs.excluding.Locks.{LeftLocksAreFree, MutualExclusion};
@@ -11,6 +12,9 @@ ghost use Rattle.ivy_sync.specs.excluding.Registers.{WordsAreRegisters};
 ghost use Rattle.ivy_sync.specs.excluding.Sections.{SectionsAreSerial};
 ghost use Rattle.ivy_sync.specs.queueing.SharedQueues.{SharedQueuesKeepOrder};
 ghost use Rattle.ivy_sync.specs.meeting.Sums.{SumsAreWhole};
+ghost use Rattle.ivy_sync.specs.meeting.WordBarriers.{WordBarrierSeparates, WordPhasesShare};
+ghost use Rattle.ivy_sync.specs.meeting.TreeBarriers.{TreeBarrierSeparates, TreePhasesShare};
+ghost use Rattle.ivy_sync.specs.Touching.{TouchesKeep};
 ghost use Rattle.ivy_sync.specs.excluding.TicketLocks.{TicketLocksExclude};
 ghost use Rattle.ivy_sync.specs.excluding.Tickets.{TicketsExclude};
 
@@ -90,4 +94,41 @@ pub fn broadcasts_arrive()
 /// Where each node adds its number to a sum under a lock and then meets the others, all read the whole sum.
 pub fn sums_are_whole()
     ensures { SumsAreWhole }
+{}
+
+/// A barrier by two words separates: all that the nodes did before it stands before all that they did after it.
+pub fn word_barrier_separates()
+    ensures { WordBarrierSeparates }
+{}
+
+/// At no point are two nodes inside that wait at places of their own.
+pub fn array_locks_exclude()
+    ensures { ArrayLocksExclude }
+{}
+
+/// What is guarded by such a lock is done in one whole critical section after another.
+pub fn array_sections_are_serial()
+    ensures { ArraySectionsAreSerial }
+{}
+
+/// A word that one node alone writes before a barrier by two words, and nobody after it, is read after it as that node
+/// left it.
+pub fn word_phases_share()
+    ensures { WordPhasesShare }
+{}
+
+/// A barrier by a tree separates: all that the nodes did before it stands before all that they did after it.
+pub fn tree_barrier_separates()
+    ensures { TreeBarrierSeparates }
+{}
+
+/// A word that one node alone writes before a barrier by a tree, and nobody after it, is read after it as that node left
+/// it.
+pub fn tree_phases_share()
+    ensures { TreePhasesShare }
+{}
+
+/// Who touches pages changes nothing: each word holds what it held.
+pub fn touches_keep()
+    ensures { TouchesKeep }
 {}

@@ -1,3 +1,4 @@
 pub mod Printing
 pub mod Drawing
 pub mod Worded
+pub mod Calls

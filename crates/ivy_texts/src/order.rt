@@ -1,5 +1,6 @@
 //! Orders: the records of all nodes as one list, one a line.
-ghost use Rattle.std.specs.Prelude.{◌≡◌, IfOk, IfErr, IfSome, Some, codes, map, slice_get};
+ghost use Rattle.std.specs.Prelude.{◌≡◌, ◌<◌, ◌^◌, ℕ, [], ◌∷◌, IfOk, IfErr, IfNone, IfSome, Some, codes, map, slice_get};
+ghost use Rattle.ivy_model.specs.declared.Call.{Call};
 ghost use Rattle.ivy_model.specs.stated.Legal.{HasWidth, IsWidth};
 ghost use Rattle.ivy_program.specs.texts.Lines.{IsNumberWord};
 ghost use Rattle.ivy_program.specs.texts.Texts.{IsRefusal};
@@ -46,7 +47,8 @@ fn parse_sizes(words: &[&str]) -> Option<Sizes>
 
 /// The number that a word spells, where it is one of a byte.
 pub fn parse_byte(word: &str) -> Option<u8>
-    ensures { IfSome result (IsNumberWord word.now) }
+    ensures number { IfSome result (IsNumberWord word.now) }
+    ensures none { IfNone result ((n : ℕ) → n < 2 ^ 8 → ¬ IsNumberWord word.now n) }
 {
     u8::try_from(parse_number(word)?).ok()
 }
@@ -54,60 +56,103 @@ pub fn parse_byte(word: &str) -> Option<u8>
 fn parse_width(word: &str) -> Option<u8>
     ensures number { IfSome result (IsNumberWord word.now) }
     ensures width { IfSome result IsWidth }
+    ensures none { IfNone result ((n : ℕ) → IsWidth n → ¬ IsNumberWord word.now n) }
 {
     let width = parse_byte(word)?;
     [1, 2, 4, 8].contains(&width).then_some(width)
+}
+
+/// The call of a keyword and one word.
+fn parse_unary(keyword: &str, number: &str) -> Option<Call>
+    ensures spelled { IfSome result (SpellsCall (keyword.now ∷ number.now ∷ [])) }
+    ensures width { IfSome result HasWidth }
+    ensures none { IfNone result ((c : Call) → HasWidth c → ¬ SpellsCall (keyword.now ∷ number.now ∷ []) c) }
+{
+    let number = parse_number(number)?;
+    match keyword {
+        "count" => Some(Call::Count { k: number }),
+        "advance" => Some(Call::Advance { k: number }),
+        "alloc" => Some(Call::Alloc { size: number }),
+        "free" => Some(Call::Free { addr: number }),
+        _ => None,
+    }
+}
+
+/// The call of a keyword and two words.
+fn parse_binary(keyword: &str, first: &str, second: &str) -> Option<Call>
+    ensures spelled { IfSome result (SpellsCall (keyword.now ∷ first.now ∷ second.now ∷ [])) }
+    ensures width { IfSome result HasWidth }
+    ensures none { IfNone result ((c : Call) → HasWidth c → ¬ SpellsCall (keyword.now ∷ first.now ∷ second.now ∷ []) c) }
+{
+    let last = parse_number(second)?;
+    match keyword {
+        "load" => Some(Call::Load {
+            width: parse_width(first)?,
+            addr: last,
+        }),
+        "await" => Some(Call::Await {
+            k: parse_number(first)?,
+            least: last,
+        }),
+        _ => None,
+    }
+}
+
+/// The call of a keyword and three words: a width, an address and a value.
+fn parse_ternary(keyword: &str, width: &str, addr: &str, value: &str) -> Option<Call>
+    ensures spelled { IfSome result (SpellsCall (keyword.now ∷ width.now ∷ addr.now ∷ value.now ∷ [])) }
+    ensures width { IfSome result HasWidth }
+    ensures none { IfNone result ((c : Call) → HasWidth c → ¬ SpellsCall (keyword.now ∷ width.now ∷ addr.now ∷ value.now ∷ []) c) }
+{
+    let width = parse_width(width)?;
+    let addr = parse_number(addr)?;
+    let value = parse_number(value)?;
+    match keyword {
+        "store" => Some(Call::Store { width, addr, value }),
+        "swap" => Some(Call::Swap { width, addr, value }),
+        "fadd" => Some(Call::FetchAdd { width, addr, value }),
+        _ => None,
+    }
+}
+
+/// The call of a keyword and four words: a width, an address, an expected value and a new one.
+fn parse_quaternary(
+    keyword: &str,
+    width: &str,
+    addr: &str,
+    expected: &str,
+    value: &str,
+) -> Option<Call>
+    ensures spelled { IfSome result (SpellsCall (keyword.now ∷ width.now ∷ addr.now ∷ expected.now ∷ value.now ∷ [])) }
+    ensures width { IfSome result HasWidth }
+    ensures none { IfNone result ((c : Call) → HasWidth c → ¬ SpellsCall (keyword.now ∷ width.now ∷ addr.now ∷ expected.now ∷ value.now ∷ []) c) }
+{
+    match keyword {
+        "cas" => Some(Call::Cas {
+            width: parse_width(width)?,
+            addr: parse_number(addr)?,
+            expected: parse_number(expected)?,
+            value: parse_number(value)?,
+        }),
+        _ => None,
+    }
 }
 
 /// The call that words name, as in a record of an order, where they are one. Its width is 1, 2, 4 or 8.
 pub fn parse_call(words: &[&str]) -> Option<Call>
     ensures spelled { IfSome result (SpellsCall (map (λ w. w.now) words.now)) }
     ensures width { IfSome result HasWidth }
+    ensures none { IfNone result ((c : Call) → HasWidth c → ¬ SpellsCall (map (λ w. w.now) words.now) c) }
 {
-    Some(match *words {
-        ["load", width, addr] => Call::Load {
-            width: parse_width(width)?,
-            addr: parse_number(addr)?,
-        },
-        ["store", width, addr, value] => Call::Store {
-            width: parse_width(width)?,
-            addr: parse_number(addr)?,
-            value: parse_number(value)?,
-        },
-        ["swap", width, addr, value] => Call::Swap {
-            width: parse_width(width)?,
-            addr: parse_number(addr)?,
-            value: parse_number(value)?,
-        },
-        ["cas", width, addr, expected, value] => Call::Cas {
-            width: parse_width(width)?,
-            addr: parse_number(addr)?,
-            expected: parse_number(expected)?,
-            value: parse_number(value)?,
-        },
-        ["fadd", width, addr, value] => Call::FetchAdd {
-            width: parse_width(width)?,
-            addr: parse_number(addr)?,
-            value: parse_number(value)?,
-        },
-        ["count", k] => Call::Count {
-            k: parse_number(k)?,
-        },
-        ["advance", k] => Call::Advance {
-            k: parse_number(k)?,
-        },
-        ["await", k, least] => Call::Await {
-            k: parse_number(k)?,
-            least: parse_number(least)?,
-        },
-        ["alloc", size] => Call::Alloc {
-            size: parse_number(size)?,
-        },
-        ["free", addr] => Call::Free {
-            addr: parse_number(addr)?,
-        },
-        _ => return None,
-    })
+    match *words {
+        [keyword, number] => parse_unary(keyword, number),
+        [keyword, first, second] => parse_binary(keyword, first, second),
+        [keyword, width, addr, value] => parse_ternary(keyword, width, addr, value),
+        [keyword, width, addr, expected, value] => {
+            parse_quaternary(keyword, width, addr, expected, value)
+        }
+        _ => None,
+    }
 }
 
 /// The reply that words name, where they are one.

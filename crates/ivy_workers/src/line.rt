@@ -83,6 +83,12 @@ impl<A: Allocator> Line<A> {
         self.behind(0)
     }
 
+    /// Whether any frame is on the ether.
+    #[inline(always)]
+    pub(crate) fn has_any(&self) -> bool {
+        self.added.load(Ordering::SeqCst) != self.struck.load(Ordering::SeqCst)
+    }
+
     /// So often anything was told.
     pub(crate) fn changes(&self) -> u64 {
         let struck = self.struck.load(Ordering::SeqCst);

@@ -7,10 +7,18 @@ use crate::wire::Wire;
 use std::alloc::Allocator;
 use std::hint::spin_loop;
 use std::sync::{Mutex, MutexGuard, Wait};
+use std::thread::yield_now;
 
 /// So often a worker looks whether the other one of its node has left the site, before it sleeps until then. A turn takes
 /// no longer.
 const MOST_LOCK_LOOKS: u32 = 500;
+
+/// So many turns a program worker makes while the same frame lies first on the ether, before it sees to it. The worker that
+/// is woken for the frame takes it sooner where it finds a processor.
+const MOST_PASSED: u32 = 64;
+
+/// So many turns on the wire a program worker makes at most before its program goes on.
+const MOST_WIRE_TURNS: u32 = 8;
 
 /// So often a worker looks for a lock, where it looks so often for something to do.
 pub(crate) fn lock_looks(looks: u32) -> u32 {
@@ -46,6 +54,9 @@ pub struct ProgramWorker<'r, 's, 'g, 'a, T, A: Allocator, R, G> {
     /// Whether it makes the turns on the wire.
     polls: bool,
     patience: Patience,
+    /// So many turns it has made since the frames on the ether were these.
+    passed: u32,
+    changes: u64,
 }
 
 impl<'r, 's, 'g, 'a, T: Seat, A: Allocator + Copy, R: Wait, G: Turnstile> ProgramWorker<
@@ -67,22 +78,63 @@ impl<'r, 's, 'g, 'a, T: Seat, A: Allocator + Copy, R: Wait, G: Turnstile> Progra
             served: 0,
             polls: false,
             patience,
+            passed: 0,
+            changes: 0,
         }
     }
 
     /// Locks the node's place for a turn. None where the session stops, or no turn is left.
     #[inline(always)]
     pub fn enter(&mut self) -> Option<MutexGuard<'s, T>> {
-        let wire = &self.wire;
-        if self.turns == 0 || wire.shared.is_stopped() {
+        if self.turns == 0 || self.wire.shared.is_stopped() {
             return None;
         }
         self.turns -= 1;
+        if !self.polls && self.wire.shared.line().has_any() {
+            self.make_way();
+        }
+        let wire = &self.wire;
         self.served = wire.bells.served();
         wire.bells.let_wire_go();
         let seated = lock_soon(wire.rt, wire.seat, lock_looks(wire.shared.looks()));
         wire.gate.pass(wire.node, Role::Program, seated.records());
         Some(seated)
+    }
+
+    /// Frames are on the ether. Where they stay the same for long, this worker holds off whoever is to take the first of
+    /// them: so it makes the node's turns on the wire itself, or gives the processor up.
+    #[inline(never)]
+    fn make_way(&mut self) {
+        let changes = self.wire.shared.line().changes();
+        if changes != self.changes {
+            self.changes = changes;
+            self.passed = 0;
+        }
+        self.passed = self.passed.saturating_add(1);
+        if self.passed < MOST_PASSED {
+            return;
+        }
+        self.passed = 0;
+        if self.wire.has_work() {
+            self.turn_for_wire();
+        } else {
+            yield_now();
+        }
+    }
+
+    /// Makes the turns on the wire that are due, in place of the wire worker, which is woken where one is left.
+    fn turn_for_wire(&mut self) {
+        let bells = self.wire.bells;
+        bells.poll(true);
+        for _ in 0..MOST_WIRE_TURNS {
+            if !self.wire.has_work() || !self.turn_on_wire() {
+                break;
+            }
+        }
+        bells.poll(false);
+        if self.wire.has_work() {
+            ring(&bells.wire);
+        }
     }
 
     /// Leaves the node's place after a turn. Where the program rests next, this worker makes the node's turns on the wire

@@ -6,6 +6,7 @@ pub mod Adjacent
 pub mod Owing
 pub mod Beside
 pub mod CarriedWords
+pub mod Alone
 pub mod OwingEvents
 pub mod OwedCalls
 pub mod Faithful
@@ -14,3 +15,4 @@ pub mod FaithfulSteps
 pub mod FaithfulOpening
 pub mod Untorn
 pub mod FaithfulWorlds
+pub mod AloneWorlds

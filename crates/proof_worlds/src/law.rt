@@ -1,5 +1,6 @@
 //! The laws of deliveries and of breaches.
 ghost use Rattle.ivy_host.specs.stated.Managers.{managed_ops};
+ghost use Rattle.proof_worlds.specs.consistency.Alone.{WordsAreCarriedAlone};
 ghost use Rattle.proof_worlds.specs.headline.OfRun.{NoneIsBreached};
 ghost use Rattle.proof_worlds.specs.progress.Answering.{DeliveriesAnswer};
 ghost use Rattle.proof_worlds.specs.progress.Ending.{DeliveriesEnd};
@@ -37,4 +38,14 @@ pub fn deliveries_end()
 /// asks for a copy of page 0, in which the counts lie, where the node has none.
 pub fn deliveries_answer()
     ensures { DeliveriesAnswer managed_ops }
+{}
+
+/// A word is carried out while no other node has a part in its page. This is a fact, and the call does nothing.
+///
+/// From the opening of any programs, and whatever moves are made, an order of records explains each world, and only
+/// grows. Each record that a move adds to it, if its call is a word of a page, was carried out while, by the entries
+/// before the move, no other node might write the page; and, if the word may write, while no other node might read it.
+/// And each page that a node may read has the bytes that the flat memory has of it after the order.
+pub fn words_are_carried_alone()
+    ensures { WordsAreCarriedAlone }
 {}

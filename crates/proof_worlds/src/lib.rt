@@ -23,4 +23,4 @@
 
 mod law;
 
-pub use law::{deliveries_answer, deliveries_end, none_is_breached};
+pub use law::{deliveries_answer, deliveries_end, none_is_breached, words_are_carried_alone};

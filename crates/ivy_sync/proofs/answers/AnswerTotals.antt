@@ -86,7 +86,7 @@ total_least f (suc n) h =
     let e = total_least f n (λ i l. h i (omega arith)) in
     let last = h n (omega arith) in omega (arith, e, last)
 
-total_most : (f : ℕ → ℕ) (n : ℕ) → ((i : ℕ) → i < n → f i ≤ 1) → sum_up_to f n ≤ n
+pub total_most : (f : ℕ → ℕ) (n : ℕ) → ((i : ℕ) → i < n → f i ≤ 1) → sum_up_to f n ≤ n
 total_most f zero h = omega arith
 total_most f (suc n) h =
     let e = total_most f n (λ i l. h i (omega arith)) in

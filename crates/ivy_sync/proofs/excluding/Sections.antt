@@ -36,14 +36,14 @@ pub record IsSerialFrom (a : ℕ) (guarded : Call → Bool) (xs ys : List Record
   pub first : (j : ℕ) → IsTrue (holds a false (answers_of j xs))
       → (s : List Answer) × (rest : List (ℕ × List Answer)) × (turns ≡ (j, s) ∷ rest)
 
-turn_own : (j : ℕ) (s : List Answer) (rest : List (ℕ × List Answer))
+pub turn_own : (j : ℕ) (s : List Answer) (rest : List (ℕ × List Answer))
     → turns_of j ((j, s) ∷ rest) ≡ s ∷ turns_of j rest
 turn_own j s rest =
     ap (λ b. map (λ (t : ℕ × List Answer). t.1) (if b then (j, s) ∷ filter
     (λ (t : ℕ × List Answer). t.0 == j) rest else filter (λ (t : ℕ × List Answer). t.0 == j) rest))
     (eq-eqb j j refl)
 
-turn_other : (i j : ℕ) (s : List Answer) (rest : List (ℕ × List Answer)) → (j ≡ i → ⊥)
+pub turn_other : (i j : ℕ) (s : List Answer) (rest : List (ℕ × List Answer)) → (j ≡ i → ⊥)
     → turns_of i ((j, s) ∷ rest) ≡ turns_of i rest
 turn_other i j s rest ne =
     ap (λ b. map (λ (t : ℕ × List Answer). t.1) (if b then (j, s) ∷ filter

@@ -55,7 +55,7 @@ turns_at a k t [] r ys h = h
 turns_at a k t (x ∷ xs) r ys h = turns_at a k (turn_after a k t x) xs r ys h.2
 
 -- what a draw does
-draw_at : (a : ℕ) (kind : CallKind) → IsDraw a kind → IsAtWord a kind
+pub draw_at : (a : ℕ) (kind : CallKind) → IsDraw a kind → IsAtWord a kind
 draw_at a (Word width addr does) d = (d.0, d.1)
 draw_at a (Count j) d = d
 draw_at a (Advance j) d = d
@@ -63,7 +63,7 @@ draw_at a (Await j least) d = d
 draw_at a (Alloc size) d = d
 draw_at a (Free addr) d = d
 
-draw_reads : (a : ℕ) (kind : CallKind) → IsDraw a kind → ReadsKind a kind
+pub draw_reads : (a : ℕ) (kind : CallKind) → IsDraw a kind → ReadsKind a kind
 draw_reads a (Word width addr does) d = (d.0, d.1, ap gives_number d.2)
 draw_reads a (Count j) d = d
 draw_reads a (Advance j) d = d
@@ -71,7 +71,7 @@ draw_reads a (Await j least) d = d
 draw_reads a (Alloc size) d = d
 draw_reads a (Free addr) d = d
 
-draw_puts : (a v : ℕ) (kind : CallKind) → IsDraw a kind → v + 1 < 2 ^ 64 → put_after v kind ≡ v + 1
+pub draw_puts : (a v : ℕ) (kind : CallKind) → IsDraw a kind → v + 1 < 2 ^ 64 → put_after v kind ≡ v + 1
 draw_puts a v (Word width addr does) d small =
     ap (λ (x : Act). put_over v (next_number 8 x v)) d.2
     ∙ ap (λ n. n % 2 ^ 64) (mod-eq_of_lt small) ∙ mod-eq_of_lt small
@@ -105,7 +105,7 @@ pub record AreTurns (c : Config) (a k : ℕ) (m : Memory) (rs : List Record) : T
   pub owner : ℕ → ℕ
   pub fair : (i : ℕ) → IsFair count number owner i (turn a k idle (answers_of i rs))
 
-draws-append : (a : ℕ) (xs ys : List Answer)
+pub draws-append : (a : ℕ) (xs ys : List Answer)
     → draws_of a (xs ++ ys) ≡ draws_of a xs + draws_of a ys
 draws-append a xs ys = sum_by-append (λ (r : Answer). cond (is_write_in a r.call) 1 0) xs ys
 

@@ -83,9 +83,9 @@ IsReady c flat called = (page offset least : ℕ)
     → least ≤ number_at 8 offset (flat page)
 
 -- so the word of the call, carried out on these pages, has an answer
-pub word_replies : {c : Config} {x page : ℕ} {f flat : ℕ → List ℕ} {w : Word} {out : Out}
+pub word_replies : {c : Config} {was : ℕ → ℕ → Entry} {x page : ℕ} {f flat : ℕ → List ℕ} {w : Word} {out : Out}
     (called : Call)
-    → Carries (Copies {S = Managed} c) c x f page w out flat → asked_of c called ≡ kinds.Word page w
+    → Carries (Copies {S = Managed} c) was c x f page w out flat → asked_of c called ≡ kinds.Word page w
     → IsReady c f called → (r : Reply) × (reply_of out ≡ Some r)
 word_replies {c = c} {x = x} {page = page} {f = f} {w = w} {out = out} called k of ready =
     by_reply (reply_of out) refl
@@ -448,7 +448,7 @@ module _ (c : Config) (limits : IsConfig c) (fixed : c.manager ≡ kind.Fixed)
           faith = (reached_told managed_ops managed_laws c limits programs many o run).faithful
 
           told : (flat : ℕ → List ℕ) × Copies c (managers_of extra o') (net_of o') flat
-              × Tells (Copies c) c x faith.pages k
+              × Tells (Copies c) (net_of o).entry c x faith.pages k
               (handled managed_ops k source t.message).after flat
           told = kept-delivers {P = Copies {S = Managed} c} managed_laws c (copied-kept managed_ops c limits) extra
               o o' faith.pages faith.sound (faith.orderly, faith.copied) source x t about
@@ -470,7 +470,7 @@ module _ (c : Config) (limits : IsConfig c) (fixed : c.manager ≡ kind.Fixed)
               (subst (λ e. IsLast e letter_here p) at last.last))
 
           by_told : {flat : ℕ → List ℕ}
-              → Tells (Copies {S = Managed} c) c x faith.pages k
+              → Tells (Copies {S = Managed} c) (net_of o).entry c x faith.pages k
               (handled managed_ops k source t.message).after flat → Comes after
           by_told (is_answered q w number out lock waiting unlocked alone done carries) =
               let asked : t.core.memory.asked ≡ Some called =

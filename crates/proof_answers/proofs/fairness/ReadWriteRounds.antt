@@ -270,13 +270,13 @@ module _ (c : Config) (limits : IsConfig c) (fixed : c.manager ≡ kind.Fixed)
       where
         all : (flat : ℕ → List ℕ)
             × OfFixed c (IsBase c) (managers_of (spare c limits fixed programs many) o') (net_of o') flat
-            × Tells (OfFixed c (IsBase c)) c x base.1.0 t.core.memory.coherence
+            × Tells (OfFixed c (IsBase c)) (net_of o).entry c x base.1.0 t.core.memory.coherence
             (handled managed_ops t.core.memory.coherence source t.message).after flat
         all = kept-delivers managed_laws c (fixed-kept c (IsBase c) (base-kept c limits))
             (spare c limits fixed programs many) o o' base.1.0 base.0 base.1.1 source x t about
 
         by_told : {flat : ℕ → List ℕ}
-            → Tells (OfFixed c (IsBase c)) c x base.1.0 t.core.memory.coherence
+            → Tells (OfFixed c (IsBase c)) (net_of o).entry c x base.1.0 t.core.memory.coherence
             (handled managed_ops t.core.memory.coherence source t.message).after flat
             → IsLeft t.core.memory.coherence
             (handled managed_ops t.core.memory.coherence source t.message).after

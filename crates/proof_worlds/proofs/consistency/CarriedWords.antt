@@ -12,6 +12,7 @@ use Rattle.ivy_model.specs.stated.Memory as model
 use Rattle.ivy_model.specs.stated.Legal.{HasWidth, ServesAll}
 use Rattle.ivy_model.proofs.OrderParts.{leads-append}
 use Rattle.ivy_model.proofs.Sizes.{leads_sized}
+use Rattle.ivy_pagetable.specs.declared.Entry.{Entry}
 use Rattle.ivy_pagetable.specs.declared.Out.{Out}
 use Rattle.ivy_pagetable.specs.declared.Word.{Word}
 use Rattle.ivy_pagetable.specs.stated.Words.{Carried, carried_out}
@@ -58,8 +59,8 @@ module _ {S : Type 0} (c : Config) (config : IsConfig c) (x : ℕ) (mem : model.
     (sized : IsSized c mem) (f : ℕ → List ℕ)
     (shows : (p : ℕ) → p < c.pages → f p ≡ flat_page c mem p) where
   -- a word is carried out on the flat memory's page
-  pub came : (page : ℕ) (word : Word) (out : Out) (flat : ℕ → List ℕ) (called : Call) → HasWidth called
-      → IsWordOf c called page word → Carries (Copies {S = S} c) c x f page word out flat
+  pub came : {was : ℕ → ℕ → Entry} (page : ℕ) (word : Word) (out : Out) (flat : ℕ → List ℕ) (called : Call) → HasWidth called
+      → IsWordOf c called page word → Carries (Copies {S = S} c) was c x f page word out flat
       → Came c mem called out flat
   came page word out flat called legal of k =
       let same : k.net.page x page ≡ flat_page c mem page =
@@ -89,28 +90,28 @@ pub record CameAll (c : Config) (mem : model.Memory) (me : ℕ) (calls : List Ca
   pub shows : (p : ℕ) → p < c.pages → pages p ≡ flat_page c new p
   pub blocks : new.blocks ≡ mem.blocks
 
-pub came_all : (S : Type 0) (c : Config) (config : IsConfig c) (x me : ℕ) (mem : model.Memory)
+pub came_all : (S : Type 0) (was : ℕ → ℕ → Entry) (c : Config) (config : IsConfig c) (x me : ℕ) (mem : model.Memory)
     → IsSized c mem → (f : ℕ → List ℕ) → ((p : ℕ) → p < c.pages → f p ≡ flat_page c mem p)
     → me < c.nodes → (page : ℕ) (calls : List Call) (words : List Word) (outs : List Out) (flat : ℕ → List ℕ)
     → All HasWidth calls → AreWordsOf c page calls words
-    → CarriesAll (Copies {S = S} c) c x f page words outs flat
+    → CarriesAll (Copies {S = S} c) was c x f page words outs flat
     → CameAll c mem me calls outs flat
-came_all S c config x me mem sized f shows here page [] [] [] flat wide are carries =
+came_all S was c config x me mem sized f shows here page [] [] [] flat wide are carries =
     record {
       new = mem;
       legal = refl;
       shows = λ p inside. ap (λ g. g p) carries ∙ shows p inside;
       blocks = refl;
     }
-came_all S c config x me mem sized f shows here page [] [] (o ∷ os) flat wide are carries =
+came_all S was c config x me mem sized f shows here page [] [] (o ∷ os) flat wide are carries =
     absurd carries
-came_all S c config x me mem sized f shows here page [] (w ∷ ws) outs flat wide are carries =
+came_all S was c config x me mem sized f shows here page [] (w ∷ ws) outs flat wide are carries =
     absurd are
-came_all S c config x me mem sized f shows here page (k ∷ ks) [] outs flat wide are carries =
+came_all S was c config x me mem sized f shows here page (k ∷ ks) [] outs flat wide are carries =
     absurd are
-came_all S c config x me mem sized f shows here page (k ∷ ks) (w ∷ ws) [] flat wide are
+came_all S was c config x me mem sized f shows here page (k ∷ ks) (w ∷ ws) [] flat wide are
     carries = absurd carries
-came_all S c config x me mem sized f shows here page (k ∷ ks) (w ∷ ws) (o ∷ os) flat wide
+came_all S was c config x me mem sized f shows here page (k ∷ ks) (w ∷ ws) (o ∷ os) flat wide
     are carries =
     let legal : HasWidth k = All-head HasWidth k ks wide in
     let one : Came c mem k o carries.0 =
@@ -119,7 +120,7 @@ came_all S c config x me mem sized f shows here page (k ∷ ks) (w ∷ ws) (o �
     let led : ServesAll c mem first one.new =
     owed-leads c mem one.new me k (reply_of o) here legal one.gives in
     let rest : CameAll c one.new me ks os flat =
-    came_all S c config x me one.new (leads_sized c mem one.new first config sized led) carries.0
+    came_all S was c config x me one.new (leads_sized c mem one.new first config sized led) carries.0
     one.shows here page ks ws os flat (All-tail HasWidth k ks wide) are.2 carries.2 in
     record {
       new = rest.new;
@@ -130,13 +131,13 @@ came_all S c config x me mem sized f shows here page (k ∷ ks) (w ∷ ws) (o �
     }
 
 -- and have replies
-pub have-replies : (S : Type 0) (c : Config) (x page : ℕ) (calls : List Call) (words : List Word)
+pub have-replies : (S : Type 0) (was : ℕ → ℕ → Entry) (c : Config) (x page : ℕ) (calls : List Call) (words : List Word)
     (f : ℕ → List ℕ) (outs : List Out) (flat : ℕ → List ℕ) → AreWordsOf c page calls words
-    → CarriesAll (Copies {S = S} c) c x f page words outs flat → HaveReplies calls outs
-have-replies S c x page [] words f outs flat are carries = tt
-have-replies S c x page (k ∷ ks) [] f outs flat are carries = absurd are
-have-replies S c x page (k ∷ ks) (w ∷ ws) f [] flat are carries = absurd carries
-have-replies S c x page (k ∷ ks) (w ∷ ws) f (o ∷ os) flat are carries = (
+    → CarriesAll (Copies {S = S} c) was c x f page words outs flat → HaveReplies calls outs
+have-replies S was c x page [] words f outs flat are carries = tt
+have-replies S was c x page (k ∷ ks) [] f outs flat are carries = absurd are
+have-replies S was c x page (k ∷ ks) (w ∷ ws) f [] flat are carries = absurd carries
+have-replies S was c x page (k ∷ ks) (w ∷ ws) f (o ∷ os) flat are carries = (
   subst IsReply (sym carries.1.gives) (reply-given w (carries.1.net.page x page) are.1),
-  have-replies S c x page ks ws carries.0 os flat are.2 carries.2,
+  have-replies S was c x page ks ws carries.0 os flat are.2 carries.2,
 )

@@ -11,7 +11,6 @@ use Rattle.ivy_pagetable.specs.declared.Access.{Access}
 use Rattle.ivy_pagetable.specs.declared.Access.TheVariants.{Nil, Read, Write}
 use Rattle.ivy_pagetable.specs.declared.Entry.TheVariants as entry
 use Rattle.ivy_pagetable.specs.declared.Word.{Word}
-use Rattle.ivy_pagetable.specs.declared.Word.TheVariants as word
 use Rattle.ivy_pagetable.specs.stated.States.{IdleState}
 use Rattle.ivy_pagetable.specs.stated.Accesses.{reads as can_read, writes as can_write, suffices}
 use Rattle.ivy_pagetable.specs.stated.Entries.{readable, writable, is_owner, copies_of}

@@ -11,6 +11,7 @@ use Rattle.ivy_model.specs.stated.Memory as model
 use Rattle.ivy_model.specs.stated.Legal.{ServesAll}
 use Rattle.ivy_model.specs.stated.Explains.{part, Answered, IsOwed, IsExplained}
 use Rattle.ivy_model.proofs.OrderParts.{part-append, leads-append}
+use Rattle.ivy_pagetable.specs.declared.Entry.{Entry}
 use Rattle.ivy_pagetable.specs.stated.Manager.{Ops}
 use Rattle.ivy_alloc.specs.stated.Heap.{HeapState}
 use Rattle.ivy_program.specs.stated.Programs.{Program}
@@ -135,9 +136,9 @@ module _ {S : Type 0} (ops : Ops S) (c : Config) where
   blocks_there b b' heap heap' none (blocks_change g t was now same) = absurd (none g was)
 
   -- an event of one node, in the world, which changes no message of the heap that comes from node 0
-  pub faithful-on : (o o' : FifoWorld (Host S)) (order : List Record) (i : ℕ) (n n' : Host S)
-      (pages : ℕ → List ℕ) → (f : IsFaithful ops c o order) → slice_get o.cores i ≡ Some n
-      → (a : Adds c f.memory i n n' (heap_way o 0 i) pages)
+  pub faithful-on : {was : ℕ → ℕ → Entry} (o o' : FifoWorld (Host S)) (order : List Record) (i : ℕ)
+      (n n' : Host S) (pages : ℕ → List ℕ) → (f : IsFaithful ops c o order) → slice_get o.cores i ≡ Some n
+      → (a : Adds c was f.memory i n n' (heap_way o 0 i) pages)
       → o'.cores ≡ set o.cores i n' → ((j : ℕ) → heap_way o' 0 j ≡ heap_way o 0 j)
       → IsSoundWorld ops c o' → IsOrderly c (net_of o') → IsCopied c (net_of o') pages
       → IsFaithful ops c o' (order ++ a.more)

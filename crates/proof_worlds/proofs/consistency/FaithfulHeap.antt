@@ -3,6 +3,7 @@
 use Rattle.std.proofs.Common.{◌≡◌, ◌≢◌, ◌<◌, ℕ, List, [], ◌∷◌, ◌++◌, set, slice_get, Some, None, refl, ap, sym, subst, ◌∙◌, inl, inr}
 use Rattle.std.proofs.lemmas.Bool.{cases_eq}
 use Rattle.std.proofs.lemmas.List.{append-nil}
+use Rattle.std.proofs.lemmas.List.Elements.{All-nil, All-cons}
 use Rattle.std.proofs.lemmas.Option.{same_Some}
 use Rattle.ivy_model.specs.declared.Config.{Config}
 use Rattle.ivy_model.specs.declared.Record.{Record}
@@ -11,6 +12,7 @@ use Rattle.ivy_model.specs.stated.Memory.{first}
 use Rattle.ivy_model.specs.stated.Explains.{part}
 use Rattle.ivy_model.proofs.OrderParts.{part-append, part-own, part-other, leads-append}
 use Rattle.ivy_wire.specs.stated.Data.{Message}
+use Rattle.ivy_pagetable.specs.declared.Entry.{Entry}
 use Rattle.ivy_pagetable.specs.stated.Manager.{Ops}
 use Rattle.ivy_alloc.specs.stated.Heap.{HeapState}
 use Rattle.ivy_moves.specs.stated.Explained.{StandTogether}
@@ -27,6 +29,7 @@ use Rattle.ivy_host.specs.stated.Sound.{IsSoundHost}
 use Rattle.proof_table.specs.stated.Orderly.{IsOrderly}
 use Rattle.proof_worlds.specs.stated.HeapRequests.{heap_way}
 use Rattle.proof_worlds.proofs.refinement.LiftedWorlds.{net_of, IsSoundWorld}
+use Rattle.proof_worlds.specs.consistency.Alone.{IsAlone, AreAlone, IsOf, AreOf}
 use Rattle.proof_worlds.specs.consistency.Copied.{IsCopied}
 use Rattle.proof_worlds.proofs.consistency.HeapServed.{memory_told, heap_served}
 use Rattle.proof_worlds.proofs.consistency.Owing.{owed, reply_owed, along_owed, pending, owed-untold, then-untold, none_pending, IsRunning}
@@ -194,6 +197,25 @@ module _ {S : Type 0} (ops : Ops S) (c : Config) (o o' : FifoWorld (Host S)) (or
               (f.together home core there))
           | inr x ↦ f.together j m x.1
         ]))
+
+    -- a call of the heap is no word
+    pub given_alone : (was : ℕ → ℕ → Entry) → AreAlone c was (given ∷ [])
+    given_alone was =
+        All-cons (λ (r : Record). IsAlone c was r.node r.call) given []
+        (λ page word is j ne.
+        (let two : kinds.Heap k ≡ kinds.Word page word =
+        sym (subst (λ d. asked_of d called.call ≡ kinds.Heap k) good.config called.of) ∙ is in
+        absurd cc))
+        (All-nil (λ (r : Record). IsAlone c was r.node r.call))
+
+    pub given_own : (x : ℕ) → ((j : ℕ) → j ≢ x → slice_get o'.cores j ≡ slice_get o.cores j)
+        → AreOf c x (given ∷ [])
+    given_own x same =
+        All-cons (λ (r : Record). IsOf c x r) given []
+        (λ page word is. absurd (
+        let two : kinds.Heap k ≡ kinds.Word page word =
+        sym (subst (λ d. asked_of d called.call ≡ kinds.Heap k) good.config called.of) ∙ is in cc
+        )) (All-nil (λ (r : Record). IsOf c x r))
 
     pub serves_faithful : IsFaithful ops c o' (order ++ given ∷ [])
     serves_faithful = record {

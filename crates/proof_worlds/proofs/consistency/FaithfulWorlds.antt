@@ -51,14 +51,14 @@ module _ {S : Type 0} (ops : Ops S) (laws : Laws ops) (c : Config) (config : IsC
             (faithful_together ops c (fifo_of w posted) order f);
       }
 
-  abbrev answers : World (Host S) → List Answered
+  abbrev pub answers : World (Host S) → List Answered
   answers w = map (λ (n : Node (Host S)). answered_by n.core) w.nodes
 
   -- of what a node had in progress in this world none has come into the order of a later one, or all
-  abbrev IsSince : FifoWorld (Host S) → List Record → World (Host S) → Type 0
+  abbrev pub IsSince : FifoWorld (Host S) → List Record → World (Host S) → Type 0
   IsSince o order w = (i : ℕ) (n : Answered) → slice_get (answers w) i ≡ Some n → Since i n o order
 
-  since_here : (w : World (Host S)) (posted : ℕ → ℕ → List Message) (order : List Record)
+  pub since_here : (w : World (Host S)) (posted : ℕ → ℕ → List Message) (order : List Record)
       → IsFaithful ops c (fifo_of w posted) order → IsSince (fifo_of w posted) order w
   since_here w posted order f i n there =
       let at : (x : Node (Host S)) × (slice_get w.nodes i ≡ Some x) × (answered_by x.core ≡ n) =
@@ -94,7 +94,7 @@ module _ {S : Type 0} (ops : Ops S) (laws : Laws ops) (c : Config) (config : IsC
       )
 
   -- so it explains this world, and tears nothing apart
-  explains_after : (past : List (World (Host S))) (w : World (Host S))
+  pub explains_after : (past : List (World (Host S))) (w : World (Host S))
       (posted : ℕ → ℕ → List Message) (order : List Record)
       → IsFaithful ops c (fifo_of w posted) order
       → All (IsSince (fifo_of w posted) order) (w ∷ past)

@@ -1,6 +1,6 @@
 -- The record that stands in the order of all records before its node has it, and what an event of a
 -- node adds to the order.
-use Rattle.std.proofs.Common.{◌≡◌, ◌≢◌, ◌⊎◌, inl, inr, ◌<◌, ◌+◌, ◌-◌, ℕ, true, false, List, [], ◌∷◌, ◌++◌, Option, Some, None, refl, ap, sym, ◌∙◌, subst}
+use Rattle.std.proofs.Common.{◌≡◌, ◌≢◌, ◌⊎◌, inl, inr, ◌<◌, ℕ, true, false, List, [], ◌∷◌, ◌++◌, Option, Some, None, refl, ap, sym, ◌∙◌, subst}
 use Rattle.std.proofs.lemmas.List.{append-nil, append_assoc}
 use Rattle.std.proofs.lemmas.Option.{same_Some, none-some}
 use Rattle.ivy_model.specs.declared.Config.{Config}
@@ -13,6 +13,7 @@ use Rattle.ivy_model.specs.stated.Memory as model
 use Rattle.ivy_model.specs.stated.Legal.{HasWidth, ServesAll}
 use Rattle.ivy_model.specs.stated.Explains.{part}
 use Rattle.ivy_model.proofs.OrderParts.{part-own, part-other, part-append}
+use Rattle.ivy_pagetable.specs.declared.Entry.{Entry}
 use Rattle.ivy_pagetable.specs.declared.Word.{Word}
 use Rattle.ivy_pagetable.specs.declared.Out.TheVariants as out
 use Rattle.ivy_pagetable.specs.stated.Words.{width_of, offset_of, number_at, carried_out}
@@ -34,6 +35,7 @@ use Rattle.ivy_memory.specs.stated.Memories.{NodeMemory, first_reply, reply_of, 
 use Rattle.ivy_memory.specs.stated.Beside.{gives_reply}
 use Rattle.ivy_host.specs.stated.Hosts.{Host, number_of, recorded}
 use Rattle.proof_worlds.specs.stated.HeapRequests.{replied_by}
+use Rattle.proof_worlds.specs.consistency.Alone.{AreAlone}
 use Rattle.proof_worlds.proofs.refinement.LiftedEvents.{WaitsAt}
 use Rattle.ivy_memory.specs.Flat.{Answers}
 
@@ -193,16 +195,18 @@ pub data GoOn (blocks : Blocks) (heap heap' : Option HeapState) (blocks' : Block
       → blocks' ≡ t.blocks → GoOn blocks heap heap' blocks'
 
 -- What an event of node i comes to, with these messages of the heap on their way to it from node 0:
--- the flat memory makes these records, all the node's own, and has these pages then; and what is owed
--- to the node stands together in the order as it did.
-pub record Adds {S : Type 0} (c : Config) (old : model.Memory) (i : ℕ) (n n' : Host S)
-    (ms : List Message) (pages : ℕ → List ℕ) : Type 0 where
+-- the flat memory makes these records, all the node's own, and has these pages then; by the entries
+-- before the event the node had alone what each of them asks for; and what is owed to the node stands
+-- together in the order as it did.
+pub record Adds {S : Type 0} (c : Config) (was : ℕ → ℕ → Entry) (old : model.Memory) (i : ℕ)
+    (n n' : Host S) (ms : List Message) (pages : ℕ → List ℕ) : Type 0 where
   pub more : List Record
   pub new : model.Memory
   pub legal : ServesAll c old more new
   pub shows : (p : ℕ) → p < c.pages → pages p ≡ flat_page c new p
   pub own : part i more ≡ more
   pub other : (j : ℕ) → j ≢ i → part j more ≡ []
+  pub alone : AreAlone c was more
   pub history : n'.history ++ pending n' ms ≡ (n.history ++ pending n ms) ++ more
   pub together : (order : List Record) → StandTogether (pending n ms) order
       → StandTogether (pending n' ms) (order ++ more)

@@ -2,6 +2,7 @@
 -- every manager.
 use Rattle.std.proofs.Common.{◌≡◌, ◌⊎◌, ◌<◌, ℕ, ◌+◌, List, [], ◌∷◌, ◌++◌, length, Option, Some, None, refl, ap, sym, ◌∙◌, subst, inl, inr, true}
 use Rattle.std.proofs.lemmas.List.{append-nil}
+use Rattle.std.proofs.lemmas.List.Elements.{All-nil, All-append}
 use Rattle.std.proofs.lemmas.Option.{same_Some, none-some}
 use Rattle.ivy_model.specs.declared.Config.{Config}
 use Rattle.ivy_model.specs.declared.Call.{Call}
@@ -56,6 +57,8 @@ use Rattle.ivy_memory.specs.Flat.{Answers}
 use Rattle.ivy_memory.proofs.serving.CallsServed.{refusal_served}
 use Rattle.proof_worlds.proofs.consistency.HeapServed.{memory_told, heap_served}
 use Rattle.proof_worlds.proofs.consistency.CarriedWords.{Copies, Came, came, CameAll, came_all, have-replies}
+use Rattle.proof_worlds.specs.consistency.Alone.{IsAlone, AreAlone}
+use Rattle.proof_worlds.proofs.consistency.Alone.{carries_alone, owed_alone, along_alone}
 use Rattle.proof_worlds.proofs.consistency.Owing.{owed, reply_owed, pending, told-owed, owed-unasked}
 use Rattle.proof_worlds.proofs.consistency.Owing.{owed-untold, owed-leads, owed-own, owed-other}
 use Rattle.proof_worlds.proofs.consistency.Owing.{owed_then, owed_along, along_owed, untold-along, then-alone, then-untold, none_pending, along-own, along-other, reply-given, IsReply, HaveReplies, AreWordsOf, taken_history, taken-pending, taken-running}
@@ -75,8 +78,8 @@ one_word (entry.AwaitRead s) w v j k a b = sym a.0 ∙ b.0
 one_word (entry.AwaitWrite s) w v j k a b = sym a.0 ∙ b.0
 one_word (entry.AwaitAcks s) w v j k a b = sym a.0 ∙ b.0
 
-module _ {S : Type 0} (ops : Ops S) (c : Config) (config : IsConfig c) (x : ℕ) (mem : model.Memory)
-    (sized : IsSized c mem) (f : ℕ → List ℕ)
+module _ {S : Type 0} (ops : Ops S) (c : Config) (config : IsConfig c) (was : ℕ → ℕ → Entry) (x : ℕ)
+    (mem : model.Memory) (sized : IsSized c mem) (f : ℕ → List ℕ)
     (shows : (p : ℕ) → p < c.pages → f p ≡ flat_page c mem p)
     (n : Host S) (good : IsSoundHost ops c x n) (running : IsRunning c n) (ms : List Message) where
   here : number_of n < c.nodes
@@ -132,7 +135,7 @@ module _ {S : Type 0} (ops : Ops S) (c : Config) (config : IsConfig c) (x : ℕ)
       → n'.history ++ pending n' ms ≡ n.history ++ pending n ms
       → (taken : List Record) → pending n ms ≡ taken ++ pending n' ms → IsRunning c n'
       → n'.process.program ≡ n.process.program → n'.memory.side.heap ≡ n.memory.side.heap
-      → Adds c mem x n n' ms flat
+      → Adds c was mem x n n' ms flat
   silent n' flat same history taken owes now program heap = record {
     more = [];
     new = mem;
@@ -140,6 +143,7 @@ module _ {S : Type 0} (ops : Ops S) (c : Config) (config : IsConfig c) (x : ℕ)
     shows = same_pages flat same;
     own = refl;
     other = λ j ne. refl;
+    alone = All-nil (λ (r : Record). IsAlone c was r.node r.call);
     history = history ∙ sym (append-nil (n.history ++ pending n ms));
     together = λ order s. grown_together (pending n' ms) order []
         (later_together taken (pending n' ms) order (subst (λ xs. StandTogether xs order) owes s));
@@ -152,18 +156,20 @@ module _ {S : Type 0} (ops : Ops S) (c : Config) (config : IsConfig c) (x : ℕ)
   owing : (n' : Host S) (flat : ℕ → List ℕ) (called : Call) (o : Option Reply) (new : model.Memory)
       → HasWidth called → Answers c mem called o new
       → ((p : ℕ) → p < c.pages → flat p ≡ flat_page c new p)
+      → AreAlone c was (owed (number_of n) (Some called) o)
       → n'.history ++ pending n' ms
       ≡ (n.history ++ pending n ms) ++ owed (number_of n) (Some called) o → pending n' ms ≡ []
       → IsRunning c n' → n'.process.program ≡ n.process.program
       → GoOn mem.blocks n.memory.side.heap n'.memory.side.heap new.blocks
-      → Adds c mem x n n' ms flat
-  owing n' flat called o new legal given pages history none now program blocks = record {
+      → Adds c was mem x n n' ms flat
+  owing n' flat called o new legal given pages alone history none now program blocks = record {
     more = owed (number_of n) (Some called) o;
     new = new;
     legal = owed-leads c mem new (number_of n) called o here legal given;
     shows = pages;
     own = owed-own (number_of n) x called o good.me;
     other = λ j ne. owed-other (number_of n) x j called o good.me ne;
+    alone = alone;
     history = history;
     together = λ order s. subst (λ xs. StandTogether xs (order ++ owed (number_of n) (Some called) o))
         (sym none) (none_together (order ++ owed (number_of n) (Some called) o));
@@ -183,7 +189,7 @@ module _ {S : Type 0} (ops : Ops S) (c : Config) (config : IsConfig c) (x : ℕ)
   -- the reply of the call in progress is recorded
   records_reply : (called : Call) (r : Reply) → n.memory.asked ≡ Some called
       → reply_at n.memory ≡ Some r → (flat : ℕ → List ℕ) → flat ≡ f
-      → Adds c mem x n (recorded n (taken_out n.memory) called r) ms flat
+      → Adds c was mem x n (recorded n (taken_out n.memory) called r) ms flat
   records_reply called r asked there flat same =
       let given : Record = record { node = number_of n; call = called; reply = r } in
       let free : n.memory.coherence.locked ≡ None =
@@ -213,7 +219,7 @@ module _ {S : Type 0} (ops : Ops S) (c : Config) (config : IsConfig c) (x : ℕ)
   -- the program goes on by itself
   goes_alone : (s : State) → n.memory.asked ≡ None → step_of n.process ≡ Local s
       → (flat : ℕ → List ℕ) → flat ≡ f
-      → Adds c mem x n (record n { process = at_state n.process s }) ms flat
+      → Adds c was mem x n (record n { process = at_state n.process s }) ms flat
   goes_alone s idle step flat same =
       silent (record n { process = at_state n.process s }) flat same refl [] refl
       (record {
@@ -232,17 +238,17 @@ module _ {S : Type 0} (ops : Ops S) (c : Config) (config : IsConfig c) (x : ℕ)
   records_call : (m : NodeMemory S) (called : Call) (r : Reply) (new : model.Memory)
       → n.memory.asked ≡ None → step_of n.process ≡ Asks called → m.asked ≡ None → m.along ≡ []
       → m.coherence.locked ≡ None → Serves c mem called r new → (flat : ℕ → List ℕ)
-      → ((p : ℕ) → p < c.pages → flat p ≡ flat_page c new p)
+      → ((p : ℕ) → p < c.pages → flat p ≡ flat_page c new p) → IsAlone c was (number_of n) called
       → GoOn mem.blocks n.memory.side.heap m.side.heap new.blocks
-      → Adds c mem x n (recorded n m called r) ms flat
-  records_call m called r new idle step free alone unlocked serves flat pages blocks =
+      → Adds c was mem x n (recorded n m called r) ms flat
+  records_call m called r new idle step free alone unlocked serves flat pages has blocks =
       let given : Record = record { node = number_of n; call = called; reply = r } in
       let none : pending (recorded n m called r) ms ≡ [] =
       none_pending (owed m.coherence.me m.asked (reply_owed m.side.heap_request ms m.coherence.done)) _
       (owed-unasked m.coherence.me m.asked (reply_owed m.side.heap_request ms m.coherence.done) free)
       (then-alone m.coherence.me m.along m.coherence.done m.coherence.done_more alone) in
       owing (recorded n m called r) flat called (Some r) new (asked_width n called step) serves
-      pages
+      pages (owed_alone c was (number_of n) called (Some r) has)
       (served_history n.history (pending n ms) (pending (recorded n m called r) ms) given
       (idle_pending idle) none)
       none
@@ -269,7 +275,7 @@ module _ {S : Type 0} (ops : Ops S) (c : Config) (config : IsConfig c) (x : ℕ)
       × ((calls ≡ []) ⊎ (gives_reply word ≡ true)))
       → ((page : ℕ) → k.locked ≡ Some page → AreWordsOf c page calls k.more)
       → (k.locked ≡ None → calls ≡ [])
-      → Adds c mem x n
+      → Adds c was mem x n
       (record n {
         memory =
             record n.memory {
@@ -299,6 +305,7 @@ module _ {S : Type 0} (ops : Ops S) (c : Config) (config : IsConfig c) (x : ℕ)
             };
       })
       flat called None mem (asked_width n called asks.0) refl pages
+      (All-nil (λ (r : Record). IsAlone c was r.node r.call))
       (ap (λ xs. n.history ++ xs) none ∙ owing_history n.history (pending n ms) [] (idle_pending idle))
       none
       (record {
@@ -318,7 +325,7 @@ module _ {S : Type 0} (ops : Ops S) (c : Config) (config : IsConfig c) (x : ℕ)
   -- node 0 is asked for a call of the heap
   heap_request_waits : (called : Call) (k : HeapCall) (number : ℕ) (flat : ℕ → List ℕ) → flat ≡ f
       → n.memory.asked ≡ None → step_of n.process ≡ Asks called → ms ≡ []
-      → Adds c mem x n
+      → Adds c was mem x n
       (record n {
         memory =
             record n.memory {
@@ -349,6 +356,7 @@ module _ {S : Type 0} (ops : Ops S) (c : Config) (config : IsConfig c) (x : ℕ)
             };
       }) flat called
       None mem (asked_width n called step) refl (same_pages flat same)
+      (All-nil (λ (r : Record). IsAlone c was r.node r.call))
       (ap (λ xs. n.history ++ xs) unowed
       ∙ owing_history n.history (pending n ms) [] (idle_pending idle))
       unowed
@@ -375,11 +383,11 @@ module _ {S : Type 0} (ops : Ops S) (c : Config) (config : IsConfig c) (x : ℕ)
         → begun_now.after.done ≡ n.memory.coherence.done
         → begun_now.after.locked ≡ n.memory.coherence.locked
         → Answers c mem called o new → ((p : ℕ) → p < c.pages → flat p ≡ flat_page c new p)
-        → new.blocks ≡ mem.blocks
+        → new.blocks ≡ mem.blocks → IsAlone c was (number_of n) called
         → begins_as n called (answered n.memory called (length n.history + 1) begun_now o) ≡ Some e
-        → Adds c mem x n e.after ms flat
-    hit_adds e flat None new done locked given pages blocks is =
-        subst (λ (z : Outcome (Host S)). Adds c mem x n z.after ms flat)
+        → Adds c was mem x n e.after ms flat
+    hit_adds e flat None new done locked given pages blocks alone is =
+        subst (λ (z : Outcome (Host S)). Adds c was mem x n z.after ms flat)
         (same_Some
         (record {
           after =
@@ -400,8 +408,8 @@ module _ {S : Type 0} (ops : Ops S) (c : Config) (config : IsConfig c) (x : ℕ)
         (none-some q (sym (good.memory.locked idle) ∙ sym locked ∙ lock)))
         (λ q lock. absurd (none-some q (sym (good.memory.locked idle) ∙ sym locked ∙ lock)))
         (λ lock. refl))
-    hit_adds e flat (Some r) new done locked given pages blocks is =
-        subst (λ (z : Outcome (Host S)). Adds c mem x n z.after ms flat)
+    hit_adds e flat (Some r) new done locked given pages blocks alone is =
+        subst (λ (z : Outcome (Host S)). Adds c was mem x n z.after ms flat)
         (same_Some
         (record {
           after =
@@ -411,7 +419,7 @@ module _ {S : Type 0} (ops : Ops S) (c : Config) (config : IsConfig c) (x : ℕ)
         }) e is)
         (records_call (record n.memory { coherence = begun_now.after; asked = None; along = [] })
         called r new
-        idle step refl refl (locked ∙ good.memory.locked idle) given flat pages
+        idle step refl refl (locked ∙ good.memory.locked idle) given flat pages alone
         (blocks_stay blocks refl))
 
     starts_adds : (more : Beside) → AsksRow n.process (called ∷ more.calls)
@@ -419,8 +427,8 @@ module _ {S : Type 0} (ops : Ops S) (c : Config) (config : IsConfig c) (x : ℕ)
         → (e : Outcome (Host S)) (flat : ℕ → List ℕ) (number : ℕ)
         → begins_as n called
         (needed n.memory called more (length n.history + 1) begun_now begun_now.need) ≡ Some e
-        → Starts (Copies {S = S} c) c x f page word number n.memory.coherence begun_now.need
-        begun_now.after flat → Adds c mem x n e.after ms flat
+        → Starts (Copies {S = S} c) was c x f page word number n.memory.coherence begun_now.need
+        begun_now.after flat → Adds c was mem x n e.after ms flat
     starts_adds more asks are prompt e flat number is (busy q lock needs after same) =
         absurd (none-some q (sym (good.memory.locked idle) ∙ lock))
     starts_adds more asks are prompt e flat number is (hits out needs rest locked carries) =
@@ -428,13 +436,14 @@ module _ {S : Type 0} (ops : Ops S) (c : Config) (config : IsConfig c) (x : ℕ)
         came c config x mem sized f shows page word out flat called (asked_width n called step) of
         carries in
         hit_adds e flat (reply_of out) k.new rest.done locked k.gives k.shows k.blocks
+        (carries_alone c was (number_of n) called good.me of carries)
         (sym (ap
         (λ d. begins_as n called (needed n.memory called more (length n.history + 1) begun_now d))
         needs) ∙ is)
     starts_adds more asks are prompt e flat number is (waits needs same rest locked there) =
         let k : Coherent S = along more.words begun_now.after in
         let kept = along-kept more.words begun_now.after in
-        subst (λ (z : Outcome (Host S)). Adds c mem x n z.after ms flat)
+        subst (λ (z : Outcome (Host S)). Adds c was mem x n z.after ms flat)
         (same_Some
         (record {
           after =
@@ -486,7 +495,7 @@ module _ {S : Type 0} (ops : Ops S) (c : Config) (config : IsConfig c) (x : ℕ)
         → told.locked ≡ n.memory.coherence.locked
         → ((q : ℕ) (word : Word) (number : ℕ) → WaitsAt (entry_at told.table q) word number
         → WaitsAt (entry_at n.memory.coherence.table q) word number)
-        → Adds c mem x n told_host ms flat
+        → Adds c was mem x n told_host ms flat
     quiet_adds flat same rest locked waiting =
         let still : pending told_host ms ≡ pending n ms
         = ap (λ me. owed me n.memory.asked (reply_owed n.memory.side.heap_request ms told.done)
@@ -520,9 +529,9 @@ module _ {S : Type 0} (ops : Ops S) (c : Config) (config : IsConfig c) (x : ℕ)
         (a : Option Call) → n.memory.asked ≡ a → n.memory.coherence.locked ≡ Some page
         → WaitsAt (entry_at n.memory.coherence.table page) word number → told.locked ≡ None
         → told.done ≡ Some out
-        → CarriesAll (Copies {S = S} c) c x f page (word ∷ n.memory.coherence.more)
+        → CarriesAll (Copies {S = S} c) was c x f page (word ∷ n.memory.coherence.more)
         (out ∷ told.done_more) flat
-        → Adds c mem x n told_host ms flat
+        → Adds c was mem x n told_host ms flat
     answer_adds flat page word number out None idle lock there free done carries =
         absurd (none-some page (sym (good.memory.locked idle) ∙ lock))
     answer_adds flat page word number out (Some called) asked lock there free done carries =
@@ -535,7 +544,7 @@ module _ {S : Type 0} (ops : Ops S) (c : Config) (config : IsConfig c) (x : ℕ)
         let legal : ServesAll c mem first k.new =
         owed-leads c mem k.new (number_of n) called (reply_of out) here wide k.gives in
         let rest : CameAll c k.new (number_of n) n.memory.along told.done_more flat =
-        came_all S c config x (number_of n) k.new
+        came_all S was c config x (number_of n) k.new
         (leads_sized c mem k.new first config sized legal) carries.0 k.shows here page
         n.memory.along n.memory.coherence.more told.done_more flat
         good.memory.widths (running.waits_along page lock) carries.2 in
@@ -573,6 +582,13 @@ module _ {S : Type 0} (ops : Ops S) (c : Config) (config : IsConfig c) (x : ℕ)
               part-append j first (owed_along (number_of n) n.memory.along told.done_more)
               ∙ none_pending _ _ (owed-other (number_of n) x j called (reply_of out) good.me ne)
               (along-other (number_of n) x j n.memory.along told.done_more good.me ne);
+          alone = All-append (λ (r : Record). IsAlone c was r.node r.call) first
+              (owed_along (number_of n) n.memory.along told.done_more)
+              (owed_alone c was (number_of n) called (reply_of out)
+              (carries_alone c was (number_of n) called good.me
+              (running.waits called page word number asked lock there) carries.1))
+              (along_alone c was S x (number_of n) page n.memory.along n.memory.coherence.more
+              carries.0 told.done_more flat good.me (running.waits_along page lock) carries.2);
           history = ap (λ xs. n.history ++ xs) now
               ∙ owing_history n.history (pending n ms) all before;
           together = λ order s.
@@ -592,7 +608,7 @@ module _ {S : Type 0} (ops : Ops S) (c : Config) (config : IsConfig c) (x : ℕ)
                         subst IsReply (same_Some out o (sym done ∙ is))
                             (subst IsReply (sym carries.1.gives)
                             (reply-given word (carries.1.net.page x page) prompt)),
-                        have-replies S c x page n.memory.along n.memory.coherence.more carries.0
+                        have-replies S was c x page n.memory.along n.memory.coherence.more carries.0
                             told.done_more flat (running.waits_along page lock) carries.2,
                       )
                 ];
@@ -605,31 +621,32 @@ module _ {S : Type 0} (ops : Ops S) (c : Config) (config : IsConfig c) (x : ℕ)
         untold None is = is
         untold (Some o) is = absurd (none-some page (sym (good.memory.answered o is) ∙ lock))
 
-    told_adds : (flat : ℕ → List ℕ) → Tells (Copies {S = S} c) c x f n.memory.coherence told flat
-        → Adds c mem x n told_host ms flat
+    told_adds : (flat : ℕ → List ℕ) → Tells (Copies {S = S} c) was c x f n.memory.coherence told flat
+        → Adds c was mem x n told_host ms flat
     told_adds flat (quiet same rest locked waiting) = quiet_adds flat same rest locked waiting
     told_adds flat (is_answered page word number out lock there free none done carries) =
         answer_adds flat page word number out n.memory.asked refl lock there free done carries
 
     pub message_adds : is_of_pages m.content ≡ true → (flat : ℕ → List ℕ)
-        → Tells (Copies {S = S} c) c x f n.memory.coherence told flat
-        → Adds c mem x n (serving ops n source m).after ms flat
+        → Tells (Copies {S = S} c) was c x f n.memory.coherence told flat
+        → Adds c was mem x n (serving ops n source m).after ms flat
     message_adds about flat tells =
-        subst (λ (z : Outcome (Host S)). Adds c mem x n z.after ms flat)
+        subst (λ (z : Outcome (Host S)). Adds c was mem x n z.after ms flat)
         (sym (page_serving ops n source m about)) (told_adds flat tells)
 
 -- the call in progress begins anew, as its word was not carried out or gave no reply
-again_adds : {S : Type 0} (c : Config) (mem : model.Memory) (x : ℕ) (n n' : Host S)
-    (ms : List Message) (flat : ℕ → List ℕ)
+again_adds : {S : Type 0} (c : Config) (was : ℕ → ℕ → Entry) (mem : model.Memory) (x : ℕ)
+    (n n' : Host S) (ms : List Message) (flat : ℕ → List ℕ)
     → reply_owed n.memory.side.heap_request ms n.memory.coherence.done ≡ None → along_owed n ≡ []
-    → Adds c mem x (without_call n) n' ms flat → Adds c mem x n n' ms flat
-again_adds c mem x n n' ms flat untold alone a = record {
+    → Adds c was mem x (without_call n) n' ms flat → Adds c was mem x n n' ms flat
+again_adds c was mem x n n' ms flat untold alone a = record {
   more = a.more;
   new = a.new;
   legal = a.legal;
   shows = a.shows;
   own = a.own;
   other = a.other;
+  alone = a.alone;
   history =
       a.history
       ∙ ap (λ xs. (n.history ++ xs) ++ a.more)
@@ -642,8 +659,8 @@ again_adds c mem x n n' ms flat untold alone a = record {
   blocks = a.blocks;
 }
 
-module _ {S : Type 0} (ops : Ops S) (c : Config) (config : IsConfig c) (x : ℕ) (mem : model.Memory)
-    (sized : IsSized c mem) (f : ℕ → List ℕ)
+module _ {S : Type 0} (ops : Ops S) (c : Config) (config : IsConfig c) (was : ℕ → ℕ → Entry) (x : ℕ)
+    (mem : model.Memory) (sized : IsSized c mem) (f : ℕ → List ℕ)
     (shows : (p : ℕ) → p < c.pages → f p ≡ flat_page c mem p)
     (n : Host S) (good : IsSoundHost ops c x n) (running : IsRunning c n) (ms : List Message)
     (blocks : (h : HeapState) → n.memory.side.heap ≡ Some h → h.blocks ≡ mem.blocks)
@@ -681,44 +698,48 @@ module _ {S : Type 0} (ops : Ops S) (c : Config) (config : IsConfig c) (x : ℕ)
       → reply_owed n.memory.side.heap_request ms n.memory.coherence.done ≡ None
   none_owed called page word asked of untold =
       let none : n.memory.side.heap_request ≡ None =
-      word_heap_request ops c config x mem sized f shows n good running ms called page word asked
+      word_heap_request ops c config was x mem sized f shows n good running ms called page word asked
       of in
       ap (λ e. reply_owed e ms n.memory.coherence.done) none
       ∙ sym (ap (λ e. first_reply (reply_told e) (reply_there n.memory.coherence.done)) none)
       ∙ untold
 
   same_flat : (flat : ℕ → List ℕ) → flat ≡ f → (p : ℕ) → p < c.pages → flat p ≡ flat_page c mem p
-  same_flat = same_pages ops c config x mem sized f shows n good running ms
+  same_flat = same_pages ops c config was x mem sized f shows n good running ms
 
   -- a turn
   pub turn_adds : (e : Outcome (Host S)) (turn : HostTurn ops c n e) (flat : ℕ → List ℕ)
-      → TurnTells (Copies {S = S} c) c x f n e turn flat → Adds c mem x n e.after ms flat
+      → TurnTells (Copies {S = S} c) was c x f n e turn flat → Adds c was mem x n e.after ms flat
   turn_adds e (answers called r asked there is) flat tells =
-      subst (λ (z : Outcome (Host S)). Adds c mem x n z.after ms flat) (sym is)
-      (records_reply ops c config x mem sized f shows n good running ms called r asked there
+      subst (λ (z : Outcome (Host S)). Adds c was mem x n z.after ms flat) (sym is)
+      (records_reply ops c config was x mem sized f shows n good running ms called r asked there
       flat tells)
   turn_adds e (tries_again called page word asked untold free of inside lies is) flat tells =
-      again_adds c mem x n e.after ms flat (none_owed called page word asked of untold)
+      again_adds c was mem x n e.after ms flat (none_owed called page word asked of untold)
       (none_along
-      (word_heap_request ops c config x mem sized f shows n good running ms called page word asked of)
+      (word_heap_request ops c config was x mem sized f shows n good running ms called page word asked of)
       untold)
-      (starts_adds ops c config x mem sized f shows (without_call n) (good_without free)
+      (starts_adds ops c config was x mem sized f shows (without_call n) (good_without free)
       (running_without free) ms called page word refl (running.makes called asked).0
       (subst (λ k. IsWordOf k called page word) good.config of) nothing_beside
       ((running.makes called asked).0, λ r. tt) tt (inl refl) e flat (length n.history + 1) is
       tells)
   turn_adds e (goes_on s idle step is) flat tells =
-      subst (λ (z : Outcome (Host S)). Adds c mem x n z.after ms flat) (sym is)
-      (goes_alone ops c config x mem sized f shows n good running ms s idle step flat tells)
+      subst (λ (z : Outcome (Host S)). Adds c was mem x n z.after ms flat) (sym is)
+      (goes_alone ops c config was x mem sized f shows n good running ms s idle step flat tells)
   turn_adds e (refuses called code idle step refusal is) flat tells =
-      subst (λ (z : Outcome (Host S)). Adds c mem x n z.after ms flat) (sym is)
-      (records_call ops c config x mem sized f shows n good running ms n.memory called
+      subst (λ (z : Outcome (Host S)). Adds c was mem x n z.after ms flat) (sym is)
+      (records_call ops c config was x mem sized f shows n good running ms n.memory called
       (reply.Refused code) mem idle step idle (good.memory.alone idle) (good.memory.locked idle)
       (refusal_served c mem sized called code
       (subst (λ k. asked_of k called ≡ kinds.Refused code) good.config refusal)) flat
-      (same_flat flat tells) (blocks_stay refl refl))
+      (same_flat flat tells)
+      (λ page word is j ne.
+      (let two : kinds.Refused code ≡ kinds.Word page word =
+      sym (subst (λ k. asked_of k called ≡ kinds.Refused code) good.config refusal) ∙ is in absurd cc))
+      (blocks_stay refl refl))
   turn_adds e (asks_for called page word idle step of inside lies few is) flat tells =
-      starts_adds ops c config x mem sized f shows n good running ms called page word idle step
+      starts_adds ops c config was x mem sized f shows n good running ms called page word idle step
       (subst (λ k. IsWordOf k called page word) good.config of) (made_along n page word)
       (beside-asks n.memory.coherence.config page word n.process called (along_of n.process)
       (number_of_call n) (asks_along n.process called step))
@@ -728,8 +749,8 @@ module _ {S : Type 0} (ops : Ops S) (c : Config) (config : IsConfig c) (x : ℕ)
       (beside-prompt n.memory.coherence.config page word (along_of n.process) (number_of_call n))
       e flat (length n.history + 1) is tells
   turn_adds e (serves_heap called k heap idle step of there is) flat tells =
-      subst (λ (z : Outcome (Host S)). Adds c mem x n z.after ms flat) (sym is)
-      (records_call ops c config x mem sized f shows n good running ms
+      subst (λ (z : Outcome (Host S)). Adds c was mem x n z.after ms flat) (sym is)
+      (records_call ops c config was x mem sized f shows n good running ms
       (record n.memory { side = kept n.memory.side heap (told_of heap k) }) called
       (told_of heap k).reply (memory_told mem heap k) idle step idle (good.memory.alone idle)
       (good.memory.locked idle)
@@ -737,9 +758,12 @@ module _ {S : Type 0} (ops : Ops S) (c : Config) (config : IsConfig c) (x : ℕ)
       (blocks heap there) called k
       (subst (λ d. asked_of d called ≡ kinds.Heap k) good.config of)) flat
       (same_flat flat tells)
+      (λ page word is j ne.
+      (let two : kinds.Heap k ≡ kinds.Word page word =
+      sym (subst (λ d. asked_of d called ≡ kinds.Heap k) good.config of) ∙ is in absurd cc))
       (blocks_change heap (told_of heap k) there refl refl))
   turn_adds e (asks_heap called k idle step of away is) flat tells =
-      subst (λ (z : Outcome (Host S)). Adds c mem x n z.after ms flat) (sym is)
-      (heap_request_waits ops c config x mem sized f shows n good running ms called k
+      subst (λ (z : Outcome (Host S)). Adds c was mem x n z.after ms flat) (sym is)
+      (heap_request_waits ops c config was x mem sized f shows n good running ms called k
       (length n.history + 1) flat tells idle step
-      (way away (idle_heap_request ops c config x mem sized f shows n good running ms idle)))
+      (way away (idle_heap_request ops c config was x mem sized f shows n good running ms idle)))

@@ -19,6 +19,8 @@ use Rattle.ivy_host.specs.stated.Hosts.{Host, host_rules, answered_by}
 use Rattle.ivy_host.specs.stated.Sound.{IsSoundHost}
 use Rattle.ivy_host.specs.stated.Openings.{opening}
 use Rattle.ivy_host.specs.stated.Holding.{IsExclusive, AreRuns, HasNoBreach, AllSpell}
+use Rattle.proof_worlds.specs.consistency.Alone.{GoesOnAlone, WordsAreCarriedAlone}
+use Rattle.proof_worlds.proofs.consistency.AloneWorlds.{opening_alone}
 use Rattle.proof_worlds.proofs.consistency.FaithfulWorlds.{opening_explained, opening_runs}
 use Rattle.proof_worlds.proofs.refinement.FifoRuns.{led_in_order}
 use Rattle.proof_worlds.proofs.refinement.Worlds.{exclusive_led}
@@ -58,6 +60,10 @@ module _ (c : Config) (programs : List Program) (config : IsConfig c)
       → GoesOn (host_rules managed_ops) c answered_by [] (opening managed_ops c programs) [] moves
   explained-along moves =
       opening_explained managed_ops managed_laws c config programs each opened moves
+
+  pub alone-along : (moves : List Move)
+      → GoesOnAlone (host_rules managed_ops) c [] (opening managed_ops c programs) [] moves
+  alone-along moves = opening_alone managed_ops managed_laws c config programs each opened moves
 
   pub spelled-led : (moves : List Move) (w : World (Host Managed))
       → Leads (host_rules managed_ops) c (opening managed_ops c programs) moves w → AllSpell c w
@@ -116,3 +122,6 @@ explained-on r config each made w led before there = (
   leads_on (host_rules managed_ops) r.config (opening_of r) r.world w before made there led,
   explained-along r.config r.programs config each (before ++ made),
 )
+
+pub words_are_carried_alone : WordsAreCarriedAlone
+words_are_carried_alone c config programs each moves = alone-along c programs config each moves

@@ -7,6 +7,7 @@ use Rattle.ivy_model.specs.declared.Call.{Call}
 use Rattle.ivy_model.specs.declared.Record.{Record}
 use Rattle.ivy_model.specs.declared.Reply.{Reply}
 use Rattle.ivy_model.specs.stated.Config.{IsConfig}
+use Rattle.ivy_pagetable.specs.declared.Entry.{Entry}
 use Rattle.ivy_pagetable.specs.declared.Out.{Out}
 use Rattle.ivy_pagetable.specs.declared.Word.{Word}
 use Rattle.ivy_pagetable.specs.declared.Word.TheVariants as word
@@ -25,6 +26,7 @@ use Rattle.ivy_memory.specs.stated.Beside.{Beside, nothing_beside}
 use Rattle.ivy_host.specs.stated.Hosts.{Host, host_rules, begins_as, recorded, serving}
 use Rattle.ivy_host.specs.stated.Sound.{IsSoundHost}
 use Rattle.ivy_host.proofs.Pages.{page_serving}
+use Rattle.proof_worlds.specs.stated.Nets.{net_of}
 use Rattle.proof_worlds.proofs.refinement.HeapDeliveries.{HeapDelivery, serves, learns}
 use Rattle.proof_worlds.proofs.refinement.HostTurns.{number_of, asks, asked_for, made_along, without_call, asked_coherence}
 use Rattle.proof_worlds.proofs.refinement.HostTurns.{HostTurn, answers, tries_again, goes_on, refuses, asks_for, serves_heap, asks_heap}
@@ -79,11 +81,11 @@ module _ {S : Type 0} (ops : Ops S) (c : Config) where
       none-some other
       (ap (λ (z : Outcome (Host S)). z.after.memory.asked) (same_Some _ out is) ∙ asked)
 
-  begun_pursued : (x page number : ℕ) (f flat : ℕ → List ℕ) (h : Host S) (called : Call)
+  begun_pursued : {entries : ℕ → ℕ → Entry} (x page number : ℕ) (f flat : ℕ → List ℕ) (h : Host S) (called : Call)
       (more : Beside) (w : Word)
       (out : Outcome (Host S)) → asked_of c called ≡ kinds.Word page w
       → begins_as h called (asked_for ops h called more page w) ≡ Some out
-      → Starts (Copies {S = S} c) c x f page w number h.memory.coherence (asks ops h page w).need
+      → Starts (Copies {S = S} c) entries c x f page w number h.memory.coherence (asks ops h page w).need
       (asks ops h page w).after flat → IsPursued c out.after
   begun_pursued x page number f flat h called more w out of is (busy q lock needs after same) =
       absurd (none-some out
@@ -132,31 +134,31 @@ module _ {S : Type 0} (ops : Ops S) (c : Config) where
       next_replies js (p ∷ ps) have gone = none-some have.0.0 (sym gone ∙ have.0.1)
 
   -- a turn
-  turn_pursued : (x : ℕ) (f flat : ℕ → List ℕ) (n : Host S) (good : IsSoundHost ops c x n)
+  turn_pursued : (entries : ℕ → ℕ → Entry) (x : ℕ) (f flat : ℕ → List ℕ) (n : Host S) (good : IsSoundHost ops c x n)
       (out : Outcome (Host S)) (turn : HostTurn ops c n out)
-      → TurnTells (Copies {S = S} c) c x f n out turn flat → IsRunning c n → IsPursued c n
+      → TurnTells (Copies {S = S} c) entries c x f n out turn flat → IsRunning c n → IsPursued c n
       → IsPursued c out.after
-  turn_pursued x f flat n good out (answers called r asked there is) tells running was =
+  turn_pursued entries x f flat n good out (answers called r asked there is) tells running was =
       subst (λ (z : Outcome (Host S)). IsPursued c z.after) (sym is)
       (taken_pursued n running called r n.memory.along n.memory.coherence.done
       n.memory.coherence.done_more refl refl refl)
-  turn_pursued x f flat n good out
+  turn_pursued entries x f flat n good out
       (tries_again called page w asked untold free of inside lies is) tells running was =
       begun_pursued x page (number_of n) f flat (without_call n) called nothing_beside w out
       (subst (λ d. asked_of d called ≡ kinds.Word page w) good.config of) is tells
-  turn_pursued x f flat n good out (goes_on s idle step is) tells running was =
+  turn_pursued entries x f flat n good out (goes_on s idle step is) tells running was =
       subst (λ (z : Outcome (Host S)). IsPursued c z.after) (sym is) was
-  turn_pursued x f flat n good out (refuses called code idle step refusal is) tells running was =
+  turn_pursued entries x f flat n good out (refuses called code idle step refusal is) tells running was =
       subst (λ (z : Outcome (Host S)). IsPursued c z.after) (sym is)
       (λ other q v asked that plain free none. none-some other (sym idle ∙ asked))
-  turn_pursued x f flat n good out (asks_for called page w idle step of inside lies few is)
+  turn_pursued entries x f flat n good out (asks_for called page w idle step of inside lies few is)
       tells running was =
       begun_pursued x page (number_of n) f flat n called (made_along n page w) w out
       (subst (λ d. asked_of d called ≡ kinds.Word page w) good.config of) is tells
-  turn_pursued x f flat n good out (serves_heap called k heap idle step of there is) tells running was =
+  turn_pursued entries x f flat n good out (serves_heap called k heap idle step of there is) tells running was =
       subst (λ (z : Outcome (Host S)). IsPursued c z.after) (sym is)
       (λ other q v asked that plain free none. none-some other (sym idle ∙ asked))
-  turn_pursued x f flat n good out (asks_heap called k idle step of away is) tells running was =
+  turn_pursued entries x f flat n good out (asks_heap called k idle step of away is) tells running was =
       subst (λ (z : Outcome (Host S)). IsPursued c z.after) (sym is)
       (λ other q v asked that plain free none.
       (let heap : asked_of c called ≡ kinds.Heap k =
@@ -166,8 +168,8 @@ module _ {S : Type 0} (ops : Ops S) (c : Config) where
       absurd cc))
 
   -- a message about a page
-  told_pursued : (x : ℕ) (f flat : ℕ → List ℕ) (n : Host S) (k : Coherent S) → IsRunning c n
-      → Tells (Copies {S = S} c) c x f n.memory.coherence k flat → IsPursued c n
+  told_pursued : {entries : ℕ → ℕ → Entry} (x : ℕ) (f flat : ℕ → List ℕ) (n : Host S) (k : Coherent S) → IsRunning c n
+      → Tells (Copies {S = S} c) entries c x f n.memory.coherence k flat → IsPursued c n
       → IsPursued c (record n { memory = record n.memory { coherence = k } })
   told_pursued x f flat n k running (quiet same rest locked waiting) was called page w asked of
       plain free none =
@@ -201,7 +203,7 @@ module _ {S : Type 0} (ops : Ops S) (laws : Laws ops) (c : Config) (config : IsC
       (ap (λ l. slice_get l j) (sym t.cores) ∙ there)) [
         | inl here ↦
             subst (IsPursued c) (sym here.1)
-            (turn_pursued ops c x f.pages flat t.core (f.sound.sound x t.core t.there) t.outcome
+            (turn_pursued ops c (net_of o).entry x f.pages flat t.core (f.sound.sound x t.core t.there) t.outcome
             turn tells (f.running x t.core t.there) (was x t.core t.there))
         | inr other ↦ was j n other.1
       ]

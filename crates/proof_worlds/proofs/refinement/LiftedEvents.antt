@@ -82,9 +82,11 @@ WaitsAt (entry.AwaitWrite s) word call = (s.waiting.word ≡ word) × (s.waiting
 WaitsAt (entry.AwaitAcks s) word call = (s.waiting.word ≡ word) × (s.waiting.call ≡ call)
 
 -- A word of node x is carried out within an event, on its page there and on the flat memory's. Of
--- the net in between P holds, and access suffices there.
-pub record Carries {S : Type 0} (P : (ℕ → S) → Net → (ℕ → List ℕ) → Type 0) (c : Config) (x : ℕ)
-    (f : ℕ → List ℕ) (page : ℕ) (word : Word) (out : Out) (flat : ℕ → List ℕ) : Type 0 where
+-- the net in between P holds, and access suffices there; the other nodes' entries are as they were
+-- before the event.
+pub record Carries {S : Type 0} (P : (ℕ → S) → Net → (ℕ → List ℕ) → Type 0)
+    (was : ℕ → ℕ → Entry) (c : Config) (x : ℕ) (f : ℕ → List ℕ) (page : ℕ) (word : Word) (out : Out)
+    (flat : ℕ → List ℕ) : Type 0 where
   pub managers : ℕ → S
   pub net : Net
   pub state : IdleState
@@ -93,17 +95,18 @@ pub record Carries {S : Type 0} (P : (ℕ → S) → Net → (ℕ → List ℕ) 
   pub inside : page < c.pages
   pub is_word : IsWord c.page_size word
   pub idle : net.entry x page ≡ entry.Idle state
+  pub elsewhere : (j q : ℕ) → j ≢ x → net.entry j q ≡ was j q
   pub enough : suffices state.access word ≡ true
   pub gives : out ≡ (carried_out word (net.page x page)).out
   pub after : flat ≡ with_flat_page f page (carried_out word (f page)).bytes
 
 -- words of node x are carried out one after another, and give these answers
-abbrev pub CarriesAll : {S : Type 0} → ((ℕ → S) → Net → (ℕ → List ℕ) → Type 0) → Config → ℕ
-    → (ℕ → List ℕ) → ℕ → List Word → List Out → (ℕ → List ℕ) → Type 0
-CarriesAll P c x f page [] [] flat = flat ≡ f
-CarriesAll P c x f page (word ∷ words) (out ∷ outs) flat =
-    (mid : ℕ → List ℕ) × Carries P c x f page word out mid × CarriesAll P c x mid page words outs flat
-CarriesAll P c x f page words outs flat = ⊥
+abbrev pub CarriesAll : {S : Type 0} → ((ℕ → S) → Net → (ℕ → List ℕ) → Type 0)
+    → (ℕ → ℕ → Entry) → Config → ℕ → (ℕ → List ℕ) → ℕ → List Word → List Out → (ℕ → List ℕ) → Type 0
+CarriesAll P was c x f page [] [] flat = flat ≡ f
+CarriesAll P was c x f page (word ∷ words) (out ∷ outs) flat =
+    (mid : ℕ → List ℕ) × Carries P was c x f page word out mid × CarriesAll P was c x mid page words outs flat
+CarriesAll P was c x f page words outs flat = ⊥
 
 -- what waits along, and the answers that are there, are as before
 pub record SameRest {S : Type 0} (k k' : Coherent S) : Type 0 where
@@ -114,27 +117,27 @@ pub record SameRest {S : Type 0} (k k' : Coherent S) : Type 0 where
 -- What a message did to the flat memory's pages, where it led node x from one coherence to another:
 -- nothing, and what waits waited before, for the same; or the word that waited was carried out, and
 -- those that waited along with it behind it, and their answers are there.
-pub data Tells {S : Type 0} (P : (ℕ → S) → Net → (ℕ → List ℕ) → Type 0) (c : Config) (x : ℕ)
-    (f : ℕ → List ℕ) (k k' : Coherent S) (flat : ℕ → List ℕ) : Type 0 where
+pub data Tells {S : Type 0} (P : (ℕ → S) → Net → (ℕ → List ℕ) → Type 0) (was : ℕ → ℕ → Entry)
+    (c : Config) (x : ℕ) (f : ℕ → List ℕ) (k k' : Coherent S) (flat : ℕ → List ℕ) : Type 0 where
   quiet : flat ≡ f → SameRest k k' → k'.locked ≡ k.locked
       → ((q : ℕ) (word : Word) (call : ℕ) → WaitsAt (entry_at k'.table q) word call
-      → WaitsAt (entry_at k.table q) word call) → Tells P c x f k k' flat
+      → WaitsAt (entry_at k.table q) word call) → Tells P was c x f k k' flat
   answers : (page : ℕ) (word : Word) (call : ℕ) (out : Out) → k.locked ≡ Some page
       → WaitsAt (entry_at k.table page) word call → k'.locked ≡ None → k'.more ≡ []
       → k'.done ≡ Some out
-      → CarriesAll P c x f page (word ∷ k.more) (out ∷ k'.done_more) flat → Tells P c x f k k' flat
+      → CarriesAll P was c x f page (word ∷ k.more) (out ∷ k'.done_more) flat → Tells P was c x f k k' flat
 
 -- What an access did: it cannot begin, since another word waits; it was carried out at once; or it
 -- waits.
-pub data Starts {S : Type 0} (P : (ℕ → S) → Net → (ℕ → List ℕ) → Type 0) (c : Config) (x : ℕ)
-    (f : ℕ → List ℕ) (page : ℕ) (word : Word) (call : ℕ) (k : Coherent S) (needs : Need)
+pub data Starts {S : Type 0} (P : (ℕ → S) → Net → (ℕ → List ℕ) → Type 0) (was : ℕ → ℕ → Entry)
+    (c : Config) (x : ℕ) (f : ℕ → List ℕ) (page : ℕ) (word : Word) (call : ℕ) (k : Coherent S) (needs : Need)
     (k' : Coherent S) (flat : ℕ → List ℕ) : Type 0 where
   busy : (q : ℕ) → k.locked ≡ Some q → needs ≡ need.Busy → k' ≡ k → flat ≡ f
-      → Starts P c x f page word call k needs k' flat
+      → Starts P was c x f page word call k needs k' flat
   hits : (out : Out) → needs ≡ need.Have out → SameRest k k' → k'.locked ≡ k.locked
-      → Carries P c x f page word out flat → Starts P c x f page word call k needs k' flat
+      → Carries P was c x f page word out flat → Starts P was c x f page word call k needs k' flat
   waits : needs ≡ need.Started → flat ≡ f → SameRest k k' → k'.locked ≡ Some page
-      → WaitsAt (entry_at k'.table page) word call → Starts P c x f page word call k needs k' flat
+      → WaitsAt (entry_at k'.table page) word call → Starts P was c x f page word call k needs k' flat
 
 -- what an event of node x at page p comes to
 pub record Ended {S : Type 0} (P : (ℕ → S) → Net → (ℕ → List ℕ) → Type 0) (m : ℕ → S) (n : Net)

@@ -3,6 +3,7 @@ use Rattle.std.proofs.Common.{◌≡◌, ℕ, Bool, true, false, List, [], ◌�
 use Rattle.ivy_model.specs.declared.Config.{Config}
 use Rattle.ivy_wire.specs.stated.Data.{Parcel}
 use Rattle.ivy_wire.specs.stated.Posts.{parcel_to}
+use Rattle.ivy_pagetable.specs.declared.Entry.{Entry}
 use Rattle.ivy_pagetable.specs.stated.Manager.{Ops}
 use Rattle.ivy_pagetable.specs.Manager.{Laws}
 use Rattle.ivy_coherence.specs.stated.MessageSteps.{handled}
@@ -24,21 +25,21 @@ use Rattle.proof_worlds.proofs.refinement.HostTurns.{made_along, taken-net, mark
 
 -- what a turn tells the flat memory
 abbrev pub TurnTells : {S : Type 0} {ops : Ops S} → ((ℕ → S) → Net → (ℕ → List ℕ) → Type 0)
-    → (c : Config) → ℕ → (ℕ → List ℕ) → (h : Host S) (out : Outcome (Host S)) → HostTurn ops c h out
+    → (ℕ → ℕ → Entry) → (c : Config) → ℕ → (ℕ → List ℕ) → (h : Host S) (out : Outcome (Host S)) → HostTurn ops c h out
     → (ℕ → List ℕ) → Type 0
-TurnTells P c x f h out (answers called r asked there is) flat = flat ≡ f
-TurnTells {ops = ops} P c x f h out
+TurnTells P was c x f h out (answers called r asked there is) flat = flat ≡ f
+TurnTells {ops = ops} P was c x f h out
     (tries_again called page word asked untold free of inside is_word is) flat =
-    Starts P c x f page word (number_of h) (without_call h).memory.coherence
+    Starts P was c x f page word (number_of h) (without_call h).memory.coherence
     (asks ops (without_call h) page word).need (asks ops (without_call h) page word).after flat
-TurnTells P c x f h out (goes_on s idle step is) flat = flat ≡ f
-TurnTells P c x f h out (refuses called code idle step refusal is) flat = flat ≡ f
-TurnTells {ops = ops} P c x f h out (asks_for called page word idle step of inside is_word few is)
+TurnTells P was c x f h out (goes_on s idle step is) flat = flat ≡ f
+TurnTells P was c x f h out (refuses called code idle step refusal is) flat = flat ≡ f
+TurnTells {ops = ops} P was c x f h out (asks_for called page word idle step of inside is_word few is)
     flat =
-    Starts P c x f page word (number_of h) h.memory.coherence (asks ops h page word).need
+    Starts P was c x f page word (number_of h) h.memory.coherence (asks ops h page word).need
     (asks ops h page word).after flat
-TurnTells P c x f h out (serves_heap called k heap idle step of there is) flat = flat ≡ f
-TurnTells P c x f h out (asks_heap called k idle step of none is) flat = flat ≡ f
+TurnTells P was c x f h out (serves_heap called k heap idle step of there is) flat = flat ≡ f
+TurnTells P was c x f h out (asks_heap called k idle step of none is) flat = flat ≡ f
 
 -- What a step of the FIFO world tells the flat memory's pages: one in which a message of the
 -- heap is delivered, nothing.
@@ -46,10 +47,10 @@ pub data WorldTells {S : Type 0} (ops : Ops S) (P : (ℕ → S) → Net → (ℕ
     (c : Config) (f : ℕ → List ℕ) (o o' : FifoWorld (Host S)) (flat : ℕ → List ℕ) : Type 0 where
   rested : o' ≡ o → flat ≡ f → WorldTells ops P c f o o' flat
   turned : (x : ℕ) (t : Turns (host_rules ops) o x o') (turn : HostTurn ops c t.core t.outcome)
-      → TurnTells P c x f t.core t.outcome turn flat → WorldTells ops P c f o o' flat
+      → TurnTells P (net_of o).entry c x f t.core t.outcome turn flat → WorldTells ops P c f o o' flat
   delivered : (source x : ℕ) (t : Delivers (host_rules ops) o source x o')
       → is_of_pages t.message.content ≡ true
-      → Tells P c x f t.core.memory.coherence
+      → Tells P (net_of o).entry c x f t.core.memory.coherence
       (handled ops t.core.memory.coherence source t.message).after flat
       → WorldTells ops P c f o o' flat
   heap_delivered : (source x : ℕ) (t : Delivers (host_rules ops) o source x o')
@@ -79,7 +80,7 @@ module _ {S : Type 0} {ops : Ops S} {P : (ℕ → S) → Net → (ℕ → List �
 
   pub kept-turns : (x : ℕ) (t : Turns (host_rules ops) o x o')
       (turn : HostTurn ops c t.core t.outcome)
-      → (flat : ℕ → List ℕ) × Then flat × TurnTells P c x f t.core t.outcome turn flat
+      → (flat : ℕ → List ℕ) × Then flat × TurnTells P (net_of o).entry c x f t.core t.outcome turn flat
   kept-turns x t (answers called r asked there is) =
       let net = taken-net t.core.memory t.core.memory.along in
       (f, still x t _ [] is refl net.me net.manager net.table net.breaches, refl)

@@ -64,7 +64,7 @@ some_left nodes h e =
 abbrev pub GoesTo : {S : Type 0} → ((ℕ → S) → Net → (ℕ → List ℕ) → Type 0) → (ℕ → S) → Net
     → (ℕ → List ℕ) → Coherent S → ℕ → Coherent S → List Parcel → Type 0
 GoesTo P m n f k p k' ps =
-    (flat : ℕ → List ℕ) × Ended P m n k.me p k k' ps flat × Tells P k.config k.me f k k' flat
+    (flat : ℕ → List ℕ) × Ended P m n k.me p k k' ps flat × Tells P n.entry k.config k.me f k k' flat
 
 module _ {S : Type 0} {ops : Ops S} {P : (ℕ → S) → Net → (ℕ → List ℕ) → Type 0} (m : ℕ → S)
     (n : Net) (k : Coherent S) (sound : IsSound ops k) (p : ℕ) (inside : p < k.config.pages) where
@@ -557,7 +557,7 @@ module _ {S : Type 0} {ops : Ops S} {P : (ℕ → S) → Net → (ℕ → List �
   Served g =
       (flat : ℕ → List ℕ)
       × ((m' : ℕ → S) (n' : Net) → ComesTo m n k.me g.after g.posted m' n' → P m' n' flat)
-      × Tells P k.config k.me f k g.after flat
+      × Tells P n.entry k.config k.me f k g.after flat
 
   served_by : (p : ℕ) (g : CoherenceEffect S) → GoesTo P m n f k p g.after g.posted → Served g
   served_by p g goes = (
@@ -681,7 +681,7 @@ KeepsHandled ops P m n f k c x from message =
     × ((m' : ℕ → _) (n' : Net)
     → ComesTo m n x (handled ops k from message).after (handled ops k from message).posted m' n'
     → P m' n' flat)
-    × Tells P c x f k (handled ops k from message).after flat
+    × Tells P n.entry c x f k (handled ops k from message).after flat
 
 pub kept-handled : {S : Type 0} {ops : Ops S} {P : (ℕ → S) → Net → (ℕ → List ℕ) → Type 0} → Laws ops
     → (c : Config) (x : ℕ) (m : ℕ → S) (n : Net) (f : ℕ → List ℕ) (k : Coherent S) (from : ℕ)

@@ -18,7 +18,7 @@ use Rattle.proof_table.specs.transitions.Letters.{goes_on, installs}
 use Rattle.proof_table.specs.transitions.TableSteps.{Notice, Row, Claim, Misfits, IsPreserved, IsNamedBy, noticed, with_manager, with_flat_page}
 use Rattle.proof_table.proofs.transitions.Alike.{alike_holds}
 use Rattle.proof_worlds.proofs.refinement.LiftedEvents.{CarriesAll}
-use Rattle.proof_worlds.proofs.refinement.LiftedNets.{reached, Stands, written_here, told_here, extended-on, extended-none, goes-alike, comes_alike, installs-alike, drops-alike}
+use Rattle.proof_worlds.proofs.refinement.LiftedNets.{reached, Stands, written_here, written-node, told_here, extended-on, extended-none, goes-alike, comes_alike, installs-alike, drops-alike}
 
 module _ {S : Type 0} {ops : Ops S} {P : Claim S} {c : Config} (kept : IsPreserved ops c P)
     {m : ℕ → S} {n : Net} {x p : ℕ} {f : ℕ → List ℕ} {e : Entry} {b : List ℕ} {s : S} {broken : ℕ}
@@ -118,7 +118,7 @@ pub carried_all_at : {S : Type 0} {ops : Ops S} {P : Claim S} {c : Config} → I
     → Stands P m n x p f (entry.Idle i) b s broken ps rest → All (IsCarried c i) words
     → (flat : ℕ → List ℕ)
     × Stands P m n x p flat (entry.Idle i) (all_carried words b).bytes s broken ps rest
-    × CarriesAll P c x f p words (all_carried words b).outs flat
+    × CarriesAll P n.entry c x f p words (all_carried words b).outs flat
 carried_all_at kept here inside [] {f} h are = (f, h, refl)
 carried_all_at {P = P} {c = c} kept {m} {n} {x} {p} here inside (w ∷ words) {f} {i} {b} {s} {broken}
     {ps} {rest} h are =
@@ -138,6 +138,7 @@ carried_all_at {P = P} {c = c} kept {m} {n} {x} {p} here inside (w ∷ words) {f
           inside = inside;
           is_word = is.0;
           idle = written_here n.entry x p (entry.Idle i);
+          elsewhere = written-node n.entry x p (entry.Idle i);
           enough = is.1;
           gives = ap (λ d. (carried_out w d).out) (sym (written_here n.page x p b));
           after = refl;

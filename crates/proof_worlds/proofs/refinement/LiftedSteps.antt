@@ -52,7 +52,7 @@ module _ {S : Type 0} {ops : Ops S} {P : (ℕ → S) → Net → (ℕ → List �
   pub kept-delivers : (source x : ℕ) (t : Delivers (host_rules ops) o source x o')
       → is_of_pages t.message.content ≡ true
       → (flat : ℕ → List ℕ) × Then flat
-      × Tells P c x f t.core.memory.coherence
+      × Tells P (net_of o).entry c x f t.core.memory.coherence
       (handled ops t.core.memory.coherence source t.message).after flat
   kept-delivers source x t about =
       let k : Coherent S = t.core.memory.coherence in
@@ -169,7 +169,7 @@ module _ {S : Type 0} {ops : Ops S} {P : (ℕ → S) → Net → (ℕ → List �
       → t.outcome.posted
       ≡ (begun ops (record t.core.memory.coherence { done = d }) page word number).posted
       → (flat : ℕ → List ℕ) × Then flat
-      × Starts P c x f page word number (record t.core.memory.coherence { done = d })
+      × Starts P (net_of o).entry c x f page word number (record t.core.memory.coherence { done = d })
       (begun ops (record t.core.memory.coherence { done = d }) page word number).need
       (begun ops (record t.core.memory.coherence { done = d }) page word number).after flat
   kept-begins x t d page word number inside is_word numbered me after posts =

@@ -23,7 +23,7 @@ use Rattle.ivy_coherence.proofs.keeping.SoundEntries.{entry_is}
 use Rattle.proof_table.specs.stated.Letters.{Net}
 use Rattle.proof_table.specs.transitions.Letters.{written}
 use Rattle.proof_table.specs.transitions.TableSteps.{with_manager, with_flat_page as with_flat, IsHop, Begins, Row, IsPreserved}
-use Rattle.proof_worlds.proofs.refinement.LiftedNets.{reached, Stands, written_here, written-page}
+use Rattle.proof_worlds.proofs.refinement.LiftedNets.{reached, Stands, written_here, written-page, written-node}
 use Rattle.proof_worlds.proofs.refinement.LiftedRows.{goes, carried_at, hop_here}
 use Rattle.proof_worlds.proofs.refinement.LiftedEvents.{IsNode, ComesTo, WaitsAt, Starts, busy as is_busy, hits, waits, Ended, stands-first, ended-leads}
 use Rattle.proof_worlds.proofs.refinement.LiftedMessages.{entry_ended}
@@ -40,7 +40,7 @@ module _ {S : Type 0} {ops : Ops S} {P : (ℕ → S) → Net → (ℕ → List �
   abbrev Goes : Begun S → Type 0
   Goes b =
       (flat : ℕ → List ℕ) × Ended P m n k.me p k b.after b.posted flat
-      × Starts P k.config k.me f p w call k b.need b.after flat
+      × Starts P n.entry k.config k.me f p w call k b.need b.after flat
 
   -- before the access, at an idle entry
   first : (i : IdleState) → entry_at k.table p ≡ entry.Idle i
@@ -93,6 +93,7 @@ module _ {S : Type 0} {ops : Ops S} {P : (ℕ → S) → Net → (ℕ → List �
               inside = inside;
               is_word = is_word;
               idle = written_here n.entry k.me p (entry.Idle i);
+              elsewhere = written-node n.entry k.me p (entry.Idle i);
               enough = enough;
               gives = ap (λ d. (carried_out w d).out) (sym (written_here n.page k.me p old));
               after = refl;
@@ -213,7 +214,7 @@ KeepsBegun ops P m n f k c x page word call =
     × ((m' : ℕ → _) (n' : Net)
     → ComesTo m n x (begun ops k page word call).after (begun ops k page word call).posted m' n'
     → P m' n' flat)
-    × Starts P c x f page word call k (begun ops k page word call).need
+    × Starts P n.entry c x f page word call k (begun ops k page word call).need
     (begun ops k page word call).after flat
 
 pub kept-begun : {S : Type 0} {ops : Ops S} {P : (ℕ → S) → Net → (ℕ → List ℕ) → Type 0}

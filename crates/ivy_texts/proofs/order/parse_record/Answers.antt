@@ -12,7 +12,7 @@ returns c =
     let back : take (length said - from) (drop from said) ≡ drop from said =
     take_all (length said - from) (drop from said) (omega (arith, length-drop from said)) in
     record-said c.args.words.now said c.in_ok-node.node.now c.in_ok-equals.equals _
-    c.in_ok-node.ensures.cases.0 c.in_ok-equals.ensures c.in_ok-parse_byte.ensures
+    c.in_ok-node.ensures.cases.0 c.in_ok-equals.ensures c.in_ok-parse_byte.ensures.number
     c.in_ok-parse_call.ensures.spelled c.in_ok-parse_call.ensures.width
     (subst (λ ws. SpellsReply (map (λ w. w.now) ws) c.in_ok-parse_reply.field-0) back
     c.in_ok-parse_reply.ensures)
