@@ -37,7 +37,7 @@ typedef struct ivy_config {
 
 /* How the node answers others. Who waits in a call receives by itself in both forms. */
 typedef enum ivy_progress {
-  IVY_IN_CALLS = 0, /* while a call waits, at each 64th call and in ivy_progress_now */
+  IVY_IN_CALLS = 0, /* while a call waits, between calls in a row now and then, and in ivy_progress_now */
   IVY_BY_THREAD = 1 /* also by a thread, while the program computes */
 } ivy_progress;
 

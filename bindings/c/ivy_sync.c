@@ -83,6 +83,25 @@ uint32_t ivy_ticket_lock_release(ivy_process *process, ivy_ticket_lock lock) {
   return ivy_error(process);
 }
 
+/* Looks at a word until it is at least so much, with rests. */
+static uint32_t look_until(ivy_process *process, uint64_t address, uint64_t least) {
+  uint64_t found;
+  return ivy_wait_until(process, WORD, address, IVY_GE, least, -1, &found);
+}
+
+static uint64_t place_of(ivy_array_lock lock, uint64_t ticket) { return lock.places + lock.apart * (ticket % lock.size); }
+
+uint64_t ivy_array_lock_acquire(ivy_process *process, ivy_array_lock lock) {
+  uint64_t ticket = ivy_fetch_add(process, WORD, lock.next, 1);
+  look_until(process, place_of(lock, ticket), ticket);
+  return ticket;
+}
+
+uint32_t ivy_array_lock_release(ivy_process *process, ivy_array_lock lock, uint64_t ticket) {
+  ivy_store(process, WORD, place_of(lock, ticket + 1), ticket + 1);
+  return ivy_error(process);
+}
+
 /* In the word of a readers' lock, while a writer is inside or the number of readers is changed. */
 static const uint64_t taken = UINT64_MAX;
 
@@ -144,6 +163,33 @@ uint32_t ivy_barrier_wait(ivy_process *process, ivy_barrier *barrier) {
   ivy_advance(process, barrier->count);
   ivy_await(process, barrier->count, all);
   barrier->passed = all;
+  return ivy_error(process);
+}
+
+uint32_t ivy_word_barrier_wait(ivy_process *process, ivy_word_barrier *barrier) {
+  uint64_t all = barrier->passed + barrier->nodes;
+  if (ivy_fetch_add(process, WORD, barrier->arrived, 1) + 1 == all) ivy_store(process, WORD, barrier->opened, all);
+  else look_until(process, barrier->opened, all);
+  barrier->passed = all;
+  return ivy_error(process);
+}
+
+/* So many nodes are below each one of a tree. */
+enum { WIDTH = 4 };
+
+uint32_t ivy_tree_barrier_wait(ivy_process *process, ivy_tree_barrier *barrier, uint32_t me) {
+  uint64_t phase = barrier->passed + 1, own = barrier->apart * me;
+  for (uint64_t below = WIDTH * (uint64_t)me + 1; below <= WIDTH * (uint64_t)me + WIDTH && below < barrier->nodes; below++)
+    look_until(process, barrier->raised + barrier->apart * below, phase);
+  ivy_store(process, WORD, barrier->raised + own, phase);
+  if (me > 0) look_until(process, barrier->opened + barrier->apart * ((me - 1) / WIDTH), phase);
+  ivy_store(process, WORD, barrier->opened + own, phase);
+  barrier->passed = phase;
+  return ivy_error(process);
+}
+
+uint32_t ivy_touch(ivy_process *process, uint64_t address, uint64_t pages, uint64_t apart) {
+  for (uint64_t k = 0; k < pages; k++) ivy_fetch_add(process, WORD, address + apart * k, 0);
   return ivy_error(process);
 }
 

@@ -50,6 +50,15 @@ int ivy_ticket_lock_acquire_for(ivy_process *process, ivy_ticket_lock lock, long
 /* Only who is inside may leave. */
 uint32_t ivy_ticket_lock_release(ivy_process *process, ivy_ticket_lock lock);
 
+/* ---- A lock with places: each waits at a word of its own, so who leaves disturbs only the next ------------------------- */
+
+/* The word of the next ticket, and so many places, words that lie so many bytes apart: best as many as nodes, and a page. */
+typedef struct { uint64_t next, places, apart, size; } ivy_array_lock;
+
+/* The ticket that was drawn, by which to leave. */
+uint64_t ivy_array_lock_acquire(ivy_process *process, ivy_array_lock lock);
+uint32_t ivy_array_lock_release(ivy_process *process, ivy_array_lock lock, uint64_t ticket);
+
 /* ---- A lock for many readers or one writer, in a word: how many readers are inside, or that it is taken. It spins ------ */
 
 typedef struct { uint64_t address; } ivy_readers_lock;
@@ -72,6 +81,25 @@ typedef struct {
 } ivy_barrier;
 
 uint32_t ivy_barrier_wait(ivy_process *process, ivy_barrier *barrier);
+
+/* The same by two words, best on pages of their own, so that nobody waits at the word that is raised. */
+typedef struct {
+  uint64_t arrived, opened;
+  uint32_t nodes;
+  uint64_t passed; /* what the words are when the next phase begins: at first 0 */
+} ivy_word_barrier;
+
+uint32_t ivy_word_barrier_wait(ivy_process *process, ivy_word_barrier *barrier);
+
+/* The same by a tree in which each node has up to four below it: two words a node, from node 0 on so many bytes apart, best a
+ * page. */
+typedef struct {
+  uint64_t raised, opened, apart;
+  uint32_t nodes;
+  uint64_t passed; /* so many phases: at first 0 */
+} ivy_tree_barrier;
+
+uint32_t ivy_tree_barrier_wait(ivy_process *process, ivy_tree_barrier *barrier, uint32_t me);
 
 /* ---- A number that one node gives to all -------------------------------------------------------------------------------- */
 
@@ -117,6 +145,10 @@ uint32_t ivy_reduction_doubles(ivy_process *process, const ivy_reduction *reduct
 double ivy_sum_of_doubles(double so_far, double one);
 double ivy_least_of_doubles(double so_far, double one);
 double ivy_greatest_of_doubles(double so_far, double one);
+
+/* ---- Pages that are to be here: so many words, so many bytes apart, are raised by 0, so a store to each is at once then -- */
+
+uint32_t ivy_touch(ivy_process *process, uint64_t address, uint64_t pages, uint64_t apart);
 
 /* ---- A queue of one sender and one receiver: so many words, and two counts of what was sent and taken ----------------- */
 

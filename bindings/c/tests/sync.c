@@ -1,11 +1,11 @@
 /* Addresses that are handed on, and what is built on calls: timed locks, a lock for readers, nodes of a list, a barrier that
- * several have a hand in. Called as an example is, or by ivyrun, and then there are roots. */
+ * several have a hand in, others by words and by a tree, a lock with places. Called as an example is, or by ivyrun, and then there are roots. */
 #define _POSIX_C_SOURCE 200809L
 #include "../examples/example.h"
 #include "ivy_sync.h"
 #include <time.h>
 
-enum { PAGES = 8, PAGE = 256, EACH = 40, SHORT_US = 3000, FIRST = PAGE * 4 };
+enum { PAGES = 32, PAGE = 256, EACH = 40, SHORT_US = 3000, FIRST = PAGE * 4, APART = PAGE * 10, MOST_NODES = 6 };
 enum { TURN = 2, OF_LIST = 3, MET = 4, STALE = 5 };
 
 static int64_t microseconds(void) {
@@ -140,10 +140,33 @@ static void go_on(example *e) {
   expect(e, "what was stored before the barrier", ivy_load(e->ivy, 8, FIRST + 40), 42);
 }
 
+/* In each phase a number of a barrier is the last one at all nodes; and a sum under a lock with places. */
+static void meet_otherwise(example *e) {
+  ivy_word_barrier words = { APART, APART + PAGE, e->nodes, 0 };
+  ivy_tree_barrier tree = { APART + 2 * PAGE, APART + 2 * PAGE + 8, PAGE, e->nodes, 0 };
+  const ivy_array_lock lock = { APART + 8 * PAGE, APART + 9 * PAGE, PAGE, e->nodes };
+  uint64_t own = FIRST + PAGE + 64 + 8 * (uint64_t)e->me, sum = FIRST + 48;
+  for (uint64_t i = 1; i <= EACH; i++) {
+    ivy_store(e->ivy, 8, own, i);
+    expect(e, "a barrier by words", ivy_word_barrier_wait(e->ivy, &words), IVY_DONE);
+    for (uint64_t k = 0; k < e->nodes; k++)
+      expect(e, "what all stored", ivy_load(e->ivy, 8, FIRST + PAGE + 64 + 8 * k), i);
+    expect(e, "a barrier by a tree", ivy_tree_barrier_wait(e->ivy, &tree, e->me), IVY_DONE);
+    uint64_t ticket = ivy_array_lock_acquire(e->ivy, lock);
+    ivy_store(e->ivy, 8, sum, ivy_load(e->ivy, 8, sum) + 1);
+    expect(e, "what is left", ivy_array_lock_release(e->ivy, lock, ticket), IVY_DONE);
+  }
+  ivy_tree_barrier_wait(e->ivy, &tree, e->me);
+  expect(e, "a sum by places", ivy_load(e->ivy, 8, sum), EACH * (uint64_t)e->nodes);
+  ivy_tree_barrier_wait(e->ivy, &tree, e->me);
+  expect(e, "pages that are to be here", ivy_touch(e->ivy, APART + 16 * PAGE, 3, PAGE), IVY_DONE);
+}
+
 int main(int argc, char **argv) {
   example e;
   begin_example(&e, argc, argv, PAGES, PAGE);
   uint64_t found;
+  if (e.nodes > MOST_NODES) return 2;
   if (ivy_root_for(e.ivy, 1, 0, &found) != IVY_BAD_ARGUMENT) hand_on(&e);
   else expect(&e, "whether there are roots", argc > 1, 1);
   barrier(&e);
@@ -154,6 +177,8 @@ int main(int argc, char **argv) {
   be_of_list(&e);
   barrier(&e);
   go_on(&e);
+  barrier(&e);
+  meet_otherwise(&e);
   barrier(&e);
   ivy_counts counts = ivy_counts_of(e.ivy);
   expect(&e, "the sum of counts", counts.hits + counts.misses + counts.waits, counts.calls);
