@@ -65,7 +65,7 @@ fn lines_at_the_bounds_are_read(rt: HostRuntime) {
         (
             LogKind::OfProgram,
             "ivy log 1 2 2 64 fixed\npulse 16\npulse 255\n",
-            2,
+            2usize,
         ),
         (
             LogKind::OfProgram,
