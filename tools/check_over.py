@@ -31,13 +31,16 @@ def lines_of(checkout):
     return crates
 
 
-def below(crate, crates):
-    """The checkout's crates that this one stands on, the lowest first."""
-    found = []
-    for named in crates[crate][1]:
-        if named in crates:
-            found += [c for c in below(named, crates) + [named] if c not in found]
-    return found
+def below(crate, crates, known=None):
+    """The checkout's crates that this one stands on, the lowest first. Each is looked at once, however many ways lead to it."""
+    known = {} if known is None else known
+    if crate not in known:
+        found = {}
+        for named in crates[crate][1]:
+            if named in crates:
+                found |= dict.fromkeys([*below(named, crates, known), named])
+        known[crate] = list(found)
+    return known[crate]
 
 
 def sum_of(checkout, crate, crates):
