@@ -43,10 +43,6 @@ fn a_torn_line_is_none_and_a_faulty_one_is_named(rt: HostRuntime) {
         ("ivy log 1 2 2 64 fixed\ntook 4x\n", 2),
         ("ivy log 1 2 2 64 fixed\ntook 456\n", 2),
         ("ivy log 1 2 2 64 fixed\npulse 256\n", 2),
-        (
-            "ivy log 1 2 2 64 fixed\n\n# a comment\npulse 1\nturn 2\nturn 3\n",
-            5,
-        ),
         // Calls and answers stand in logs of own code alone.
         ("ivy own 1 2 2 64 fixed\n", 1),
         ("ivy log 1 2 2 64 fixed\nturns 2\ncall load 8 512\n", 3),
@@ -55,32 +51,6 @@ fn a_torn_line_is_none_and_a_faulty_one_is_named(rt: HostRuntime) {
     for (text, line) in &faulty {
         let fault = parse_log(alloc, LogKind::OfProgram, *text).err();
         expect_same(&rt, fault, Some(Fault::ProgramFault(*line)));
-    }
-}
-
-#[test]
-fn lines_at_the_bounds_are_read(rt: HostRuntime) {
-    let alloc = rt.alloc();
-    let read = [
-        (
-            LogKind::OfProgram,
-            "ivy log 1 2 2 64 fixed\npulse 16\npulse 255\n",
-            2usize,
-        ),
-        (
-            LogKind::OfProgram,
-            "ivy log 255 0 4294967295 0 dynamic\n",
-            0,
-        ),
-        (
-            LogKind::OfOwnCode,
-            "ivy own 1 2 2 64 fixed\ncall advance 0\ndone advance 0\nrefused 255 load 8 0\n",
-            3,
-        ),
-    ];
-    for (kind, text, count) in &read {
-        let log = parse_log(alloc, *kind, *text).expect(&rt, "a log");
-        expect_same(&rt, log.entries.len(), *count);
     }
 }
 
