@@ -15,6 +15,7 @@
  *      kept grows, also where nothing is lost.
  *   5. 2 to 4 go on while the owner computes or waits for something else, and until no peer needs this node any more:
  *      a node owns pages that others ask for at any time.
+ *   6. Where it lends pages (below): what is said there of images, and ivy_go_on.
  *
  * OWNERSHIP. An ivy_node begins as IVY_NONE. Its member is neither read nor written. It is never copied while open; it
  * may be moved to another thread. Two threads are never inside functions of one node at once: take a lock round them.
@@ -41,8 +42,8 @@ uint32_t ivy_version(void); /* of the library: compare it with IVY_VERSION */
  *
  * Below 256 a status is a reply of the memory: 0 the call was carried out, 3 to 10 it was refused and changed nothing
  * in the memory; it is over either way. IVY_PENDING says that a call is in progress, also one for which memory ran out as
- * it began. After each other status the node is as it was before the function was called, and what the pointers lead to
- * is not to be used. */
+ * it began. After each other status the node is as it was before the function was called, but for ivy_go_on, and what the
+ * pointers lead to is not to be used, but for IVY_WANTED of ivy_wanted and ivy_go_on. */
 typedef uint32_t ivy_status;
 enum {
   IVY_DONE = 0,
@@ -71,7 +72,10 @@ enum {
   IVY_SHORT_BUFFER = 303,   /* the first string is longer than the buffer, and waits */
   IVY_BAD_ARGUMENT = 304,   /* no such kind, width, node or manager */
   IVY_CLOSED = 305,         /* the handle has no node */
-  IVY_OPEN = 306            /* the handle has a node already */
+  IVY_OPEN = 306,           /* the handle has a node already */
+  IVY_WANTED = 307,         /* the string would take a page that is lent: give that back, then deliver the string again */
+  IVY_LENT = 308,           /* the page of the call or of the block is lent */
+  IVY_NO_PAGE = 309         /* the page is not here, or not here to be written, or a call waits for it */
 };
 
 /* The name of a status; never null. */
@@ -103,6 +107,9 @@ static inline const char *ivy_status_text(uint32_t status) {
     case IVY_BAD_ARGUMENT: return "no such kind, width, node or manager";
     case IVY_CLOSED: return "the handle has no node";
     case IVY_OPEN: return "the handle has a node already";
+    case IVY_WANTED: return "the string would take a page that is lent";
+    case IVY_LENT: return "the page is lent";
+    case IVY_NO_PAGE: return "the page is not here, or not to be written";
     default: return "unknown status";
   }
 }
@@ -153,7 +160,8 @@ typedef enum ivy_kind {
 } ivy_kind;
 
 /* Begins a call. Below 256: it is over. IVY_PENDING: it is in progress, and ivy_reply has its reply later; it cannot be
- * withdrawn. MEMORY, BUSY, BAD_ARGUMENT, CLOSED: it was not begun. */
+ * withdrawn. MEMORY, BUSY, BAD_ARGUMENT, CLOSED: it was not begun. Nor was it with LENT: its word's page is lent to be
+ * written, or is lent to be read and the call is no load. A call that is refused with 3 to 7, or is BUSY, says so first. */
 uint32_t ivy_begin(ivy_node *node, uint32_t kind, uint32_t width, uint64_t place, uint64_t operand, uint64_t expected,
                    uint64_t *value);
 
@@ -178,12 +186,15 @@ uint32_t ivy_reply(ivy_node *node, uint64_t *value);
  * says what is wrong. While the page is here, blocks go on.
  *
  * No string waits after a block that did not wait before, and none takes memory: such a node keeps no list of its calls.
- * A driver that keeps a log with a line for each call makes the calls one by one instead. */
+ * A driver that keeps a log with a line for each call makes the calls one by one instead.
+ *
+ * A page that is lent may be loaded by blocks, and stored by them where it is lent to be written; else LENT says that
+ * nothing was done. */
 
 /* Loads a block: IVY_DONE, with the number of words, CLOSED. */
 uint32_t ivy_load_block(ivy_node *node, uint64_t address, uint8_t *into, size_t len, size_t *words);
 
-/* Stores a block: IVY_DONE, with the number of words, CLOSED. */
+/* Stores a block: IVY_DONE, with the number of words; LENT: the page is lent to be read; CLOSED. */
 uint32_t ivy_store_block(ivy_node *node, uint64_t address, const uint8_t *from, size_t len, size_t *words);
 
 /* ---- Blocks that wait ---------------------------------------------------------------------------------------------
@@ -207,8 +218,8 @@ uint32_t ivy_store_block(ivy_node *node, uint64_t address, const uint8_t *from, 
 /* Makes the loads, or the stores, of words from `address` on together, where the first has to wait: as many as lie in
  * `len` bytes whole and from `address` to the end of its page. No byte of `room` is read or written: the buffer for the
  * words will do. IVY_PENDING, with how many. IVY_DONE with *words 0: nothing was done; the first word need not wait, or is
- * none of the heap, `len` is less than 8, or a call is in progress. MEMORY, NUMBERS_SPENT: no call was made, and nothing
- * changed. CLOSED. */
+ * none of the heap, `len` is less than 8, or a call is in progress. LENT: the page is lent. MEMORY, NUMBERS_SPENT: no call
+ * was made, and nothing changed. CLOSED. */
 uint32_t ivy_begin_load_block(ivy_node *node, uint64_t address, const uint8_t *room, size_t len, size_t *words);
 uint32_t ivy_begin_store_block(ivy_node *node, uint64_t address, const uint8_t *from, size_t len, size_t *words);
 
@@ -233,7 +244,8 @@ typedef enum ivy_verdict {
   IVY_NOT_MINE = 3 /* for another node; nothing changed */
 } ivy_verdict;
 
-/* A string comes. IVY_DONE, with the verdict; 267 to 273, MEMORY, CLOSED: nothing changed. */
+/* A string comes. IVY_DONE, with the verdict; WANTED, 267 to 273, MEMORY, CLOSED: nothing changed, and nothing is
+ * acknowledged. After WANTED, ivy_wanted says which page to give back; then the same string is delivered again. */
 uint32_t ivy_deliver(ivy_node *node, const uint8_t *bytes, size_t len, uint32_t *verdict);
 
 /* The first string that waits is written to `buffer` and waits no more: IVY_DONE, with its length and the node that it
@@ -243,6 +255,56 @@ uint32_t ivy_next_frame(ivy_node *node, uint8_t *buffer, size_t room, size_t *le
 /* The first 32 messages that `peer` has not acknowledged wait to be sent again; where there is none and an
  * acknowledgement is owed, a frame with it; else nothing. IVY_DONE, MEMORY, BAD_ARGUMENT (no other node), CLOSED. */
 uint32_t ivy_pulse(ivy_node *node, uint8_t peer);
+
+/* ---- Pages lent to the program --------------------------------------------------------------------------------------
+ *
+ * So that a program may use plain pointers, its driver keeps an image of each page, and shows of it what the node lends:
+ * a page that is lent is not taken from the node by any string. The node keeps marks alone; bytes go by the blocks above.
+ * The first page is never lent.
+ *
+ *   to have a page     ivy_begin(IVY_LOAD, 1, its address), or to write it ivy_begin(IVY_FETCH_AND_ADD, 1, its address, 0);
+ *                      once that is over ivy_load_block of the whole page into the image, and ivy_lend
+ *   to keep a page     ivy_store_block of the whole image, while no call is in progress
+ *   to give it back    lower what the program may do with the image, keep the page where it was lent to be written, then
+ *                      ivy_give_back
+ *
+ * WHO LENDS OWES
+ *   a. An image changes only by the program, while the page is lent to be written, or by the driver, before the program may
+ *      see it, to the bytes that ivy_load_block gave, with no function of the node between that and ivy_lend.
+ *   b. The program reads an image only while its page is lent, and a load gives what stands there.
+ *   c. What ivy_store_block stores to a page that is lent to be written is what stands in its image. When such a page is
+ *      given back, that is what stands there still, and the program does no more with it than it is lent for then.
+ *   d. After each ivy_give_back, and after an ivy_deliver while pages are lent, ivy_go_on for each peer, until it says
+ *      IVY_DONE; after its WANTED once the page was given back. The strings that wait are taken as after any call.
+ *
+ * Then the calls of all nodes, and all accesses to images, are of one flat memory. Without d nodes may stand still, and no
+ * answer is wrong. A page is given back also while a call is in progress, but blocks do nothing then: so a driver keeps
+ * what was written before it begins a call that may wait, and lets no program write until it is over.
+ *
+ * None of these has a turn. No string waits after ivy_lend, ivy_give_back and ivy_wanted that did not wait before, and of
+ * these ivy_lend alone may take memory. A driver that keeps a log with a line for each call does not lend. */
+
+typedef enum ivy_lending { IVY_UNLENT = 0, IVY_TO_READ = 1, IVY_TO_WRITE = 2 } ivy_lending;
+
+/* Lends a page to be read, or to be written: from now on no string takes it, until it is given back. One that is lent to be
+ * read may be lent to be written. IVY_DONE. BAD_ARGUMENT: it is the first page, or there is no such page or lending, or it is
+ * lent for as much already. NO_PAGE: the page is not here, or not here to be written, or a call without its reply is of
+ * it. MEMORY, where there are more than 256 pages: it was not made yet, and is lent to be written. CLOSED. */
+uint32_t ivy_lend(ivy_node *node, uint32_t page, uint32_t lending);
+
+/* Gives a page back, whole (IVY_UNLENT), or all but the right to read it (IVY_TO_READ). IVY_DONE; BAD_ARGUMENT: it is not
+ * lent for more than that, or there is no such page; CLOSED. */
+uint32_t ivy_give_back(ivy_node *node, uint32_t page, uint32_t on);
+
+/* Which page that is lent a string would take, were it delivered now, and what that may be lent for after it: IVY_WANTED,
+ * with both. IVY_DONE: none. CLOSED. It changes nothing. */
+uint32_t ivy_wanted(ivy_node *node, const uint8_t *bytes, size_t len, uint32_t *page, uint32_t *on);
+
+/* Goes on with the strings of a peer that are held and due, as ivy_deliver does, one after another. IVY_DONE: none is due.
+ * WANTED: the next one would take this page, which may be lent for that after it. MEMORY, NUMBERS_SPENT: the next one was
+ * refused so, and stays held. Those before it were served: take strings, ask ivy_reply. BAD_ARGUMENT (no other node),
+ * CLOSED. */
+uint32_t ivy_go_on(ivy_node *node, uint8_t peer, uint32_t *page, uint32_t *on);
 
 /* Bit i is set exactly where some message to peer i is not acknowledged yet; where an acknowledgement is owed to it. Only
  * a pulse to one of these makes a string. Neither changes anything. IVY_DONE, CLOSED. */

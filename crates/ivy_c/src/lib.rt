@@ -3,13 +3,16 @@
 //! `include/ivy.h` says what a program in C owes, and what each status leaves.
 #![tactic(auto)]
 
-ghost use Rattle.std.specs.Prelude.{◌≡◌, ◌≢◌, ◌<◌, None, Some, MatchOption, length};
+ghost use Rattle.std.specs.Prelude.{◌≡◌, ◌≢◌, ◌<◌, None, Some, IfSome, MatchOption, length};
 ghost use Rattle.std.specs.Mem.{manually_drop_value};
 ghost use Rattle.ivy_model.specs.declared.Config.{Config};
 ghost use Rattle.ivy_model.specs.declared.Row.TheVariants.{Loads, Stores};
 ghost use Rattle.ivy_embedded.specs.Nodes.{first_embedded};
-ghost use Rattle.ivy_embedded.specs.Blocks.{BeginsAll, LoadsAll, StoresAll, TakesAll};
-ghost use Rattle.ivy_embedded.specs.Exports.{Answers, Begins, BeginsBlock, CarriesOut, Delivers, IsRequest, Polls, Pulses, RefusesCall, RefusesPoll, RefusesPulse, RefusesString, TakesAt, TakesBlock, TellsWant};
+ghost use Rattle.ivy_embedded.specs.Blocks.{BeginsAll, LoadsAll, RefusesBlock, RefusesStores, StoresAll, TakesAll};
+ghost use Rattle.ivy_embedded.specs.Exports.{Answers, Begins, BeginsBlock, CarriesOut, Delivers, IsRequest, Polls, Pulses, RefusesCall, RefusesPoll, RefusesPulse, RefusesString, TakesAt, TakesBlock};
+ghost use Rattle.ivy_embedded.specs.Lending.{LendsSoundly};
+ghost use Rattle.ivy_embedded.specs.LentPages.{GivesBack, GoesOnFor, IsTold, Lends, RefusesGiveBack, RefusesLend, RefusesPeer, TellsWanted};
+ghost use Rattle.ivy_embedded.specs.declared.lending.Want.{Want};
 ghost use Rattle.ivy_embedded.specs.Openings.{Names, RefusesOpening};
 ghost use Rattle.ivy_embedded.specs.Peers.{KeepsFor, OwesTo, TellsThose};
 ghost use Rattle.ivy_embedded.specs.Turns.{TellsTurns};
@@ -20,7 +23,8 @@ pub use handle::{Handle, Held};
 use handle::{end, held};
 use ivy_embedded::{
     BAD_ARGUMENT, BAD_CONFIG, CLOSED, DONE, Embedded, MEMORY, NO_CALL, NO_FRAME, OPEN, PENDING,
-    SHORT_BUFFER, TakenString, call_of, config_of, manager_of, status_of, tell, verdict_number,
+    Declined, SHORT_BUFFER, TakenString, WANTED, Want, call_of, config_of, lending_number,
+    lending_of, manager_of, refusal_status, status_of, tell, verdict_number,
 };
 use ivy_model::Row;
 use std::alloc::Global;
@@ -39,8 +43,10 @@ fn take(alloc: Global, handle: &mut Handle) -> Option<Held>
 
 /// Puts a node into a handle, in the place of what it had.
 fn put(alloc: Global, handle: &mut Handle, node: Held)
-    ensures { handle.new.held ≡ Some (manually_drop_value node.value) }
+    ensures held { handle.new.held ≡ Some (manually_drop_value node.value) }
+    ensures lent { LendsSoundly (manually_drop_value node.value) }
 {
+    node.lends_soundly();
     if let Some(before) = replace(handle, Handle::of(node)).into_box(alloc) {
         end(before);
     }
@@ -71,6 +77,7 @@ pub extern "C" fn ivy_open(
     ensures done { result ≡ DONE → (c : Config) × Names nodes pages page_size manager c × (me < c.nodes) × (handle.old.held ≡ None) × (handle.new.held ≡ Some (first_embedded c me)) }
     ensures same { result ≢ DONE → handle.new.held ≡ handle.old.held }
     ensures refused { result ≢ DONE → RefusesOpening nodes pages page_size manager me result handle.old.held }
+    ensures lent { IfSome handle.new.held LendsSoundly }
 {
     if let Some(node) = take(alloc, handle) {
         put(alloc, handle, node);
@@ -120,7 +127,8 @@ pub extern "C" fn ivy_begin(
     expected: u64,
     value: &mut u64,
 ) -> u32
-    ensures { Answers result handle.old.held handle.new.held (Begins (IsRequest kind width place operand expected) result value.old value.new) (RefusesCall (IsRequest kind width place operand expected) result) }
+    ensures answers { Answers result handle.old.held handle.new.held (Begins (IsRequest kind width place operand expected) result value.old value.new) (RefusesCall (IsRequest kind width place operand expected) result) }
+    ensures lent { IfSome handle.new.held LendsSoundly }
 {
     let Some(mut node) = take(alloc, handle) else {
         return CLOSED;
@@ -133,14 +141,15 @@ pub extern "C" fn ivy_begin(
     put(alloc, handle, node);
     match begun {
         Ok(progress) => tell(progress, value),
-        Err(fault) => status_of(fault),
+        Err(refusal) => refusal_status(refusal),
     }
 }
 
 /// The reply of the call in progress.
 #[unsafe(no_mangle)]
 pub extern "C" fn ivy_reply(alloc: Global, handle: &mut Handle, value: &mut u64) -> u32
-    ensures { Answers result handle.old.held handle.new.held (Polls result value.old value.new) (RefusesPoll result) }
+    ensures answers { Answers result handle.old.held handle.new.held (Polls result value.old value.new) (RefusesPoll result) }
+    ensures lent { IfSome handle.new.held LendsSoundly }
 {
     let Some(mut node) = take(alloc, handle) else {
         return CLOSED;
@@ -171,6 +180,7 @@ pub extern "C" fn ivy_load_block(
     ensures loads { Answers result handle.old.held handle.new.held (CarriesOut Loads addr into.new result words.new) (λ _. ⊥) }
     ensures many { LoadsAll addr (length into.old) words.new handle.old.held }
     ensures sized { length into.new ≡ length into.old }
+    ensures lent { IfSome handle.new.held LendsSoundly }
 {
     let Some(mut node) = take(alloc, handle) else {
         return CLOSED;
@@ -181,7 +191,7 @@ pub extern "C" fn ivy_load_block(
 }
 
 /// The words of 8 bytes of a buffer are stored in a row from an address on, and it is told how many, as [`ivy_load_block`]
-/// does: as many as can be written here at once.
+/// does: as many as can be written here at once. LENT where the page is lent to be read.
 #[unsafe(no_mangle)]
 pub extern "C" fn ivy_store_block(
     alloc: Global,
@@ -190,15 +200,22 @@ pub extern "C" fn ivy_store_block(
     from: &[u8],
     words: &mut usize,
 ) -> u32
-    ensures stores { Answers result handle.old.held handle.new.held (CarriesOut Stores addr from.now result words.new) (λ _. ⊥) }
-    ensures many { StoresAll addr (length from.now) words.new handle.old.held }
+    ensures stores { Answers result handle.old.held handle.new.held (CarriesOut Stores addr from.now result words.new) (RefusesStores addr result) }
+    ensures many { StoresAll addr (length from.now) result words.new handle.old.held }
+    ensures lent { IfSome handle.new.held LendsSoundly }
 {
     let Some(mut node) = take(alloc, handle) else {
         return CLOSED;
     };
-    *words = node.store_row(addr, from);
+    let stored = node.store_row(addr, from);
     put(alloc, handle, node);
-    DONE
+    match stored {
+        Ok(many) => {
+            *words = many;
+            DONE
+        }
+        Err(refusal) => refusal_status(refusal),
+    }
 }
 
 /// The calls of words of 8 bytes in a row from an address on are made together, where the first has to wait, and it is
@@ -211,8 +228,9 @@ fn begin_block(
     bytes: &[u8],
     words: &mut usize,
 ) -> u32
-    ensures begins { Answers result handle.old.held handle.new.held (BeginsBlock kind addr bytes.now result words.new) (λ _. TellsWant result) }
+    ensures begins { Answers result handle.old.held handle.new.held (BeginsBlock kind addr bytes.now result words.new) (RefusesBlock addr result) }
     ensures many { BeginsAll kind addr (length bytes.now) result words.new handle.old.held }
+    ensures lent { IfSome handle.new.held LendsSoundly }
 {
     let Some(mut node) = take(alloc, handle) else {
         return CLOSED;
@@ -224,13 +242,13 @@ fn begin_block(
             *words = many;
             if many == 0 { DONE } else { PENDING }
         }
-        Err(fault) => status_of(fault),
+        Err(refusal) => refusal_status(refusal),
     }
 }
 
 /// The loads of words of 8 bytes in a row from an address on, for which a buffer has room, are made together, where the
-/// first has to wait, and it is told how many. Where it is none nothing was done. No byte of the buffer is looked at, or
-/// kept.
+/// first has to wait, and it is told how many. Where it is none nothing was done; so it is with LENT, where the page is
+/// lent. No byte of the buffer is looked at, or kept.
 #[unsafe(no_mangle)]
 pub extern "C" fn ivy_begin_load_block(
     alloc: Global,
@@ -239,8 +257,9 @@ pub extern "C" fn ivy_begin_load_block(
     room: &[u8],
     words: &mut usize,
 ) -> u32
-    ensures begins { Answers result handle.old.held handle.new.held (BeginsBlock Loads addr room.now result words.new) (λ _. TellsWant result) }
+    ensures begins { Answers result handle.old.held handle.new.held (BeginsBlock Loads addr room.now result words.new) (RefusesBlock addr result) }
     ensures many { BeginsAll Loads addr (length room.now) result words.new handle.old.held }
+    ensures lent { IfSome handle.new.held LendsSoundly }
 {
     begin_block(alloc, handle, Row::Loads, addr, room, words)
 }
@@ -255,8 +274,9 @@ pub extern "C" fn ivy_begin_store_block(
     from: &[u8],
     words: &mut usize,
 ) -> u32
-    ensures begins { Answers result handle.old.held handle.new.held (BeginsBlock Stores addr from.now result words.new) (λ _. TellsWant result) }
+    ensures begins { Answers result handle.old.held handle.new.held (BeginsBlock Stores addr from.now result words.new) (RefusesBlock addr result) }
     ensures many { BeginsAll Stores addr (length from.now) result words.new handle.old.held }
+    ensures lent { IfSome handle.new.held LendsSoundly }
 {
     begin_block(alloc, handle, Row::Stores, addr, from, words)
 }
@@ -274,6 +294,7 @@ pub extern "C" fn ivy_take_load_block(
     ensures taken { Answers result handle.old.held handle.new.held (TakesBlock Loads addr into.new result words.new) (λ _. ⊥) }
     ensures many { TakesAll Loads addr into.old words.new handle.old.held }
     ensures sized { length into.new ≡ length into.old }
+    ensures lent { IfSome handle.new.held LendsSoundly }
 {
     let Some(mut node) = take(alloc, handle) else {
         return CLOSED;
@@ -295,6 +316,7 @@ pub extern "C" fn ivy_take_store_block(
 ) -> u32
     ensures taken { Answers result handle.old.held handle.new.held (TakesBlock Stores addr from.now result words.new) (λ _. ⊥) }
     ensures many { TakesAll Stores addr from.now words.new handle.old.held }
+    ensures lent { IfSome handle.new.held LendsSoundly }
 {
     let Some(mut node) = take(alloc, handle) else {
         return CLOSED;
@@ -307,7 +329,8 @@ pub extern "C" fn ivy_take_store_block(
 /// How many turns the node listed since it was opened, in 64 bits. It changes nothing.
 #[unsafe(no_mangle)]
 pub extern "C" fn ivy_turns(alloc: Global, handle: &mut Handle, turns: &mut u64) -> u32
-    ensures { Answers result handle.old.held handle.new.held (TellsTurns result turns.new) (λ _. ⊥) }
+    ensures answers { Answers result handle.old.held handle.new.held (TellsTurns result turns.new) (λ _. ⊥) }
+    ensures lent { IfSome handle.new.held LendsSoundly }
 {
     let Some(node) = take(alloc, handle) else {
         return CLOSED;
@@ -320,7 +343,8 @@ pub extern "C" fn ivy_turns(alloc: Global, handle: &mut Handle, turns: &mut u64)
 /// The nodes for which some message is not acknowledged yet, as the bits of a number. It changes nothing.
 #[unsafe(no_mangle)]
 pub extern "C" fn ivy_kept_set(alloc: Global, handle: &mut Handle, nodes: &mut u32) -> u32
-    ensures { Answers result handle.old.held handle.new.held (TellsThose KeepsFor result nodes.new) (λ _. ⊥) }
+    ensures answers { Answers result handle.old.held handle.new.held (TellsThose KeepsFor result nodes.new) (λ _. ⊥) }
+    ensures lent { IfSome handle.new.held LendsSoundly }
 {
     let Some(node) = take(alloc, handle) else {
         return CLOSED;
@@ -333,7 +357,8 @@ pub extern "C" fn ivy_kept_set(alloc: Global, handle: &mut Handle, nodes: &mut u
 /// The nodes to which an acknowledgement is owed, as the bits of a number. It changes nothing.
 #[unsafe(no_mangle)]
 pub extern "C" fn ivy_owed_set(alloc: Global, handle: &mut Handle, nodes: &mut u32) -> u32
-    ensures { Answers result handle.old.held handle.new.held (TellsThose OwesTo result nodes.new) (λ _. ⊥) }
+    ensures answers { Answers result handle.old.held handle.new.held (TellsThose OwesTo result nodes.new) (λ _. ⊥) }
+    ensures lent { IfSome handle.new.held LendsSoundly }
 {
     let Some(node) = take(alloc, handle) else {
         return CLOSED;
@@ -344,7 +369,7 @@ pub extern "C" fn ivy_owed_set(alloc: Global, handle: &mut Handle, nodes: &mut u
 }
 
 /// A string comes, any bytes at all. What it was: 0 the next message of its source, 1 nothing new,
-/// 2 one before which others are missing, 3 one for another node.
+/// 2 one before which others are missing, 3 one for another node. WANTED where it would take a page that is lent.
 #[unsafe(no_mangle)]
 pub extern "C" fn ivy_deliver(
     alloc: Global,
@@ -352,7 +377,8 @@ pub extern "C" fn ivy_deliver(
     bytes: &[u8],
     what: &mut u32,
 ) -> u32
-    ensures { Answers result handle.old.held handle.new.held (Delivers bytes.now result what.new) (RefusesString bytes.now result) }
+    ensures answers { Answers result handle.old.held handle.new.held (Delivers bytes.now result what.new) (RefusesString bytes.now result) }
+    ensures lent { IfSome handle.new.held LendsSoundly }
 {
     let Some(mut node) = take(alloc, handle) else {
         return CLOSED;
@@ -364,7 +390,7 @@ pub extern "C" fn ivy_deliver(
             *what = verdict_number(verdict);
             DONE
         }
-        Err(fault) => status_of(fault),
+        Err(refusal) => refusal_status(refusal),
     }
 }
 
@@ -379,7 +405,8 @@ pub extern "C" fn ivy_next_frame(
     len: &mut usize,
     dest: &mut u32,
 ) -> u32
-    ensures { TakesAt result buffer.new len.new dest.new handle.old.held handle.new.held }
+    ensures answers { TakesAt result buffer.new len.new dest.new handle.old.held handle.new.held }
+    ensures lent { IfSome handle.new.held LendsSoundly }
 {
     let Some(mut node) = take(alloc, handle) else {
         return CLOSED;
@@ -404,7 +431,8 @@ pub extern "C" fn ivy_next_frame(
 /// where one is owed.
 #[unsafe(no_mangle)]
 pub extern "C" fn ivy_pulse(alloc: Global, handle: &mut Handle, to: u8) -> u32
-    ensures { Answers result handle.old.held handle.new.held (Pulses to result) (RefusesPulse to result) }
+    ensures answers { Answers result handle.old.held handle.new.held (Pulses to result) (RefusesPulse to result) }
+    ensures lent { IfSome handle.new.held LendsSoundly }
 {
     let Some(mut node) = take(alloc, handle) else {
         return CLOSED;
@@ -418,5 +446,113 @@ pub extern "C" fn ivy_pulse(alloc: Global, handle: &mut Handle, to: u8) -> u32
     match pulsed {
         Ok(()) => DONE,
         Err(fault) => status_of(fault),
+    }
+}
+
+/// A page is lent to the program: no string takes it from now on, until it is given back. What for: 1 to be read, 2 to be
+/// written.
+#[unsafe(no_mangle)]
+pub extern "C" fn ivy_lend(alloc: Global, handle: &mut Handle, page: u32, lending: u32) -> u32
+    ensures answers { Answers result handle.old.held handle.new.held (Lends page lending result) (RefusesLend page lending result) }
+    ensures lent { IfSome handle.new.held LendsSoundly }
+{
+    let Some(mut node) = take(alloc, handle) else {
+        return CLOSED;
+    };
+    let Some(to) = lending_of(lending) else {
+        put(alloc, handle, node);
+        return BAD_ARGUMENT;
+    };
+    let lent = node.lend(page, to);
+    put(alloc, handle, node);
+    match lent {
+        Ok(()) => DONE,
+        Err(refusal) => refusal_status(refusal),
+    }
+}
+
+/// A page that is lent is given back: 0 whole, 1 all but the right to read it.
+#[unsafe(no_mangle)]
+pub extern "C" fn ivy_give_back(alloc: Global, handle: &mut Handle, page: u32, on: u32) -> u32
+    ensures answers { Answers result handle.old.held handle.new.held (GivesBack page on result) (RefusesGiveBack page on result) }
+    ensures lent { IfSome handle.new.held LendsSoundly }
+{
+    let Some(mut node) = take(alloc, handle) else {
+        return CLOSED;
+    };
+    let Some(lending) = lending_of(on) else {
+        put(alloc, handle, node);
+        return BAD_ARGUMENT;
+    };
+    let given = node.give_back(page, lending);
+    put(alloc, handle, node);
+    match given {
+        Ok(()) => DONE,
+        Err(refusal) => refusal_status(refusal),
+    }
+}
+
+/// Tells which page is wanted, and what it may be lent for then.
+fn tell_want(want: Want, page: &mut u32, on: &mut u32)
+    ensures { IsTold want page.new on.new }
+{
+    *page = want.page;
+    *on = lending_number(want.on);
+}
+
+/// Which page that is lent a string would take, were it delivered now, and what that may be lent for after it: WANTED. It
+/// changes nothing.
+#[unsafe(no_mangle)]
+pub extern "C" fn ivy_wanted(
+    alloc: Global,
+    handle: &mut Handle,
+    bytes: &[u8],
+    page: &mut u32,
+    on: &mut u32,
+) -> u32
+    ensures answers { Answers result handle.old.held handle.new.held (TellsWanted bytes.now result page.new on.new) (λ _. ⊥) }
+    ensures lent { IfSome handle.new.held LendsSoundly }
+{
+    let Some(node) = take(alloc, handle) else {
+        return CLOSED;
+    };
+    let wanted = node.wanted(bytes);
+    put(alloc, handle, node);
+    let Some(want) = wanted else {
+        return DONE;
+    };
+    tell_want(want, page, on);
+    WANTED
+}
+
+/// The node goes on with the strings of another one that it holds and that are due, up to one that would take a page that is
+/// lent: that page is told then.
+#[unsafe(no_mangle)]
+pub extern "C" fn ivy_go_on(
+    alloc: Global,
+    handle: &mut Handle,
+    peer: u8,
+    page: &mut u32,
+    on: &mut u32,
+) -> u32
+    ensures answers { Answers result handle.old.held handle.new.held (GoesOnFor peer result page.new on.new) (RefusesPeer peer result) }
+    ensures lent { IfSome handle.new.held LendsSoundly }
+{
+    let Some(mut node) = take(alloc, handle) else {
+        return CLOSED;
+    };
+    if !node.is_peer(peer) {
+        put(alloc, handle, node);
+        return BAD_ARGUMENT;
+    }
+    let went = node.go_on(peer);
+    put(alloc, handle, node);
+    match went {
+        Ok(()) => DONE,
+        Err(Declined::Wanted(want)) => {
+            tell_want(want, page, on);
+            WANTED
+        }
+        Err(refusal) => refusal_status(refusal),
     }
 }

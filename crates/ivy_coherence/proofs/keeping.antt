@@ -8,3 +8,4 @@ pub mod SoundEntries
 pub mod Keeping
 pub mod Same
 pub mod Opened
+pub mod Left

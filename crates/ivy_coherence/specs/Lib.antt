@@ -7,3 +7,4 @@ pub mod Outcomes
 pub mod PageFaults
 pub mod Hits
 pub mod Takes
+pub mod Leavings

@@ -1,3 +1,13 @@
 pub mod Recording
 pub mod Counting
 pub mod Gathered
+pub mod Unanswered
+pub mod Turning
+pub mod Delivered
+pub mod Holding
+pub mod Going
+pub mod Delivering
+pub mod RowCalls
+pub mod LentPages
+pub mod Lenders
+pub mod Onward

@@ -1,7 +1,7 @@
 -- What the exports answer, and what they do to the node of a handle. A status below 256 is a reply
 -- of the memory; one from there on is none, and where it is no PENDING either, the node is as it
 -- was.
-use Rattle.std.specs.Prelude.{◌≡◌, ◌≢◌, ◌⊎◌, ℕ, ◌+◌, ◌*◌, ◌<◌, ◌≤◌, List, [], ◌∷◌, ◌++◌, take, length, slice_get, Option, None, Some, IfSome, IsSomeAnd, MatchResult}
+use Rattle.std.specs.Prelude.{◌≡◌, ◌≢◌, ◌⊎◌, ℕ, ◌+◌, ◌*◌, ◌<◌, ◌≤◌, true, false, List, [], ◌∷◌, ◌++◌, take, length, slice_get, Option, None, Some, IfSome, IsSomeAnd, MatchResult}
 use Rattle.ivy_model.specs.declared.Call.{Call}
 use Rattle.ivy_model.specs.declared.Call.TheVariants.{Load, Store, Swap, Cas, FetchAdd, Count, Advance, Await, Alloc, Free}
 use Rattle.ivy_model.specs.declared.Fault.{Fault}
@@ -25,8 +25,10 @@ use Rattle.ivy_site.specs.Calls.{AreAnswered, AreTaken, BeginsRow, IsCallOf}
 use Rattle.ivy_site.specs.Handed.{site_handed}
 use Rattle.ivy_site.specs.SiteView.{SiteView, after_pulse_to}
 use Rattle.ivy_site.specs.Sites.{AfterDelivery, SiteTurns}
+use Rattle.ivy_embedded.specs.declared.lending.Want.{Want}
+use Rattle.ivy_embedded.specs.Lending.{IsWanted, may_call}
 use Rattle.ivy_embedded.specs.Nodes.{Embedded, waiting_in}
-use Rattle.ivy_embedded.specs.declared.status.TheConstants.{DONE, PENDING, CLOSED, MEMORY, BUSY, NO_CALL, BAD_ARGUMENT, NO_FRAME, SHORT_BUFFER}
+use Rattle.ivy_embedded.specs.declared.status.TheConstants.{DONE, PENDING, CLOSED, MEMORY, BUSY, NO_CALL, BAD_ARGUMENT, NO_FRAME, SHORT_BUFFER, LENT, WANTED}
 use Rattle.ivy_embedded.specs.declared.status.TheConstants.{LOAD, STORE, SWAP, COMPARE_AND_SWAP, FETCH_AND_ADD, COUNT, ADVANCE, AWAIT, ALLOCATE, FREE}
 
 -- these numbers ask for this call
@@ -112,31 +114,37 @@ IsStatus status fault = status ≡ 256 + fault_number fault
 abbrev pub TellsWant : ℕ → Type 0
 TellsWant status = (fault : Fault) × RanOut fault × IsStatus status fault
 
--- the node changes so, and the string that was looked at stays
+-- the node changes so; the string that was looked at stays, and so does what is lent
 abbrev pub OfSite : (SiteView → SiteView → Type 0) → Embedded → Embedded → Type 0
-OfSite Does s t = (t.first ≡ s.first) × Does s.site t.site
+OfSite Does s t = (t.first ≡ s.first) × Does s.site t.site × (t.lent ≡ s.lent)
 
 -- each call of the node has its reply
 abbrev pub HasNoCall : SiteView → Type 0
 HasNoCall s = IsFree s.node.core.process
 
--- the call of these numbers is handed in, where each before has its reply, and the status tells what
--- came of it
+-- the call of these numbers is handed in, where each before has its reply and its page is not lent, or
+-- so that it may be made; and the status tells what came of it
 abbrev pub Begins : (Call → Type 0) → ℕ → ℕ → ℕ → Embedded → Embedded → Type 0
 Begins Asked status before value s t = (call : Call) × Asked call × (progress : Option Reply)
     × TellsProgress progress status before value × OfSite (AfterBegin call progress) s t
-    × HasNoCall s.site
+    × HasNoCall s.site × (may_call s call ≡ true)
 
 -- with this fault: the one before is in progress; or there is no memory
 abbrev pub IsBeginFault : Fault → SiteView → Type 0
 IsBeginFault fault s =
     ((fault ≡ Busy) × (HasNoCall s → ⊥)) ⊎ ((fault ≡ Memory) × HasNoCall s)
 
--- why a call is not begun: there is no such call; the one before is in progress; no memory
+-- the call of these numbers may not be made, as its page is lent, and each before has its reply
+abbrev pub IsOfLent : (Call → Type 0) → Embedded → Type 0
+IsOfLent Asked s = (call : Call) × Asked call × (may_call s call ≡ false) × HasNoCall s.site
+
+-- why a call is not begun: there is no such call; the one before is in progress; no memory; its page
+-- is lent
 abbrev pub RefusesCall : (Call → Type 0) → ℕ → Embedded → Type 0
 RefusesCall Asked status s = ((status ≡ BAD_ARGUMENT) × AsksNone Asked)
     ⊎ ((status ≡ BUSY) × (HasNoCall s.site → ⊥))
     ⊎ ((status ≡ MEMORY) × HasNoCall s.site)
+    ⊎ ((status ≡ LENT) × IsOfLent Asked s)
 
 -- the call in progress is asked for its reply
 abbrev pub Polls : ℕ → ℕ → ℕ → Embedded → Embedded → Type 0
@@ -183,14 +191,20 @@ verdict_number verdict.Repeat = 1
 verdict_number verdict.Ahead = 2
 verdict_number verdict.NotMine = 3
 
--- the string was delivered, by this verdict
+-- the string would take a page that is lent
+abbrev pub TakesLent : List ℕ → Embedded → Type 0
+TakesLent bytes s = (want : Want) × IsWanted s bytes want
+
+-- the string was delivered, by this verdict, and took no page that was lent
 abbrev pub Delivers : List ℕ → ℕ → ℕ → Embedded → Embedded → Type 0
 Delivers bytes status what s t = (status ≡ DONE) × (v : Verdict) × (what ≡ verdict_number v)
-    × OfSite (AfterDelivery bytes v) s t
+    × OfSite (AfterDelivery bytes v) s t × (TakesLent bytes s → ⊥)
 
--- why it was not: the string spells no frame, or memory or numbers ran out
+-- why it was not: the string spells no frame; memory or numbers ran out; or it would take a page that
+-- is lent
 abbrev pub RefusesString : List ℕ → ℕ → Embedded → Type 0
-RefusesString bytes status s = MatchResult (checked s.site.config bytes) (λ _. TellsWant status)
+RefusesString bytes status s = MatchResult (checked s.site.config bytes)
+    (λ _. TellsWant status ⊎ ((status ≡ WANTED) × TakesLent bytes s))
     (IsStatus status)
 
 -- the node pulsed to another one

@@ -1,6 +1,11 @@
 pub mod Nodes
+pub mod Lending
+pub mod Calls
 pub mod Blocks
 pub mod Exports
+pub mod Lends
+pub mod LentPages
+pub mod Numbers
 pub mod Openings
 pub mod Peers
 pub mod Taking

@@ -1,5 +1,5 @@
 //! A node with own code, and the string that its owner looked at and has not taken.
-ghost use Rattle.std.specs.Prelude.{◌≡◌, ◌≢◌, ◌↔◌, ◌≤◌, ◌⊎◌, ◌-◌, ◌*◌, ◌∷◌, [], ◌<◌, None, Some, Ok, Err, take, length, slice_get, IfOk, IfErr, IsTrue, IsFalse, MatchOption, MatchResult, IsOkUnless};
+ghost use Rattle.std.specs.Prelude.{◌≡◌, ◌≢◌, ◌↔◌, ◌≤◌, ◌⊎◌, ◌-◌, ◌*◌, ◌∷◌, [], ◌<◌, None, Some, Ok, Err, true, false, take, length, slice_get, OnOk, OnErr, IfOk, IfErr, IsTrue, IsFalse, MatchOption, MatchResult, IsOkUnless};
 ghost use Rattle.ivy_model.specs.stated.Config.{IsConfig};
 ghost use Rattle.ivy_model.specs.stated.Legal.{HasWidth};
 ghost use Rattle.ivy_model.specs.Rows.{calls_of, numbers_in, row};
@@ -19,9 +19,21 @@ ghost use Rattle.ivy_embedded.specs.Nodes.{first_embedded, waiting_in};
 ghost use Rattle.ivy_embedded.specs.Exports.{AfterCall, AfterBegin, ChangesWaiting, IsBeginFault, OfSite};
 ghost use Rattle.ivy_embedded.specs.Turns.{CountsTurns};
 ghost use Rattle.ivy_embedded.specs.Peers.{AreThose, KeepsFor, OwesTo};
+ghost use Rattle.ivy_embedded.specs.Lending.{IsWanted, LendsSoundly, WaitsFor, access_to, is_had, is_more, lending_at, may_call, page_asked, row_lending};
+ghost use Rattle.ivy_embedded.specs.Lends.{GoesOnBy, IsBeginRefusal, IsDeliveryRefusal, IsRowRefusal, MayLend, RefusesLending, StopsAt, WentOn, with_lending};
+ghost use Rattle.ivy_embedded.specs.declared.lending.Want.{Want};
+ghost use Rattle.ivy_embedded.specs.declared.lending.Lending.TheVariants.{Unlent, ToRead};
+ghost use Rattle.ivy_link.specs.Holding.{ready_of};
+ghost use Rattle.ivy_memory.specs.stated.Asking.{asked_of};
+ghost use Rattle.ivy_site.specs.SiteView.{holding_at};
 ghost use Rattle.ivy_pagetable.specs.stated.NodeSets.{nodes_with};
 
+use crate::lending::{
+    Lending, Lendings, Want, is_more, left_for, permits, permits_row, suffices_for,
+};
 use crate::peers::{Kept, Owed, peers_of};
+use ivy_link::MOST_AHEAD;
+use ivy_memory::{Asked, asked_of};
 use ivy_model::{Call, Config, Fault, Reply, Row};
 use ivy_site::{Keep, Site, Turn, Verdict};
 use ivy_wire::{Bytes, destination};
@@ -31,11 +43,17 @@ use std::marker::Model;
 /// A node with own code, with the first string that waits, where it was taken out of the node and
 /// not handed on, and the number of its turns that were listed. A program that keeps a log tells by
 /// that number whether a call had a turn.
+///
+/// Its pages may be lent to its program, which then touches images of them by itself: no string takes
+/// a page that is lent.
 #[derive(Drop)]
 pub struct Embedded {
     site: Site<Global>,
     first: Option<Bytes<Global>>,
     turns: u64,
+    lendings: Lendings,
+    /// The page of which the calls are that have no reply yet; the first one, where they are of none.
+    waits_at: u32,
 }
 
 impl Model for Embedded {
@@ -49,9 +67,11 @@ impl Model for Embedded {
 
     ghost coded = { Prim.hlevel (codes, nodes_code, heap_state_code) };
 
-    ghost view = { λ e. record { site = e.site; first = e.first } };
+    ghost use Rattle.ivy_embedded.specs.Calls.{IsLender};
 
-    ghost invariant = { λ e. CountsTurns e.turns e.site.events };
+    ghost view = { λ e. record { site = e.site; first = e.first; lent = e.lendings } };
+
+    ghost invariant = { λ e. CountsTurns e.turns e.site.events × IsLender e.site e.lendings e.waits_at };
 }
 
 /// What came of a look at the first string that waits.
@@ -62,6 +82,21 @@ pub enum TakenString {
     TooLong(usize),
     /// None waits.
     Nothing,
+}
+
+/// Why a node does not do what it is asked for.
+#[derive(Clone, Copy, Debug, PartialEq, Eq)]
+pub enum Declined {
+    /// By this fault.
+    Fault(Fault),
+    /// The page of the call, or of the block, is lent.
+    Lent,
+    /// The string would take this page, which is lent.
+    Wanted(Want),
+    /// The page is not here, or not here to be written, or a call waits for it.
+    NotHere,
+    /// No page can be lent, or given back, so.
+    NoSuchLending,
 }
 
 /// One turn of a node that has a call [1, 17]: its reply, or none yet. Where it is listed, it is
@@ -108,6 +143,16 @@ fn begin(site: &mut Site<Global>, turns: &mut u64, call: Call) -> Result<Option<
     }
 }
 
+/// The page whose word is asked for; else the first one.
+fn page_asked(asked: Asked) -> u32
+    ensures { result ≡ page_asked asked }
+{
+    match asked {
+        Asked::Word { page, .. } => page,
+        Asked::Refused(_) | Asked::Heap(_) => 0,
+    }
+}
+
 /// Writes a string to the head of a buffer, where it fits, and says whether it does.
 fn write_out(string: &[u8], buffer: &mut [u8]) -> bool
     ensures fits { IsTrue result → take (length string.now) buffer.new ≡ string.now }
@@ -119,6 +164,16 @@ fn write_out(string: &[u8], buffer: &mut [u8]) -> bool
     }
     buffer[..len].copy_from_slice(string);
     true
+}
+
+/// The verdict, or the fault as a refusal.
+fn told(delivered: Result<Verdict, Fault>) -> Result<Verdict, Declined>
+    ensures { MatchResult delivered (λ verdict. result ≡ Ok verdict) (λ fault. result ≡ Err (Declined.Fault fault)) }
+{
+    match delivered {
+        Ok(verdict) => Ok(verdict),
+        Err(fault) => Err(Declined::Fault(fault)),
+    }
 }
 
 impl Embedded {
@@ -134,17 +189,60 @@ impl Embedded {
             site: Site::open_keeping(alloc, config, me, Keep::Nothing)?,
             first: None,
             turns: 0,
+            lendings: Lendings::new(alloc, config.pages)?,
+            waits_at: 0,
         })
     }
 
-    /// Hands in a call, and begins it, as [`begin`] says [1, 18].
-    pub fn begin(&mut self, call: Call) -> Result<Option<Reply>, Fault>
+    /// What the call is to the memory: refused, a word of a page, or a call of the heap.
+    fn asked(&self, call: Call) -> Asked
+        requires { HasWidth call }
+        ensures { result ≡ asked_of self.now.site.config call }
+    {
+        asked_of(&self.site.config(), call)
+    }
+
+    /// Whether a call may be made, as its page is lent.
+    fn may_call(&self, call: Call) -> bool
+        requires { HasWidth call }
+        ensures { result ≡ may_call self.now call }
+    {
+        match self.asked(call) {
+            Asked::Word { page, word } => permits(self.lendings.at(page), word),
+            Asked::Refused(_) | Asked::Heap(_) => true,
+        }
+    }
+
+    /// What the page is lent for at which a row of words of 8 bytes begins, if a word of the heap is at the address.
+    fn row_lending(&self, addr: u64) -> Lending
+        ensures { result ≡ row_lending self.now addr }
+    {
+        match self.asked(Call::Load { width: 8, addr }) {
+            Asked::Word { page, .. } => self.lendings.at(page),
+            Asked::Refused(_) | Asked::Heap(_) => Lending::Unlent,
+        }
+    }
+
+    /// Hands in a call, and begins it, as [`begin`] says [1, 18], where it may be made on a page so lent.
+    pub fn begin(&mut self, call: Call) -> Result<Option<Reply>, Declined>
         requires width { HasWidth call }
         ensures done { MatchResult result (λ progress. OfSite (AfterBegin call progress) self.old self.new) (λ _. self.new ≡ self.old) }
         ensures free { IfOk result (λ _. IsFree self.old.site.node.core.process) }
-        ensures refused { IfErr result (λ fault. IsBeginFault fault self.old.site) }
+        ensures may { IfOk result (λ _. may_call self.old call ≡ true) }
+        ensures refused { IfErr result (λ why. IsBeginRefusal why call self.old) }
     {
-        begin(&mut self.site, &mut self.turns, call)
+        if !self.lendings.is_none() && self.site.is_free() && !self.may_call(call) {
+            return Err(Declined::Lent);
+        }
+        self.site.sound();
+        match begin(&mut self.site, &mut self.turns, call) {
+            Ok(Some(reply)) => Ok(Some(reply)),
+            Ok(None) => {
+                self.waits_at = page_asked(self.asked(call));
+                Ok(None)
+            }
+            Err(fault) => Err(Declined::Fault(fault)),
+        }
     }
 
     /// Whether each call has its reply.
@@ -155,17 +253,19 @@ impl Embedded {
     }
 
     /// Asks the call in progress for its reply [1, 17].
+    #[tactic(auto, using(crate::proofs::Lenders::polled_lender, crate::proofs::Lenders::known))]
     pub fn poll(&mut self) -> Result<Option<Reply>, Fault>
         ensures done { MatchResult result (λ progress. OfSite (AfterCall progress) self.old self.new) (λ _. self.new ≡ self.old) }
         ensures want { IfErr result RanOut }
     {
+        self.site.sound();
         turn(&mut self.site, &mut self.turns)
     }
 
     /// Loads words of 8 bytes in a row from an address on into the head of the buffer, each in a turn of its own, and says
     /// how many: as many as the buffer has room for, as lie in the page of the address, and as can be read here at once.
     /// Where it loads none nothing was done, and [`Embedded::begin`] loads the first word or says what is wrong with it.
-    #[tactic(auto, using(crate::proofs::Counting::counted_row))]
+    #[tactic(auto, using(crate::proofs::Counting::counted_row, crate::proofs::Lenders::answered_lender, crate::proofs::Lenders::known))]
     pub fn load_row(&mut self, addr: u64, into: &mut [u8]) -> usize
         ensures many { MayCallInRow self.old.site addr (length into.old) → result ≡ row_at_hand self.old.site.node.core.memory Loads addr (length into.old) }
         ensures loads { OfSite (AreAnswered (row Loads self.old.site.me addr (numbers_in result into.new))) self.old self.new }
@@ -173,28 +273,43 @@ impl Embedded {
         ensures sized { length into.new ≡ length into.old }
         ensures waiting { waiting_in self.new ≡ waiting_in self.old }
     {
+        if !self.site.is_free() {
+            return 0;
+        }
+        self.site.sound();
         let words = self.site.load_row(addr, into);
         self.turns = self.turns.wrapping_add(words as u64);
         words
     }
 
     /// Stores the words of 8 bytes of the buffer in a row from an address on, each in a turn of its own, and says how many,
-    /// as [`Embedded::load_row`] does: as many as can be written here at once.
-    #[tactic(auto, using(crate::proofs::Counting::counted_row))]
-    pub fn store_row(&mut self, addr: u64, from: &[u8]) -> usize
-        ensures many { MayCallInRow self.old.site addr (length from.now) → IsStored self.old.site.node.core.memory addr (length from.now) result }
-        ensures stores { OfSite (AreAnswered (row Stores self.old.site.me addr (numbers_in result from.now))) self.old self.new }
-        ensures fits { 8 * result ≤ length from.now }
+    /// as [`Embedded::load_row`] does: as many as can be written here at once. Where the page of the address is lent to be
+    /// read, nothing was done.
+    #[tactic(auto, using(crate::proofs::Counting::counted_row, crate::proofs::Lenders::answered_lender, crate::proofs::Lenders::known))]
+    pub fn store_row(&mut self, addr: u64, from: &[u8]) -> Result<usize, Declined>
+        ensures many { MayCallInRow self.old.site addr (length from.now) → IfOk result (IsStored self.old.site.node.core.memory addr (length from.now)) }
+        ensures stores { MatchResult result (λ n. OfSite (AreAnswered (row Stores self.old.site.me addr (numbers_in n from.now))) self.old self.new) (λ _. self.new ≡ self.old) }
+        ensures fits { IfOk result (λ n. 8 * n ≤ length from.now) }
         ensures waiting { waiting_in self.new ≡ waiting_in self.old }
+        ensures refused { IfErr result (λ why. (why ≡ Declined.Lent) × IsFree self.old.site.node.core.process × (row_lending self.old addr ≡ ToRead)) }
+        ensures lent { IsFree self.old.site.node.core.process → row_lending self.old addr ≡ ToRead → result ≡ Err Declined.Lent }
     {
+        if !self.site.is_free() {
+            return Ok(0);
+        }
+        if !self.lendings.is_none() && !permits_row(self.row_lending(addr), Row::Stores) {
+            return Err(Declined::Lent);
+        }
+        self.site.sound();
         let words = self.site.store_row(addr, from);
         self.turns = self.turns.wrapping_add(words as u64);
-        words
+        Ok(words)
     }
 
     /// Makes the calls of words of 8 bytes in a row together, from an address on, with one turn, in which the first begins
     /// and waits [1, 17]: as many as `words`, as there are bytes for, and as lie in the page of the address. It says how many.
-    /// Where that is none nothing was done, as where the first need not wait. A refused row was not made.
+    /// Where that is none nothing was done, as where the first need not wait. A refused row was not made; so it is where the
+    /// page of the address is lent.
     /// [`Embedded::take_loads`] and [`Embedded::take_stores`] take the replies at once, [`Embedded::poll`] one after another.
     #[tactic(auto, using(crate::proofs::Counting::counted_together, crate::proofs::Counting::counted_none))]
     pub fn call_row(
@@ -203,26 +318,38 @@ impl Embedded {
         addr: u64,
         words: usize,
         bytes: &[u8],
-    ) -> Result<usize, Fault>
+    ) -> Result<usize, Declined>
         ensures done { MatchResult result (λ n. OfSite (BeginsRow (calls_of (row kind 0 addr (numbers_in n bytes.now)))) self.old self.new) (λ _. self.new ≡ self.old) }
         ensures many { MayCallTogether self.old.site.node.core.process self.old.site.node.core.history addr (length bytes.now) → IfOk result (λ n. n ≡ row_together self.old.site kind addr words (length bytes.now)) }
-        ensures none { row_together self.old.site kind addr words (length bytes.now) ≡ 0 → result ≡ Ok 0 }
-        ensures busy { (MayCallTogether self.old.site.node.core.process self.old.site.node.core.history addr (length bytes.now) → ⊥) → result ≡ Ok 0 }
+        ensures none { row_together self.old.site kind addr words (length bytes.now) ≡ 0 → row_lending self.old addr ≡ Unlent → result ≡ Ok 0 }
+        ensures busy { (MayCallTogether self.old.site.node.core.process self.old.site.node.core.history addr (length bytes.now) → ⊥) → IfOk result (λ n. n ≡ 0) }
         ensures fits { IfOk result (λ n. (n ≤ words) × (8 * n ≤ length bytes.now)) }
-        ensures spent { IfErr result (IsSpentTurn (site_handed (calls_of (row kind 0 addr (numbers_in (row_together self.old.site kind addr words (length bytes.now)) bytes.now)) ∷ []) self.old.site)) }
-        ensures want { IfErr result RanOut }
+        ensures refused { IfErr result (λ why. IsRowRefusal why kind addr words bytes.now self.old) }
+        ensures lent { IsFree self.old.site.node.core.process → row_lending self.old addr ≢ Unlent → result ≡ Err Declined.Lent }
     {
-        let begun = self.site.call_row(kind, addr, words, bytes)?;
-        if begun > 0 {
-            self.turns = self.turns.wrapping_add(1);
+        if !self.site.is_free() {
+            return Ok(0);
         }
-        Ok(begun)
+        if !self.lendings.is_none() && self.row_lending(addr) != Lending::Unlent {
+            return Err(Declined::Lent);
+        }
+        self.site.sound();
+        match self.site.call_row(kind, addr, words, bytes) {
+            Ok(begun) => {
+                if begun > 0 {
+                    self.turns = self.turns.wrapping_add(1);
+                    self.waits_at = page_asked(self.asked(Call::Load { width: 8, addr }));
+                }
+                Ok(begun)
+            }
+            Err(fault) => Err(Declined::Fault(fault)),
+        }
     }
 
     /// Takes the replies to loads in a row from an address on, which are in progress, made together or one alone, each in a
     /// turn of its own, and writes their words to the head of the buffer: all of them, where they are there and the buffer
     /// has room, and it says how many. Else it takes none, and nothing was done.
-    #[tactic(auto, using(crate::proofs::Counting::counted_taken))]
+    #[tactic(auto, using(crate::proofs::Counting::counted_taken, crate::proofs::Lenders::taken_lender, crate::proofs::Lenders::known))]
     pub fn take_loads(&mut self, addr: u64, into: &mut [u8]) -> usize
         ensures many { MayTakeRow Loads addr into.old self.old.site → result ≡ left_in self.old.site.node.core.memory }
         ensures taken { OfSite (AreTaken (row Loads self.old.site.me addr (numbers_in result into.new))) self.old self.new }
@@ -231,13 +358,14 @@ impl Embedded {
         ensures rests { result ≢ 0 → self.new.site.node.core.memory.asked ≡ None }
         ensures waiting { waiting_in self.new ≡ waiting_in self.old }
     {
+        self.site.sound();
         let words = self.site.take_loads(addr, into);
         self.turns = self.turns.wrapping_add(words as u64);
         words
     }
 
     /// Takes the replies to stores of the words of the buffer in a row from an address on, as [`Embedded::take_loads`] does.
-    #[tactic(auto, using(crate::proofs::Counting::counted_taken))]
+    #[tactic(auto, using(crate::proofs::Counting::counted_taken, crate::proofs::Lenders::taken_lender, crate::proofs::Lenders::known))]
     pub fn take_stores(&mut self, addr: u64, from: &[u8]) -> usize
         ensures many { MayTakeRow Stores addr from.now self.old.site → result ≡ left_in self.old.site.node.core.memory }
         ensures taken { OfSite (AreTaken (row Stores self.old.site.me addr (numbers_in result from.now))) self.old self.new }
@@ -245,6 +373,7 @@ impl Embedded {
         ensures rests { result ≢ 0 → self.new.site.node.core.memory.asked ≡ None }
         ensures waiting { waiting_in self.new ≡ waiting_in self.old }
     {
+        self.site.sound();
         let words = self.site.take_stores(addr, from);
         self.turns = self.turns.wrapping_add(words as u64);
         words
@@ -259,13 +388,152 @@ impl Embedded {
         self.turns
     }
 
-    /// A string comes, any bytes at all [1, 11 to 17].
-    #[tactic(auto, using(crate::proofs::Counting::counted_delivery))]
-    pub fn deliver(&mut self, bytes: &[u8]) -> Result<Verdict, Fault>
+    /// Which page that is lent a string would take, were it delivered now, and what that may be lent for after it.
+    pub fn wanted(&self, bytes: &[u8]) -> Option<Want>
+        ensures { MatchOption result ((want : Want) → IsWanted self.now bytes.now want → ⊥) (IsWanted self.now bytes.now) }
+    {
+        if self.lendings.is_none() {
+            return None;
+        }
+        let left = self.site.leaves(bytes)?;
+        let on = left_for(left.access);
+        if !is_more(self.lendings.at(left.page), on) {
+            return None;
+        }
+        Some(Want {
+            page: left.page,
+            on,
+        })
+    }
+
+    /// Goes on with the string that is held of the next number from a node, unless it would take a page that is lent [1, 17].
+    /// It says whether there was one.
+    fn go_on_once(&mut self, from: u8) -> Result<bool, Declined>
+        requires from { from < self.old.site.config.nodes }
+        ensures done { MatchResult result (λ went. IsTrue went → GoesOnBy from self.old self.new) (λ _. self.new ≡ self.old) }
+        ensures none { result ≡ Ok false → (self.new ≡ self.old) × (ready_of (holding_at self.old.site) from ≡ None) }
+        ensures refused { IfErr result (λ why. StopsAt why from self.old) }
+    {
+        let Some(string) = self.site.ready(from) else {
+            return Ok(false);
+        };
+        if let Some(want) = self.wanted(string.bytes()) {
+            return Err(Declined::Wanted(want));
+        }
+        self.site.sound();
+        match self.site.go_on_with(from) {
+            Ok(string) => Ok(string.is_some()),
+            Err(fault) => Err(Declined::Fault(fault)),
+        }
+    }
+
+    /// Goes on with the strings of another node that are held and due, each by the whole rule of a delivery, up to one that
+    /// would take a page that is lent, or is refused [1, 17]. Those before it were served.
+    pub fn go_on(&mut self, from: u8) -> Result<(), Declined>
+        requires from { from < self.old.site.config.nodes }
+        ensures done { WentOn from result self.old self.new }
+    {
+        for _ in 0..MOST_AHEAD {
+            if !self.go_on_once(from)? {
+                return Ok(());
+            }
+        }
+        Ok(())
+    }
+
+    /// A string comes, as [`Embedded::deliver`] says, while pages are lent.
+    fn deliver_past(&mut self, bytes: &[u8]) -> Result<Verdict, Fault>
+        requires { (want : Want) → IsWanted self.old bytes.now want → ⊥ }
         ensures done { MatchResult result (λ verdict. OfSite (AfterDelivery bytes.now verdict) self.old self.new) (λ _. self.new ≡ self.old) }
         ensures refused { MatchResult (checked self.old.site.config bytes.now) (λ _. IfErr result RanOut) (λ fault. result ≡ Err fault) }
     {
-        self.site.deliver(bytes)
+        self.site.sound();
+        let (verdict, from) = self.site.deliver_once(bytes)?;
+        if verdict == Verdict::Next {
+            let _ = self.go_on(from);
+        }
+        Ok(verdict)
+    }
+
+    /// A string comes, any bytes at all [1, 11 to 17]. One that would take a page that is lent is refused, and changes
+    /// nothing. After the next one of its source the node goes on, as [`Embedded::go_on`] does.
+    #[tactic(auto, using(crate::proofs::Counting::counted_delivery))]
+    pub fn deliver(&mut self, bytes: &[u8]) -> Result<Verdict, Declined>
+        ensures done { MatchResult result (λ verdict. OfSite (AfterDelivery bytes.now verdict) self.old self.new) (λ _. self.new ≡ self.old) }
+        ensures wanted { (want : Want) → IsWanted self.old bytes.now want → result ≡ Err (Declined.Wanted want) }
+        ensures refused { IfErr result (λ why. IsDeliveryRefusal why bytes.now self.old) }
+        ensures fault { IfErr (checked self.old.site.config bytes.now) (λ fault. result ≡ Err (Declined.Fault fault)) }
+    {
+        if self.lendings.is_none() {
+            self.site.sound();
+            return told(self.site.deliver(bytes));
+        }
+        match self.wanted(bytes) {
+            Some(want) => Err(Declined::Wanted(want)),
+            None => told(self.deliver_past(bytes)),
+        }
+    }
+
+    /// Whether a page is here to be lent so: the access to it is enough, no word waits there, and no call without a reply is
+    /// of it.
+    fn is_here(&self, page: u32, to: Lending) -> bool
+        requires there { page < self.now.site.config.pages }
+        requires first { 0 < page }
+        requires lent { to ≢ Unlent }
+        ensures yes { IsTrue result → (is_had (access_to self.now page) to ≡ true) × (WaitsFor self.now page → ⊥) }
+        ensures no { IsFalse result → (is_had (access_to self.now page) to ≡ false) ⊎ WaitsFor self.now page }
+    {
+        if !self.site.is_free() && self.waits_at == page {
+            return false;
+        }
+        match self.site.access(page) {
+            Some(access) => suffices_for(access, to),
+            None => false,
+        }
+    }
+
+    /// Lends a page to the program of the node: no string takes it from now on [1]. A page that is lent to be written is made.
+    pub fn lend(&mut self, page: u32, to: Lending) -> Result<(), Declined>
+        ensures done { OnOk result (MayLend self.old page to × (self.new ≡ with_lending self.old page to)) }
+        ensures same { OnErr result (self.new ≡ self.old) }
+        ensures refused { IfErr result (λ why. RefusesLending why page to self.old) }
+    {
+        let config = self.site.config();
+        if page == 0 || page >= config.pages || !is_more(to, self.lendings.at(page)) {
+            return Err(Declined::NoSuchLending);
+        }
+        if !self.is_here(page, to) {
+            return Err(Declined::NotHere);
+        }
+        if to == Lending::ToWrite {
+            if let Err(fault) = self.site.make_page(page) {
+                return Err(Declined::Fault(fault));
+            }
+        }
+        self.lendings.set(page, to);
+        Ok(())
+    }
+
+    /// Gives a page back, but for what it is lent on for.
+    pub fn give_back(&mut self, page: u32, on: Lending) -> Result<(), Declined>
+        ensures done { OnOk result ((is_more (lending_at self.old page) on ≡ true) × (self.new ≡ with_lending self.old page on)) }
+        ensures same { OnErr result (self.new ≡ self.old) }
+        ensures refused { IfErr result (λ why. (why ≡ Declined.NoSuchLending) × (is_more (lending_at self.old page) on ≡ false)) }
+    {
+        if !is_more(self.lendings.at(page), on) {
+            return Err(Declined::NoSuchLending);
+        }
+        self.lendings.set(page, on);
+        Ok(())
+    }
+
+    /// What holds of the pages that are lent.
+    #[tactic(auto, using(crate::proofs::Lenders::soundly))]
+    #[inline(always)]
+    pub fn lends_soundly(&self)
+        ensures { LendsSoundly self.now }
+    {
+        let _ = &self.turns;
     }
 
     /// Whether there is such another node.

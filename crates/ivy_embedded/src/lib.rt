@@ -4,13 +4,16 @@
 #![tactic(auto)]
 
 mod embedded;
+mod lending;
 mod peers;
 mod status;
 
-pub use embedded::{Embedded, TakenString};
+pub use embedded::{Embedded, Declined, TakenString};
+pub use lending::{Lending, Want};
 pub use status::{
     ADVANCE, ALLOCATE, AWAIT, BAD_ARGUMENT, BAD_CONFIG, BUSY, CLOSED, COMPARE_AND_SWAP, COUNT,
-    DONE, DYNAMIC, FETCH_AND_ADD, FIXED, FREE, LOAD, MEMORY, NO_CALL, NO_FRAME, NO_REPLY, OPEN,
-    PENDING, SHORT_BUFFER, STORE, SWAP, call_of, config_of, manager_of, status_of, tell,
+    DONE, DYNAMIC, FETCH_AND_ADD, FIXED, FREE, LENT, LOAD, MEMORY, NO_CALL, NO_FRAME, NO_PAGE,
+    NO_REPLY, OPEN, PENDING, SHORT_BUFFER, STORE, SWAP, TO_READ, TO_WRITE, UNLENT, WANTED, call_of,
+    config_of, lending_number, lending_of, manager_of, refusal_status, status_of, tell,
     verdict_number,
 };

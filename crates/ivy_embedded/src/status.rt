@@ -2,8 +2,12 @@
 ghost use Rattle.std.specs.Prelude.{◌≡◌, ◌≢◌, ◌+◌, MatchOption, MatchResult};
 ghost use Rattle.ivy_model.specs.stated.Legal.{HasWidth, IsWidth};
 ghost use Rattle.ivy_embedded.specs.Exports.{AsksNone, IsNoAccess, IsRequest, IsStatus, Tells, TellsProgress, verdict_number};
+ghost use Rattle.ivy_embedded.specs.Numbers.{IsRefusalStatus, lending_number};
+ghost use Rattle.ivy_embedded.specs.declared.lending.Lending.{Lending};
 ghost use Rattle.ivy_embedded.specs.Openings.{IsManager, IsNoManager, Names, NamesNone};
 
+use crate::embedded::Declined;
+use crate::lending::Lending;
 use ivy_model::{Call, Config, Fault, Kind, Reply};
 use ivy_site::Verdict;
 
@@ -42,6 +46,24 @@ pub const CLOSED: u32 = 305;
 
 /// The handle has a node already.
 pub const OPEN: u32 = 306;
+
+/// The string would take a page that is lent.
+pub const WANTED: u32 = 307;
+
+/// The page of the call or of the block is lent.
+pub const LENT: u32 = 308;
+
+/// The page is not here, or not here to be written, or a call waits for it.
+pub const NO_PAGE: u32 = 309;
+
+/// A page is not lent.
+pub const UNLENT: u32 = 0;
+
+/// It is lent to be read.
+pub const TO_READ: u32 = 1;
+
+/// It is lent to be written.
+pub const TO_WRITE: u32 = 2;
 
 /// Managers that keep the owner of each page at a fixed node.
 pub const FIXED: u32 = 0;
@@ -159,6 +181,42 @@ pub fn status_of(fault: Fault) -> u32
     ensures { IsStatus result fault }
 {
     NO_REPLY + u32::from(fault.number())
+}
+
+/// The status of a refusal.
+pub fn refusal_status(refusal: Declined) -> u32
+    ensures { IsRefusalStatus result refusal }
+{
+    match refusal {
+        Declined::Fault(fault) => status_of(fault),
+        Declined::Lent => LENT,
+        Declined::Wanted(_) => WANTED,
+        Declined::NotHere => NO_PAGE,
+        Declined::NoSuchLending => BAD_ARGUMENT,
+    }
+}
+
+/// What a page is lent for by this number, where it is one.
+pub fn lending_of(number: u32) -> Option<Lending>
+    ensures { MatchOption result ((l : Lending) → number ≢ lending_number l) (λ l. number ≡ lending_number l) }
+{
+    match number {
+        UNLENT => Some(Lending::Unlent),
+        TO_READ => Some(Lending::ToRead),
+        TO_WRITE => Some(Lending::ToWrite),
+        _ => None,
+    }
+}
+
+/// The number of what a page is lent for.
+pub fn lending_number(lending: Lending) -> u32
+    ensures { result ≡ lending_number lending }
+{
+    match lending {
+        Lending::Unlent => UNLENT,
+        Lending::ToRead => TO_READ,
+        Lending::ToWrite => TO_WRITE,
+    }
 }
 
 /// Tells a reply: its status is the answer.

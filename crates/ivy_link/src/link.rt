@@ -1,5 +1,5 @@
 //! The link of one node to all others.
-ghost use Rattle.std.specs.Prelude.{◌≡◌, ◌≢◌, ◌↔◌, ℕ, ◌<◌, List, [], ◌∷◌, ◌+◌, ◌++◌, length, map, take, slice_get, true, false, Some, IsTrue, IfOk, IfErr, IsOk, OnOk, OnErr, IsErrOf, IsOkUnless};
+ghost use Rattle.std.specs.Prelude.{◌≡◌, ◌≢◌, ◌↔◌, ℕ, ◌<◌, List, [], ◌∷◌, ◌+◌, ◌++◌, length, map, take, slice_get, true, false, None, Some, MatchOption, IsTrue, IfOk, IfErr, IsOk, OnOk, OnErr, IsErrOf, IsOkUnless};
 ghost use Rattle.ivy_model.specs.Wants.{RanOut};
 ghost use Rattle.ivy_model.specs.declared.Fault.TheVariants.{Memory, NumbersSpent};
 ghost use Rattle.ivy_wire.specs.Lent.{owned_parcel, owned_frame};
@@ -126,6 +126,14 @@ impl<A: Allocator + Copy> Link<A> {
             return Some(string);
         }
         self.sides[usize::from(frame.source)].hold(frame.number, string)
+    }
+
+    /// The string that is held of the number after the last one delivered from the node. It takes no memory.
+    pub fn ready(&self, from: u8) -> Option<&Bytes<A>>
+        requires from { from < length self.now.peers }
+        ensures { MatchOption result (ready_of self.now from ≡ None) (λ s. ready_of self.now from ≡ Some s.now) }
+    {
+        self.sides[usize::from(from)].ready()
     }
 
     /// Takes out the string that is held of the number after the last one delivered from the node. It takes

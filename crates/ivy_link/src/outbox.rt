@@ -1,5 +1,5 @@
 //! A node's link, and the strings that wait to be put on the wire.
-ghost use Rattle.std.specs.Prelude.{◌≡◌, ◌≢◌, ◌↔◌, ◌+◌, ◌++◌, ◌<◌, ◌≤◌, ◌^◌, [], replicate, map, take, true, All, IfOk, OnOk, OnErr, IsOkUnless, IsTrue, length};
+ghost use Rattle.std.specs.Prelude.{◌≡◌, ◌≢◌, ◌↔◌, ◌+◌, ◌++◌, ◌<◌, ◌≤◌, ◌^◌, [], replicate, map, take, true, None, Some, MatchOption, All, IfOk, OnOk, OnErr, IsOkUnless, IsTrue, length};
 ghost use Rattle.ivy_model.specs.stated.Config.{IsConfig};
 ghost use Rattle.ivy_wire.specs.Lent.{owned_frame, owned_parcel};
 ghost use Rattle.ivy_wire.specs.stated.Spelling.{spelling, Fits, FitsParcel};
@@ -201,6 +201,14 @@ impl<A: Allocator + Copy> Outbox<A> {
         ensures { self.new ≡ with_holding self.old (after_hold (holding_of self.old) frame.now string) }
     {
         let _ = self.link.hold(frame, string);
+    }
+
+    /// The string that is held of the next number from a node. It takes no memory.
+    pub fn ready(&self, from: u8) -> Option<&Bytes<A>>
+        requires from { from < self.now.config.nodes }
+        ensures { MatchOption result (ready_of (holding_of self.now) from ≡ None) (λ s. ready_of (holding_of self.now) from ≡ Some s.now) }
+    {
+        self.link.ready(from)
     }
 
     /// Takes out the string that is held of the next number from a node. It takes no memory.

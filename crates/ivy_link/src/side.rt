@@ -1,5 +1,5 @@
 //! What a link knows of one other node.
-ghost use Rattle.std.specs.Prelude.{◌≡◌, ◌↔◌, ◌+◌, ◌<◌, ◌≤◌, length, drop, Some, None, IsTrue, IfOk, OnOk, if◌then◌else◌};
+ghost use Rattle.std.specs.Prelude.{◌≡◌, ◌↔◌, ◌+◌, ◌<◌, ◌≤◌, length, drop, Some, None, MatchOption, IsTrue, IfOk, OnOk, if◌then◌else◌};
 ghost use Rattle.ivy_link.specs.stated.LinkLimits.{greatest_number};
 ghost use Rattle.ivy_link.specs.stated.Linked.{with_message};
 ghost use Rattle.ivy_link.specs.Windows.{first_window, place_at, place_of, can_hold, with_string, without_first, moved_by};
@@ -165,6 +165,13 @@ impl<A: Allocator> Side<A> {
         }
         let place = number - self.delivered - 1;
         self.held.hold(place as usize, string)
+    }
+
+    /// The string that is held of the number after those delivered.
+    pub(crate) fn ready(&self) -> Option<&Bytes<A>>
+        ensures { MatchOption result (place_at self.now.held 0 ≡ None) (λ s. place_at self.now.held 0 ≡ Some s.now) }
+    {
+        self.held.first()
     }
 
     /// Takes out the string that is held of the number after those delivered.

@@ -1,5 +1,5 @@
 //! The strings of one node that came before their turn.
-ghost use Rattle.std.specs.Prelude.{◌≡◌, ◌<◌, Some, None, IfOk, IsTrue, if◌then◌else◌};
+ghost use Rattle.std.specs.Prelude.{◌≡◌, ◌<◌, Some, None, IfOk, IsTrue, MatchOption, if◌then◌else◌};
 ghost use Rattle.ivy_link.specs.stated.LinkLimits.{most_ahead};
 ghost use Rattle.ivy_link.specs.Windows.{first_window, place_at, is_free, with_string, without_first, shifted};
 
@@ -59,6 +59,13 @@ impl<A: Allocator> Window<A> {
         }
         self.places[place] = Some(string);
         None
+    }
+
+    /// The string in the first place.
+    pub(crate) fn first(&self) -> Option<&Bytes<A>>
+        ensures { MatchOption result (place_at self.now 0 ≡ None) (λ s. place_at self.now 0 ≡ Some s.now) }
+    {
+        self.places[0].as_ref()
     }
 
     /// Takes out the string in the first place.

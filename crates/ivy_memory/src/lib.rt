@@ -1,7 +1,7 @@
 //! The memory of one node as its program sees it: one call in progress, or a batch of calls.
 //!
-//! `memory` has the calls one by one, `row` those of a row that begin together, `taken` their replies, and `rest` what
-//! is left of a row.
+//! `memory` has the calls one by one, `row` those of a row that begin together, `taken` their replies, `rest` what is left
+//! of a row, and `pages` what is asked about one page.
 //!
 //! In a comment, numbers in brackets as [1, 17] are the fault numbers that a call may answer.
 #![tactic(auto)]
@@ -9,11 +9,13 @@
 mod asked;
 mod law;
 mod memory;
+mod pages;
 mod rest;
 mod row;
 mod taken;
 
 pub use asked::{Asked, asked_of};
 pub use ivy_alloc::{CallProgress, HeapCall, HeapRequest, HeapSide};
+pub use ivy_coherence::Leaving;
 pub use law::words_are_flat;
 pub use memory::Memory;

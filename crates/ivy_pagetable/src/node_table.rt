@@ -223,6 +223,18 @@ impl<A: Allocator> NodeTable<A> {
         }
     }
 
+    /// Makes the page, where there are more than 256 pages and it is not made yet: then no store to it takes memory. Err only
+    /// where the allocator has no memory for it. Either way no byte changes.
+    pub fn make(&mut self, page: u32) -> Result<(), AllocError>
+        requires { page < length self.old.entries }
+        ensures { self.new ≡ self.old }
+    {
+        match &mut self.table {
+            Either::Narrow(_) => Ok(()),
+            Either::Wide(table) => table.make(page),
+        }
+    }
+
     /// Copies bytes over those at a place in the page, and says whether it did: where there are more than 256 pages, it does
     /// not on a page that is not made yet.
     fn put(&mut self, page: u32, start: usize, from: &[u8]) -> bool

@@ -253,6 +253,16 @@ impl<A: Allocator> WideTable<A> {
         let _ = own.carry_out(word);
     }
 
+    /// Gives the page bytes of its own, where it has none. Err only where the allocator has no memory for them.
+    pub fn make(&mut self, page: u32) -> Result<(), AllocError>
+        requires { page < length self.old.entries }
+        ensures { self.new ≡ self.old }
+    {
+        let own = &mut self.pages[page as usize];
+        own.make(self.page_size as usize)?;
+        Ok(())
+    }
+
     /// Copies bytes over those at a place in the page, where it has bytes of its own, and says whether it has.
     pub(crate) fn put(&mut self, page: u32, start: usize, from: &[u8]) -> bool
         requires page { page < length self.old.entries }

@@ -3,3 +3,4 @@ pub mod Sites
 pub mod Inside
 pub mod Handed
 pub mod Calls
+pub mod Leavings

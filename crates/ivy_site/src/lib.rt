@@ -4,11 +4,13 @@
 #![tactic(auto)]
 
 mod host;
+mod pages;
 mod rows;
 mod site;
 mod turn;
 
 pub use ivy_link::Verdict;
+pub use ivy_memory::Leaving;
 pub use ivy_moves::Keep;
 pub use ivy_program::{Program, parse};
 pub use rows::words_together;

@@ -662,6 +662,21 @@ impl<A: Allocator + Copy> Site<A> {
         self.receive(string)
     }
 
+    /// A string comes, as [`Site::deliver`] says, but the site does not go on after it, as after [`Site::deliver_alone`].
+    pub fn deliver_once(&mut self, bytes: &[u8]) -> Result<(Verdict, u8), Fault>
+        ensures same { IsSameNode self.old self.new }
+        ensures done { MatchResult result (λ r. Receives bytes.now r.0 r.1 self.old self.new) (λ _. self.new ≡ self.old) }
+        ensures from { IfOk result (λ r. r.1 < self.old.config.nodes) }
+        ensures refused { MatchResult (checked self.old.config bytes.now) (λ _. IfErr result RanOut) (λ fault. result ≡ Err fault) }
+        ensures few { length self.new.waiting ≤ length self.old.waiting + most_posted }
+        ensures spent { IfErr result (IsSpentDelivery self.old bytes.now) }
+    {
+        let config = self.outbox.config();
+        read_frame(&config, bytes)?;
+        let string = Bytes::new(self.alloc, bytes)?;
+        self.receive(&string)
+    }
+
     /// A string comes that spells a frame, as [`Site::deliver_shared`] says [1, 17]. It is not tested again.
     pub fn deliver_spelled(&mut self, string: &Bytes<A>) -> Result<Verdict, Fault>
         requires spelled { SpellsFrame self.old.config string.now }
