@@ -13,3 +13,7 @@ pub mod WordBarriers
 pub mod TreeBarriers
 pub mod Met
 pub mod Climbed
+pub mod Flagged
+pub mod TreeReductions
+pub mod TreeFolds
+pub mod TreeFolded

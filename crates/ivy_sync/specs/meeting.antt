@@ -9,3 +9,5 @@ pub mod Folds
 pub mod Separated
 pub mod WordBarriers
 pub mod TreeBarriers
+pub mod TreeReductions
+pub mod TreeFolds

@@ -14,6 +14,7 @@ ghost use Rattle.ivy_sync.specs.queueing.SharedQueues.{SharedQueuesKeepOrder};
 ghost use Rattle.ivy_sync.specs.meeting.Sums.{SumsAreWhole};
 ghost use Rattle.ivy_sync.specs.meeting.WordBarriers.{WordBarrierSeparates, WordPhasesShare};
 ghost use Rattle.ivy_sync.specs.meeting.TreeBarriers.{TreeBarrierSeparates, TreePhasesShare};
+ghost use Rattle.ivy_sync.specs.meeting.TreeReductions.{TreeFoldsAreWhole, TreeReductionsAgree};
 ghost use Rattle.ivy_sync.specs.Touching.{TouchesKeep};
 ghost use Rattle.ivy_sync.specs.excluding.TicketLocks.{TicketLocksExclude};
 ghost use Rattle.ivy_sync.specs.excluding.Tickets.{TicketsExclude};
@@ -126,6 +127,17 @@ pub fn tree_barrier_separates()
 /// it.
 pub fn tree_phases_share()
     ensures { TreePhasesShare }
+{}
+
+/// In a reduction by a tree each node finds what each of its children came to, and all get what node 0 came to.
+pub fn tree_reductions_agree()
+    ensures { TreeReductionsAgree }
+{}
+
+/// So where the numbers are put together by an operation for which neither order nor grouping matters, all get what it
+/// makes of all numbers.
+pub fn tree_folds_are_whole()
+    ensures { TreeFoldsAreWhole }
 {}
 
 /// Who touches pages changes nothing: each word holds what it held.

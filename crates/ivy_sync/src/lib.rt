@@ -16,6 +16,7 @@ mod shared_sender;
 mod ticket_lock;
 mod touching;
 mod tree_barrier;
+mod tree_reduction;
 mod word_barrier;
 
 pub use array_lock::ArrayLock;
@@ -27,7 +28,8 @@ pub use law::{
     left_locks_are_free, messages_pass, mutual_exclusion, phases_share, queues_keep_order,
     reductions_agree, sections_are_serial, set_up_is_there, shared_queues_keep_order,
     sums_are_whole, ticket_locks_exclude, tickets_exclude, touches_keep, tree_barrier_separates,
-    tree_phases_share, word_barrier_separates, word_phases_share, words_are_registers,
+    tree_folds_are_whole, tree_phases_share, tree_reductions_agree, word_barrier_separates,
+    word_phases_share, words_are_registers,
 };
 pub use lock::Lock;
 pub use once::Once;
@@ -37,4 +39,5 @@ pub use shared_sender::SharedSender;
 pub use ticket_lock::TicketLock;
 pub use touching::touch;
 pub use tree_barrier::TreeBarrier;
+pub use tree_reduction::TreeReduction;
 pub use word_barrier::WordBarrier;

@@ -1,4 +1,4 @@
-ghost use Rattle.std.specs.Prelude.{◌≡◌, ◌+◌, ◌*◌, ◌<◌, ◌^◌, ◌≤◌, IfErr, IfOk, OnErr};
+ghost use Rattle.std.specs.Prelude.{◌≡◌, ℕ, ◌+◌, ◌*◌, ◌<◌, ◌^◌, ◌≤◌, IfErr, IfOk, OnErr};
 ghost use Rattle.ivy_sync.specs.Failing.{AtSome};
 
 use crate::error::SyncError;
@@ -6,7 +6,7 @@ use crate::look::look_until;
 use ivy_calls::{SharedMemory, store};
 
 /// How many children a node of the tree has at most.
-const WIDTH: u64 = 4;
+pub(crate) const WIDTH: u64 = 4;
 
 /// A barrier of all nodes by a tree, over and over: each node has a value of its own.
 ///
@@ -28,7 +28,7 @@ pub struct TreeBarrier {
 }
 
 impl TreeBarrier {
-    ghost use Rattle.ivy_sync.specs.meeting.TreeBarriers.{AddsAbove, AddsClimb, AddsGathered, FailsAbove, FailsToClimb, FailsToGatherUp, HasTree, climbed, opened_at, phase_of, raised_at};
+    ghost use Rattle.ivy_sync.specs.meeting.TreeBarriers.{AddsAbove, AddsClimb, AddsGathered, FailsAbove, FailsToClimb, FailsToGatherUp, HasTree, children, climbed, opened_at, phase_of, raised_at};
 
     /// Waits, as node `me`, for the others. After an `Err` the barrier is as it was.
     pub fn wait<M: SharedMemory>(&mut self, memory: &mut M, me: u8) -> Result<(), SyncError>
@@ -53,7 +53,12 @@ impl TreeBarrier {
     }
 
     /// Waits for the children of node `me`.
-    fn gather<M: SharedMemory>(&self, memory: &mut M, me: u8, phase: u64) -> Result<(), SyncError>
+    pub(crate) fn gather<M: SharedMemory>(
+        &self,
+        memory: &mut M,
+        me: u8,
+        phase: u64,
+    ) -> Result<(), SyncError>
         requires tree { HasTree self.now }
         requires phase { phase ≡ phase_of self.now }
         ensures gathers { IfOk result (λ _.
@@ -63,15 +68,22 @@ impl TreeBarrier {
             (M.answers memory.old) (M.answers memory.new)) }
     {
         let first = WIDTH * u64::from(me) + 1;
-        let more = WIDTH.min(u64::from(self.nodes).saturating_sub(first));
-        for up in 0..more {
+        for up in 0..self.children(me) {
             look_until(memory, self.raised + self.apart * (first + up), phase)?;
         }
         Ok(())
     }
 
+    /// How many children node `me` has.
+    pub(crate) fn children(&self, me: u8) -> u64
+        ensures number { result ≡ children self.now.nodes me }
+        ensures there { (up : ℕ) → up < result → 4 * me + 1 + up < 256 }
+    {
+        WIDTH.min(u64::from(self.nodes).saturating_sub(WIDTH * u64::from(me) + 1))
+    }
+
     /// Waits for the parent of node `me`: node 0 has none.
-    fn await_parent<M: SharedMemory>(
+    pub(crate) fn await_parent<M: SharedMemory>(
         &self,
         memory: &mut M,
         me: u8,

@@ -28,13 +28,13 @@ use Rattle.ivy_sync.proofs.meeting.FirstOut.{last_of, out_leads, separated}
 use Rattle.ivy_sync.proofs.meeting.SeparatedPhases.{shared_on}
 
 -- looks at words write nothing
-until_quiet : (d a least : ℕ) (looks : List Answer) → LooksUntil a least looks → NoWrite d looks
+pub until_quiet : (d a least : ℕ) (looks : List Answer) → LooksUntil a least looks → NoWrite d looks
 until_quiet d a least looks w =
     subst (NoWrite d) (sym w.whole)
     (All-both (λ (r : Answer). is_write_in d r.call ≡ false) w.vain (loads a w.found ∷ [])
     (looks_quiet d a least w.vain w.each) (refl, tt))
 
-gathered_quiet : (d : ℕ) (raised : ℕ → ℕ) (phase first more : ℕ) (looks : List Answer)
+pub gathered_quiet : (d : ℕ) (raised : ℕ → ℕ) (phase first more : ℕ) (looks : List Answer)
     → Gathered raised phase first more looks → NoWrite d looks
 gathered_quiet d raised phase first zero looks w = subst (NoWrite d) (sym w) tt
 gathered_quiet d raised phase first (suc more) looks w =
@@ -43,20 +43,20 @@ gathered_quiet d raised phase first (suc more) looks w =
     (gathered_quiet d raised phase first more w.0 w.2)
     (until_quiet d (raised (first + more)) phase w.1 w.3))
 
-awaits_quiet : (d : ℕ) (opened : ℕ → ℕ) (phase i : ℕ) (looks : List Answer)
+pub awaits_quiet : (d : ℕ) (opened : ℕ → ℕ) (phase i : ℕ) (looks : List Answer)
     → Awaits opened phase i looks → NoWrite d looks
 awaits_quiet d opened phase zero looks w = subst (NoWrite d) (sym w) tt
 awaits_quiet d opened phase (suc i) looks w = until_quiet d (opened (i / 4)) phase looks w
 
 -- among these answers is a look at the word at a that found at least so much
-record HasSeen (a least : ℕ) (looks : List Answer) : Type 0 where
-  front : List Answer
-  found : ℕ
-  back : List Answer
-  enough : least ≤ found
-  whole : looks ≡ front ++ loads a found ∷ back
+pub record HasSeen (a least : ℕ) (looks : List Answer) : Type 0 where
+  pub front : List Answer
+  pub found : ℕ
+  pub back : List Answer
+  pub enough : least ≤ found
+  pub whole : looks ≡ front ++ loads a found ∷ back
 
-until_seen : (a least : ℕ) (looks : List Answer) → LooksUntil a least looks → HasSeen a least looks
+pub until_seen : (a least : ℕ) (looks : List Answer) → LooksUntil a least looks → HasSeen a least looks
 until_seen a least looks w =
     record { front = w.vain; found = w.found; back = []; enough = w.enough; whole = w.whole }
 
@@ -81,7 +81,7 @@ seen_behind a least xs ys w = record {
 }
 
 -- each child's word was seen raised
-gathered_seen : (raised : ℕ → ℕ) (phase first more : ℕ) (looks : List Answer)
+pub gathered_seen : (raised : ℕ → ℕ) (phase first more : ℕ) (looks : List Answer)
     → Gathered raised phase first more looks → (k : ℕ) → k < more
     → HasSeen (raised (first + k)) phase looks
 gathered_seen raised phase first zero looks w k l = absurd (omega (arith, l))

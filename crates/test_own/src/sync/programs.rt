@@ -1,8 +1,10 @@
 //! Whole programs. The other nodes run before the one that is tried, or their calls are made by hand.
 use crate::sync::common::{AsNode, expect_same, small};
-use example_programs::{AddsUp, Farm, Pipeline, Product, Stage};
-use ivy_calls::{SharedMemory, Work, advance_count, store};
-use ivy_sync::{Barrier, Lock, Queue};
+use example_programs::{
+    AddsUp, Farm, Highest, InOrder, Pipeline, Product, Stage, TreeRing, WordRing,
+};
+use ivy_calls::{SharedMemory, Work, advance_count, fetch_add, store};
+use ivy_sync::{ArrayLock, Barrier, Lock, Queue, Reduction, TreeBarrier, WordBarrier};
 use std::process::Abort;
 use std::test::Fail;
 
@@ -124,4 +126,76 @@ fn two_rows_of_a_product(rt: HostRuntime) -> Result<(), Fail> {
     let memory = expect_listed(&rt, &work, 1, memory, &[43, 50]);
     let _memory = expect_listed(&rt, &work, 0, memory, &[19, 22]);
     Ok(())
+}
+
+#[test]
+fn the_next_one_in_a_ring(rt: HostRuntime) {
+    let mut memory = small(&rt, rt.alloc());
+    let work = WordRing {
+        addr: 64,
+        barrier: WordBarrier {
+            arrived: 128,
+            opened: 192,
+            nodes: 2,
+            passed: 0,
+        },
+    };
+    // node 0 has stored its number and 1, and is the first to come
+    expect_same(&rt, store(&mut memory, 64, 1u64), Ok(()));
+    expect_same(&rt, fetch_add(&mut memory, 128, 1u64), Ok(0u64));
+    let _memory = expect_given(&rt, &work, 1, memory, 1);
+}
+
+#[test]
+fn the_next_one_by_a_tree(rt: HostRuntime) {
+    let mut memory = small(&rt, rt.alloc());
+    let work = TreeRing {
+        addr: 64,
+        barrier: TreeBarrier {
+            raised: 128,
+            opened: 192,
+            apart: 8,
+            nodes: 2,
+            passed: 0,
+        },
+    };
+    // node 1 has stored its number and 1, and raised its word
+    expect_same(&rt, store(&mut memory, 72, 2u64), Ok(()));
+    expect_same(&rt, store(&mut memory, 136, 1u64), Ok(()));
+    let _memory = expect_given(&rt, &work, 0, memory, 2);
+}
+
+#[test]
+fn two_are_counted(rt: HostRuntime) {
+    let memory = small(&rt, rt.alloc());
+    let work = InOrder {
+        lock: ArrayLock {
+            next: 64,
+            places: 128,
+            apart: 64,
+            size: 2,
+        },
+        count: 72,
+    };
+    let memory = expect_given(&rt, &work, 1, memory, 0);
+    let _memory = expect_given(&rt, &work, 0, memory, 1);
+}
+
+#[test]
+fn the_highest_of_two(rt: HostRuntime) {
+    let mut memory = small(&rt, rt.alloc());
+    let mut bids = [0; 32];
+    bids[0] = 7;
+    bids[1] = 5;
+    let work = Highest {
+        bids,
+        reduction: Reduction {
+            addr: 64,
+            barrier: TWO,
+        },
+    };
+    // node 1 has bid, and is there
+    expect_same(&rt, store(&mut memory, 72, 5u64), Ok(()));
+    expect_same(&rt, advance_count(&mut memory, 0), Ok(()));
+    let _memory = expect_given(&rt, &work, 0, memory, 7);
 }

@@ -1,11 +1,11 @@
 //! Locks, barriers, queues, reductions, broadcasts, and what is done once. The other nodes' calls are made by
 //! hand, before those of the node that is tried.
 use crate::sync::common::{expect_same, small};
-use ivy_calls::{CallError, SharedMemory, advance_count, alloc, free, load, store};
+use ivy_calls::{CallError, SharedMemory, advance_count, alloc, fetch_add, free, load, store};
 use ivy_model::{Call, Fault};
 use ivy_sync::{
-    Barrier, Broadcast, Lock, Once, Queue, Receiver, Reduction, Sender, SharedSender, SyncError,
-    TicketLock,
+    ArrayLock, Barrier, Broadcast, Lock, Once, Queue, Receiver, Reduction, Sender, SharedSender,
+    SyncError, TicketLock, TreeBarrier, WordBarrier, touch,
 };
 use std::process::Abort;
 
@@ -77,6 +77,117 @@ fn a_barrier_over_and_over(rt: HostRuntime) {
         barrier.wait(&mut memory),
         Err(SyncError::Spent { place: 1 }),
     );
+}
+
+#[test]
+fn a_lock_with_places(rt: HostRuntime) {
+    let mut memory = small(&rt, rt.alloc());
+    let lock = ArrayLock {
+        next: 64,
+        places: 128,
+        apart: 64,
+        size: 2,
+    };
+    if !lock.has_places() {
+        panic!(&rt; "it has places");
+    }
+    expect_same(&rt, lock.acquire(&mut memory), Ok(0));
+    expect_same(&rt, lock.release(&mut memory, 0), Ok(()));
+    expect_same(&rt, load(&mut memory, 192), Ok(1u64));
+    expect_same(&rt, lock.acquire(&mut memory), Ok(1));
+    expect_same(&rt, lock.release(&mut memory, 1), Ok(()));
+    expect_same(&rt, load(&mut memory, 128), Ok(2u64));
+    expect_same(&rt, load(&mut memory, 64), Ok(2u64));
+    expect_same(
+        &rt,
+        lock.release(&mut memory, u64::MAX),
+        Err(SyncError::Spent { place: 64 }),
+    );
+    let nowhere = ArrayLock { size: 0, ..lock };
+    expect_same(&rt, nowhere.has_places(), false);
+}
+
+#[test]
+fn a_barrier_by_two_words(rt: HostRuntime) {
+    let mut memory = small(&rt, rt.alloc());
+    let mut barrier = WordBarrier {
+        arrived: 64,
+        opened: 128,
+        nodes: 2,
+        passed: 0,
+    };
+    // who comes last opens it
+    expect_same(&rt, fetch_add(&mut memory, 64, 1u64), Ok(0u64));
+    expect_same(&rt, barrier.wait(&mut memory), Ok(()));
+    expect_same(&rt, barrier.passed, 2);
+    expect_same(&rt, load(&mut memory, 64), Ok(2u64));
+    expect_same(&rt, load(&mut memory, 128), Ok(2u64));
+    // and who comes first finds it open
+    expect_same(&rt, store(&mut memory, 128, 4u64), Ok(()));
+    expect_same(&rt, barrier.wait(&mut memory), Ok(()));
+    expect_same(&rt, barrier.passed, 4);
+    expect_same(&rt, load(&mut memory, 64), Ok(3u64));
+    barrier.passed = u64::MAX;
+    expect_same(
+        &rt,
+        barrier.wait(&mut memory),
+        Err(SyncError::Spent { place: 64 }),
+    );
+}
+
+/// A tree of seven, whose words follow one another.
+const TREE: TreeBarrier = TreeBarrier {
+    raised: 64,
+    opened: 128,
+    apart: 8,
+    nodes: 7,
+    passed: 0,
+};
+
+#[test]
+fn a_barrier_by_a_tree(rt: HostRuntime) {
+    let mut memory = small(&rt, rt.alloc());
+    // node 1 has children 5 and 6, and node 0 the nodes 1 to 4
+    for addr in [80, 88, 96, 104, 112] {
+        expect_same(&rt, store(&mut memory, addr, 1u64), Ok(()));
+    }
+    expect_same(&rt, store(&mut memory, 128, 1u64), Ok(()));
+    let mut child = TREE;
+    expect_same(&rt, child.wait(&mut memory, 1), Ok(()));
+    expect_same(&rt, load(&mut memory, 72), Ok(1u64));
+    expect_same(&rt, load(&mut memory, 136), Ok(1u64));
+    let mut root = TREE;
+    expect_same(&rt, root.wait(&mut memory, 0), Ok(()));
+    expect_same(&rt, load(&mut memory, 64), Ok(1u64));
+    expect_same(&rt, (root.passed, child.passed), (1, 1));
+    let mut spent = TreeBarrier {
+        passed: u64::MAX,
+        ..TREE
+    };
+    expect_same(
+        &rt,
+        spent.wait(&mut memory, 0),
+        Err(SyncError::Spent { place: 64 }),
+    );
+}
+
+#[test]
+fn pages_that_are_touched(rt: HostRuntime) {
+    let mut memory = small(&rt, rt.alloc());
+    expect_same(&rt, store(&mut memory, 136, 5u64), Ok(()));
+    expect_same(&rt, touch(&mut memory, 72, 3, 64), Ok(()));
+    for (addr, wanted) in [(72, 0u64), (136, 5), (200, 0)] {
+        expect_same(&rt, load(&mut memory, addr), Ok(wanted));
+    }
+    let past = CallError::Refused {
+        call: Call::FetchAdd {
+            width: 8,
+            addr: 264,
+            value: 0,
+        },
+        fault: Fault::OutOfRange,
+    };
+    expect_same(&rt, touch(&mut memory, 200, 2, 64), Err(past));
 }
 
 #[test]
