@@ -1,32 +1,24 @@
 //! The heap: least addresses, blocks that end and join, drawn calls beside a plain list of blocks, and
 //! each growth refused in turn.
-use crate::common::{expect_same, expect_same_at};
+use crate::common::{PAIR, expect_same, expect_same_at};
 use ivy_alloc::Heap;
-use ivy_model::{Config, Fault, Kind};
+use ivy_model::{Config, Fault};
 use rand_core::utils::NextWord;
 use rand_pcg::Lcg64Xsh32;
 use std::alloc::{Allocator, Global};
 use std::process::Abort;
 use test_support::Failing;
 
-/// A heap of one page, from 64 to 127.
-const SMALL: Config = Config {
-    nodes: 2,
-    pages: 2,
-    page_size: 64,
-    manager: Kind::Fixed,
-};
-
 /// A heap of 448 bytes, from 64 to 511.
-const WIDE: Config = Config { pages: 8, ..SMALL };
+const WIDE: Config = Config { pages: 8, ..PAIR };
 
 const LEAST: u64 = 64;
 
 const END: u64 = 512;
 
-/// The smallest heap.
+/// The smallest heap, of one page: from 64 to 127.
 fn small_heap<A: Allocator + Copy>(rt: &impl Abort, alloc: A) -> Heap<A> {
-    Heap::new(alloc, &SMALL).expect(rt, "memory")
+    Heap::new(alloc, &PAIR).expect(rt, "memory")
 }
 
 /// A block of the heap. Of all that is promised of it, callers need nothing.
@@ -202,7 +194,7 @@ fn is_met(rt: &impl Abort, memory: &Failing<Global>, n: u64, fault: Option<Fault
 
 fn new_at(rt: &impl Abort, memory: &Failing<Global>, n: u64) -> bool {
     memory.refuse(n);
-    let fault = Heap::new(memory, &SMALL).err();
+    let fault = Heap::new(memory, &PAIR).err();
     is_met(rt, memory, n, fault)
 }
 

@@ -1,25 +1,20 @@
 //! Faults and requests at one of three nodes, under managing nodes.
 ghost use Rattle.ivy_pagetable.specs.stated.Words.{IsWord};
 
+use crate::common::{Growing, PAIR, Scene, Stepped, expect_scene, refuse_each};
 use crate::letters::{Bytes, Letter, Said, message, received};
 use crate::posted::Posted;
 use ivy_coherence::{Coherence, Need};
 use ivy_fixed::FixedManager;
-use ivy_model::{Config, Fault, Kind};
+use ivy_model::{Config, Fault};
 use ivy_pagetable::{Out, Word};
-use std::alloc::{Allocator, Global};
+use std::alloc::Allocator;
 use std::marker::Model;
 use std::process::Abort;
-use std::test::Fail;
 use test_support::Failing;
 
 /// Three nodes, and two pages of 64 bytes. Node 1 keeps the owner of page 1.
-const TRIO: Config = Config {
-    nodes: 3,
-    pages: 2,
-    page_size: 64,
-    manager: Kind::Fixed,
-};
+const TRIO: Config = Config { nodes: 3, ..PAIR };
 
 /// The first word of a page is read, and 5 is written to it.
 const LOAD: Word = Word::Load {
@@ -84,110 +79,101 @@ enum Step {
 }
 
 impl<A: Allocator + Copy> Node<A> {
-    fn new(alloc: A, me: u8) -> Result<Node<A>, Fail> {
-        TRIO.check()?;
-        if me >= TRIO.nodes {
-            return Err("no such node".into());
-        }
-        let manager = FixedManager::new(alloc, &TRIO, me)?;
-        Ok(Node {
-            coherence: Coherence::new(alloc, &TRIO, me, manager)?,
-            posted: Posted::new(alloc, TRIO, me),
-        })
-    }
-
     /// Whether an access comes to this.
     fn needs(
         &mut self,
+        rt: &impl Abort,
         page: u32,
         word: Word,
         call: u64,
         outcome: Result<Need, Fault>,
-    ) -> Result<bool, Fail>
+    ) -> bool
         requires { IsWord 64 word }
     {
-        if page >= TRIO.pages || call == 0 || self.coherence.answer().is_some() {
-            return Err("no such access".into());
-        }
+        assert!(rt; page < TRIO.pages && call != 0 && self.coherence.answer().is_none());
         match self.coherence.need(page, word, call, &mut self.posted) {
-            Ok(need) => Ok(outcome == Ok(need)),
-            Err(fault) => Ok(outcome == Err(fault)),
+            Ok(need) => outcome == Ok(need),
+            Err(fault) => outcome == Err(fault),
         }
     }
 
     /// Whether a message of another node is taken.
-    fn takes(&mut self, from: u8, letter: Letter) -> Result<bool, Fail> {
-        let message = received(&TRIO, from, self.posted.node(), message(1, letter))?;
+    fn takes(&mut self, rt: &impl Abort, from: u8, letter: Letter) -> bool {
+        let message = received(rt, &TRIO, from, self.posted.node(), message(1, letter));
         match self.coherence.handle(from, message, &mut self.posted) {
-            Ok(()) => Ok(true),
-            Err(_) => Ok(false),
+            Ok(()) => true,
+            Err(_) => false,
         }
     }
 
     /// Whether requests of node 2 for a copy are taken, for its calls from 1 to this one.
-    fn takes_requests(&mut self, calls: u64) -> Result<bool, Fail> {
+    fn takes_requests(&mut self, rt: &impl Abort, calls: u64) -> bool {
         for call in 1..=calls {
-            if !self.takes(2, (Said::Request, 2, call))? {
-                return Ok(false);
+            if !self.takes(rt, 2, (Said::Request, 2, call)) {
+                return false;
             }
         }
-        Ok(true)
+        true
+    }
+}
+
+impl<A: Allocator + Copy> Stepped<A> for Node<A> {
+    type Step = Step;
+
+    fn new(rt: &impl Abort, alloc: A, me: u8) -> Node<A> {
+        TRIO.check().expect(rt, "a configuration");
+        assert!(rt; me < TRIO.nodes);
+        let manager = FixedManager::new(alloc, &TRIO, me).expect(rt, "memory");
+        Node {
+            coherence: Coherence::new(alloc, &TRIO, me, manager).expect(rt, "memory"),
+            posted: Posted::new(alloc, TRIO, me),
+        }
     }
 
-    /// Whether the step goes as it says.
-    fn goes(&mut self, step: &Step) -> Result<bool, Fail> {
+    fn goes(&mut self, rt: &impl Abort, step: &Step) -> bool {
         match step {
-            Step::Loads(page, call, need) => self.needs(*page, LOAD, *call, Ok(*need)),
-            Step::Stores(call, need) => self.needs(1, STORE, *call, Ok(*need)),
-            Step::LoadsInVain(page, call) => self.needs(*page, LOAD, *call, Err(Fault::Memory)),
-            Step::StoresInVain(call) => self.needs(1, STORE, *call, Err(Fault::Memory)),
-            Step::Comes(from, letter) => Ok(self.takes(*from, *letter)?),
-            Step::Refuses(from, letter) => Ok(!self.takes(*from, *letter)?),
-            Step::Asks(calls) => self.takes_requests(*calls),
+            Step::Loads(page, call, need) => self.needs(rt, *page, LOAD, *call, Ok(*need)),
+            Step::Stores(call, need) => self.needs(rt, 1, STORE, *call, Ok(*need)),
+            Step::LoadsInVain(page, call) => {
+                self.needs(rt, *page, LOAD, *call, Err(Fault::Memory))
+            }
+            Step::StoresInVain(call) => self.needs(rt, 1, STORE, *call, Err(Fault::Memory)),
+            Step::Comes(from, letter) => self.takes(rt, *from, *letter),
+            Step::Refuses(from, letter) => !self.takes(rt, *from, *letter),
+            Step::Asks(calls) => self.takes_requests(rt, *calls),
             Step::IsFull(is_full) => {
                 self.posted.refuse(*is_full);
-                Ok(true)
+                true
             }
-            Step::Shows(answer) => Ok(self.coherence.answer() == *answer),
-            Step::Returns(answer) => Ok(self.coherence.returned() == *answer),
-            Step::Posted(number) => Ok(self.posted.parcels().len() == *number),
-            Step::Breaches(number) => Ok(self.coherence.breaches() == *number),
+            Step::Shows(answer) => self.coherence.answer() == *answer,
+            Step::Returns(answer) => self.coherence.returned() == *answer,
+            Step::Posted(number) => self.posted.parcels().len() == *number,
+            Step::Breaches(number) => self.coherence.breaches() == *number,
         }
     }
-}
 
-/// The steps of a node, and all that it posts: each message with the node that it goes to.
-struct Scene<'a> {
-    me: u8,
-    steps: &'a [Step],
-    posted: &'a [(u8, Letter)],
-}
-
-fn check_node<A: Allocator + Copy>(
-    rt: &impl Abort,
-    node: &mut Node<A>,
-    scene: &Scene,
-) -> Result<(), Fail> {
-    for (index, step) in scene.steps.iter().enumerate() {
-        assert!(rt; node.goes(step)?, "step {index}");
+    fn has_posted(&self, wanted: &[(u8, Letter)]) -> bool {
+        self.posted.are(1, wanted) && self.coherence.config() == TRIO
     }
-    assert!(rt; node.posted.are(1, scene.posted));
-    assert!(rt; node.coherence.config() == TRIO);
-    Ok(())
 }
 
-fn check<R: Abort + AllocGlobal>(rt: &R, scene: &Scene) -> Result<(), Fail> {
-    let mut node = Node::new(rt.alloc(), scene.me)?;
-    check_node(rt, &mut node, scene)
+fn check(rt: &(impl Abort + AllocGlobal), scene: &Scene<Step>) {
+    let mut node = Node::new(rt, rt.alloc(), scene.me);
+    expect_scene(rt, &mut node, scene);
+}
+
+fn refuse(rt: &(impl Abort + AllocGlobal), growing: &Growing<Step>) {
+    let memory = Failing::new(rt.alloc());
+    refuse_each::<Node<_>>(rt, &memory, growing);
 }
 
 /// A node without a copy asks the managing node, and its entry is locked then.
 #[test]
-fn a_read_fault(rt: HostRuntime) -> Result<(), Fail> {
-    check(&rt, &READ_FAULT)
+fn a_read_fault(rt: HostRuntime) {
+    check(&rt, &READ_FAULT);
 }
 
-static READ_FAULT: Scene<'static> = Scene {
+static READ_FAULT: Scene<'static, Step> = Scene {
     me: 2,
     steps: &[
         Step::Loads(1, 1, Need::Started),
@@ -199,11 +185,11 @@ static READ_FAULT: Scene<'static> = Scene {
 
 /// The owner answers with the page's bytes, and reads on without asking.
 #[test]
-fn an_owner_answers(rt: HostRuntime) -> Result<(), Fail> {
-    check(&rt, &OWNER_ANSWERS)
+fn an_owner_answers(rt: HostRuntime) {
+    check(&rt, &OWNER_ANSWERS);
 }
 
-static OWNER_ANSWERS: Scene<'static> = Scene {
+static OWNER_ANSWERS: Scene<'static, Step> = Scene {
     me: 0,
     steps: &[
         Step::Comes(1, (Said::Request, 2, 7)),
@@ -216,11 +202,11 @@ static OWNER_ANSWERS: Scene<'static> = Scene {
 
 /// The managing node sends a request on to the owner, and it stays a request of the node that asked.
 #[test]
-fn a_request_goes_on(rt: HostRuntime) -> Result<(), Fail> {
-    check(&rt, &GOES_ON)
+fn a_request_goes_on(rt: HostRuntime) {
+    check(&rt, &GOES_ON);
 }
 
-static GOES_ON: Scene<'static> = Scene {
+static GOES_ON: Scene<'static, Step> = Scene {
     me: 1,
     steps: &[Step::Comes(2, (Said::Request, 2, 7))],
     posted: &[(0, (Said::Request, 2, 7))],
@@ -229,11 +215,11 @@ static GOES_ON: Scene<'static> = Scene {
 /// Requests at a locked entry are put off, 32 at most. Once the copy came they go on in their order,
 /// and the word that waited has read the copy.
 #[test]
-fn requests_at_a_locked_entry(rt: HostRuntime) -> Result<(), Fail> {
-    check(&rt, &LOCKED)
+fn requests_at_a_locked_entry(rt: HostRuntime) {
+    check(&rt, &LOCKED);
 }
 
-static LOCKED: Scene<'static> = Scene {
+static LOCKED: Scene<'static, Step> = Scene {
     me: 1,
     steps: &[
         Step::Loads(1, 3, Need::Started),
@@ -289,11 +275,11 @@ static LOCKED: Scene<'static> = Scene {
 /// A copy that no word waits for, a copy for another call, and a request that names this node as the one
 /// that asks: each is one breach, and changes nothing else.
 #[test]
-fn forged_messages(rt: HostRuntime) -> Result<(), Fail> {
-    check(&rt, &FORGED)
+fn forged_messages(rt: HostRuntime) {
+    check(&rt, &FORGED);
 }
 
-static FORGED: Scene<'static> = Scene {
+static FORGED: Scene<'static, Step> = Scene {
     me: 2,
     steps: &[
         Step::Comes(0, (Said::Copy(Bytes::Ones), 2, 1)),
@@ -311,11 +297,11 @@ static FORGED: Scene<'static> = Scene {
 /// A node without the page asks for it. The page comes with a node that has a copy; once that gave it up the
 /// word is carried out, and the request that was put off is served with the bytes as they are then.
 #[test]
-fn a_write_fault(rt: HostRuntime) -> Result<(), Fail> {
-    check(&rt, &WRITE_FAULT)
+fn a_write_fault(rt: HostRuntime) {
+    check(&rt, &WRITE_FAULT);
 }
 
-static WRITE_FAULT: Scene<'static> = Scene {
+static WRITE_FAULT: Scene<'static, Step> = Scene {
     me: 2,
     steps: &[
         Step::Stores(4, Need::Started),
@@ -340,11 +326,11 @@ static WRITE_FAULT: Scene<'static> = Scene {
 
 /// The owner gives the page up with the nodes that have a copy, and has nothing of it then.
 #[test]
-fn an_owner_gives_the_page(rt: HostRuntime) -> Result<(), Fail> {
-    check(&rt, &OWNER_GIVES)
+fn an_owner_gives_the_page(rt: HostRuntime) {
+    check(&rt, &OWNER_GIVES);
 }
 
-static OWNER_GIVES: Scene<'static> = Scene {
+static OWNER_GIVES: Scene<'static, Step> = Scene {
     me: 0,
     steps: &[
         Step::Comes(1, (Said::Request, 1, 7)),
@@ -361,11 +347,19 @@ static OWNER_GIVES: Scene<'static> = Scene {
 
 /// An owner that shares its page tells the others to give their copies up before it stores.
 #[test]
-fn an_owner_stores(rt: HostRuntime) -> Result<(), Fail> {
-    check(&rt, &OWNER_STORES)
+fn an_owner_stores(rt: HostRuntime) {
+    check(&rt, &OWNER_STORES);
 }
 
-static OWNER_STORES: Scene<'static> = Scene {
+/// Copies for two readers, and then the orders to give them up.
+const ORDERS_POSTED: [(u8, Letter); 4] = [
+    (1, (Said::Copy(Bytes::Zeros), 1, 7)),
+    (2, (Said::Copy(Bytes::Zeros), 2, 7)),
+    (1, (Said::Order, 0, 1)),
+    (2, (Said::Order, 0, 1)),
+];
+
+static OWNER_STORES: Scene<'static, Step> = Scene {
     me: 0,
     steps: &[
         Step::Comes(1, (Said::Request, 1, 7)),
@@ -378,21 +372,16 @@ static OWNER_STORES: Scene<'static> = Scene {
         Step::Returns(Some(Out::Done)),
         Step::Loads(1, 2, Need::Have(Out::Value(5))),
     ],
-    posted: &[
-        (1, (Said::Copy(Bytes::Zeros), 1, 7)),
-        (2, (Said::Copy(Bytes::Zeros), 2, 7)),
-        (1, (Said::Order, 0, 1)),
-        (2, (Said::Order, 0, 1)),
-    ],
+    posted: &ORDERS_POSTED,
 };
 
 /// A copy is given up when the node that is to write says so; one that is still awaited, once it came.
 #[test]
-fn copies_given_up(rt: HostRuntime) -> Result<(), Fail> {
-    check(&rt, &GIVEN_UP)
+fn copies_given_up(rt: HostRuntime) {
+    check(&rt, &GIVEN_UP);
 }
 
-static GIVEN_UP: Scene<'static> = Scene {
+static GIVEN_UP: Scene<'static, Step> = Scene {
     me: 2,
     steps: &[
         Step::Loads(1, 1, Need::Started),
@@ -412,11 +401,18 @@ static GIVEN_UP: Scene<'static> = Scene {
 
 /// Where a post refuses what the last acknowledgement brings about, all is as it was.
 #[test]
-fn a_refused_acknowledgement(rt: HostRuntime) -> Result<(), Fail> {
-    check(&rt, &REFUSED)
+fn a_refused_acknowledgement(rt: HostRuntime) {
+    check(&rt, &REFUSED);
 }
 
-static REFUSED: Scene<'static> = Scene {
+/// A copy, the order to give it up, and a copy with what was stored.
+const STORE_POSTED: [(u8, Letter); 3] = [
+    (1, (Said::Copy(Bytes::Zeros), 1, 7)),
+    (1, (Said::Order, 0, 1)),
+    (2, (Said::Copy(Bytes::Stored), 2, 3)),
+];
+
+static REFUSED: Scene<'static, Step> = Scene {
     me: 0,
     steps: &[
         Step::Comes(1, (Said::Request, 1, 7)),
@@ -431,73 +427,16 @@ static REFUSED: Scene<'static> = Scene {
         Step::Returns(Some(Out::Done)),
         Step::Posted(3),
     ],
-    posted: &[
-        (1, (Said::Copy(Bytes::Zeros), 1, 7)),
-        (1, (Said::Order, 0, 1)),
-        (2, (Said::Copy(Bytes::Stored), 2, 3)),
-    ],
+    posted: &STORE_POSTED,
 };
-
-/// A step of a node whose growths are refused, what goes before it, and what comes after it.
-struct Growing<'a> {
-    before: &'a [Step],
-    refused: Step,
-    after: Scene<'a>,
-}
-
-/// More growths than a step here asks for.
-const MANY: u64 = 20;
-
-/// The step goes with the n-th growth refused. Whether that was asked for: the step is refused then, and only then.
-fn refused_of<A: Allocator + Copy>(
-    rt: &impl Abort,
-    (memory, n): (&Failing<Global>, u64),
-    node: &mut Node<A>,
-    growing: &Growing,
-) -> Result<bool, Fail> {
-    for step in growing.before {
-        assert!(rt; node.goes(step)?);
-    }
-    memory.refuse(n);
-    let is_refused = node.goes(&growing.refused)?;
-    let is_met = memory.asked(n) >= n;
-    memory.refuse(0);
-    assert!(rt; is_refused == is_met, "growth {n}");
-    if is_met {
-        check_node(rt, node, &growing.after)?;
-    }
-    Ok(is_met)
-}
-
-fn refused_at(
-    rt: &impl Abort,
-    memory: &Failing<Global>,
-    n: u64,
-    growing: &Growing,
-) -> Result<bool, Fail> {
-    let mut node = Node::new(memory, growing.after.me)?;
-    refused_of(rt, (memory, n), &mut node, growing)
-}
-
-/// Refuses each growth in turn, until one is not asked for.
-fn refuse_each<R: Abort + AllocGlobal>(rt: &R, growing: &Growing) -> Result<(), Fail> {
-    let memory = Failing::new(rt.alloc());
-    for n in 1..MANY {
-        if !refused_at(rt, &memory, n, growing)? {
-            assert!(rt; n > 1);
-            return Ok(());
-        }
-    }
-    Err("no end of growths".into())
-}
 
 /// The request of a read fault is refused: the entry is not locked, and the next try asks.
 #[test]
-fn growths_of_a_read_fault(rt: HostRuntime) -> Result<(), Fail> {
-    refuse_each(&rt, &READ_REFUSED)
+fn growths_of_a_read_fault(rt: HostRuntime) {
+    refuse(&rt, &READ_REFUSED);
 }
 
-static READ_REFUSED: Growing<'static> = Growing {
+static READ_REFUSED: Growing<'static, Step> = Growing {
     before: &[],
     refused: Step::LoadsInVain(1, 1),
     after: Scene {
@@ -515,11 +454,11 @@ static READ_REFUSED: Growing<'static> = Growing {
 
 /// One of the orders of an owner that is to store is refused: none was posted, and it reads on.
 #[test]
-fn growths_of_a_write_fault(rt: HostRuntime) -> Result<(), Fail> {
-    refuse_each(&rt, &WRITE_REFUSED)
+fn growths_of_a_write_fault(rt: HostRuntime) {
+    refuse(&rt, &WRITE_REFUSED);
 }
 
-static WRITE_REFUSED: Growing<'static> = Growing {
+static WRITE_REFUSED: Growing<'static, Step> = Growing {
     before: &[
         Step::Comes(1, (Said::Request, 1, 7)),
         Step::Comes(1, (Said::Request, 2, 7)),
@@ -536,23 +475,18 @@ static WRITE_REFUSED: Growing<'static> = Growing {
             Step::Comes(1, (Said::Acknowledgement, 0, 1)),
             Step::Returns(Some(Out::Done)),
         ],
-        posted: &[
-            (1, (Said::Copy(Bytes::Zeros), 1, 7)),
-            (2, (Said::Copy(Bytes::Zeros), 2, 7)),
-            (1, (Said::Order, 0, 1)),
-            (2, (Said::Order, 0, 1)),
-        ],
+        posted: &ORDERS_POSTED,
     },
 };
 
 /// The copy that the last acknowledgement brings about is refused: nothing was stored, and the acknowledgement is
 /// missing still.
 #[test]
-fn growths_of_the_last_acknowledgement(rt: HostRuntime) -> Result<(), Fail> {
-    refuse_each(&rt, &LAST_REFUSED)
+fn growths_of_the_last_acknowledgement(rt: HostRuntime) {
+    refuse(&rt, &LAST_REFUSED);
 }
 
-static LAST_REFUSED: Growing<'static> = Growing {
+static LAST_REFUSED: Growing<'static, Step> = Growing {
     before: &[
         Step::Comes(1, (Said::Request, 1, 7)),
         Step::Stores(1, Need::Started),
@@ -569,10 +503,6 @@ static LAST_REFUSED: Growing<'static> = Growing {
             Step::Posted(3),
             Step::Breaches(0),
         ],
-        posted: &[
-            (1, (Said::Copy(Bytes::Zeros), 1, 7)),
-            (1, (Said::Order, 0, 1)),
-            (2, (Said::Copy(Bytes::Stored), 2, 3)),
-        ],
+        posted: &STORE_POSTED,
     },
 };

@@ -1,26 +1,16 @@
 //! The manager of pages by hints.
-use crate::managers::{Calls, Told, check};
+use crate::managers::{Calls, HINTED, Told, check};
 use ivy_dynamic::DynamicManager;
-use ivy_model::{Config, Kind};
 use std::process::Abort;
-use std::test::Fail;
 
-const CONFIG: Config = Config {
-    nodes: 4,
-    pages: 8,
-    page_size: 64,
-    manager: Kind::Dynamic,
-};
-
-fn check_node<R: Abort + AllocGlobal>(rt: &R, me: u8, calls: &Calls) -> Result<(), Fail> {
-    let mut manager = DynamicManager::new(rt.alloc(), &CONFIG, me)?;
+fn check_node(rt: &(impl Abort + AllocGlobal), me: u8, calls: &Calls) {
+    let mut manager = DynamicManager::new(rt.alloc(), &HINTED, me).expect(rt, "memory");
     check(rt, &mut manager, calls);
-    Ok(())
 }
 
 #[test]
-fn each_call_moves_the_hint(rt: HostRuntime) -> Result<(), Fail> {
-    check_node(&rt, 1, &EACH_CALL)
+fn each_call_moves_the_hint(rt: HostRuntime) {
+    check_node(&rt, 1, &EACH_CALL);
 }
 
 static EACH_CALL: Calls<'static> = Calls {
@@ -39,10 +29,10 @@ static EACH_CALL: Calls<'static> = Calls {
 /// Node 0 gives page 5 to node 1, of which node 3 knows nothing: its request to write goes from
 /// hint to hint, 0 and then 1, and each of the two then hints at node 3.
 #[test]
-fn request_follows_a_chain_of_hints(rt: HostRuntime) -> Result<(), Fail> {
-    check_node(&rt, 0, &FIRST)?;
-    check_node(&rt, 1, &SECOND)?;
-    check_node(&rt, 3, &ASKING)
+fn request_follows_a_chain_of_hints(rt: HostRuntime) {
+    check_node(&rt, 0, &FIRST);
+    check_node(&rt, 1, &SECOND);
+    check_node(&rt, 3, &ASKING);
 }
 
 static FIRST: Calls<'static> = Calls {
@@ -66,8 +56,8 @@ static ASKING: Calls<'static> = Calls {
 /// Calls for page 5 change what is named for that page alone, and one call takes them all back:
 /// here one that names another node, or once this node has written one that names itself.
 #[test]
-fn one_call_takes_changes_back(rt: HostRuntime) -> Result<(), Fail> {
-    check_node(&rt, 1, &TAKEN_BACK)
+fn one_call_takes_changes_back(rt: HostRuntime) {
+    check_node(&rt, 1, &TAKEN_BACK);
 }
 
 static TAKEN_BACK: Calls<'static> = Calls {

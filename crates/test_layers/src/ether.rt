@@ -2,35 +2,24 @@
 use ivy_moves::{Event, Events};
 use ivy_wire::Bytes;
 use std::alloc::Global;
-use std::test::Fail;
+use std::process::Abort;
 
 /// The string that is delivered.
 const DELIVERED: [u8; 2] = [73, 86];
 
-fn add_turn(events: &mut Events<Global>) -> Result<(), Fail> {
-    events.reserve()?;
+/// Two turns, what is delivered, one turn and a pulse.
+fn add_all(rt: &(impl Abort + AllocGlobal), events: &mut Events<Global>) {
+    events.reserve().expect(rt, "memory");
     events.push_turn();
-    Ok(())
-}
-
-fn add_delivery(alloc: Global, events: &mut Events<Global>, bytes: &[u8]) -> Result<(), Fail> {
-    events.reserve()?;
-    events.push_delivery(Bytes::new(alloc, bytes)?);
-    Ok(())
-}
-
-fn add_pulse(events: &mut Events<Global>, to: u8) -> Result<(), Fail> {
-    events.reserve()?;
-    events.push_pulse(to);
-    Ok(())
-}
-
-fn add_all(alloc: Global, events: &mut Events<Global>) -> Result<(), Fail> {
-    add_turn(events)?;
-    add_turn(events)?;
-    add_delivery(alloc, events, &DELIVERED)?;
-    add_turn(events)?;
-    add_pulse(events, 1)
+    events.reserve().expect(rt, "memory");
+    events.push_turn();
+    let string = Bytes::new(rt.alloc(), &DELIVERED).expect(rt, "memory");
+    events.reserve().expect(rt, "memory");
+    events.push_delivery(string);
+    events.reserve().expect(rt, "memory");
+    events.push_turn();
+    events.reserve().expect(rt, "memory");
+    events.push_pulse(1);
 }
 
 /// Whether the entries are two turns, what was delivered, one turn and a pulse.
@@ -47,9 +36,8 @@ fn are_all(entries: &[Event<Bytes<Global>>]) -> bool {
 }
 
 #[test]
-fn turns_in_a_row_are_one_entry(rt: HostRuntime) -> Result<(), Fail> {
+fn turns_in_a_row_are_one_entry(rt: HostRuntime) {
     let mut events = Events::new(rt.alloc());
-    add_all(rt.alloc(), &mut events)?;
+    add_all(&rt, &mut events);
     assert!(&rt; are_all(events.entries()));
-    Ok(())
 }

@@ -1,19 +1,9 @@
 //! The manager of pages by managing nodes.
-use crate::managers::{Calls, Told, all_hops, check, names, tell};
+use crate::managers::{Calls, MANAGED, Told, all_hops, check, names, tell};
 use ivy_fixed::FixedManager;
-use ivy_model::{Config, Kind};
 use ivy_pagetable::Manager;
 use std::alloc::Global;
 use std::process::Abort;
-use std::test::Fail;
-
-/// Node 1 manages pages 1 and 5, node 2 pages 2 and 6.
-const CONFIG: Config = Config {
-    nodes: 4,
-    pages: 8,
-    page_size: 64,
-    manager: Kind::Fixed,
-};
 
 fn check_all(rt: &impl Abort, manager: &mut FixedManager<Global>, tables: &[Calls]) {
     for calls in tables {
@@ -21,16 +11,15 @@ fn check_all(rt: &impl Abort, manager: &mut FixedManager<Global>, tables: &[Call
     }
 }
 
-fn check_node<R: Abort + AllocGlobal>(rt: &R, me: u8, tables: &[Calls]) -> Result<(), Fail> {
-    CONFIG.check()?;
-    let mut manager = FixedManager::new(rt.alloc(), &CONFIG, me)?;
+fn check_node(rt: &(impl Abort + AllocGlobal), me: u8, tables: &[Calls]) {
+    MANAGED.check().expect(rt, "a configuration");
+    let mut manager = FixedManager::new(rt.alloc(), &MANAGED, me).expect(rt, "memory");
     check_all(rt, &mut manager, tables);
-    Ok(())
 }
 
 #[test]
-fn managing_node_keeps_the_owner(rt: HostRuntime) -> Result<(), Fail> {
-    check_node(&rt, 1, &OWN_PAGE)
+fn managing_node_keeps_the_owner(rt: HostRuntime) {
+    check_node(&rt, 1, &OWN_PAGE);
 }
 
 static OWN_PAGE: [Calls<'static>; 1] = [Calls {
@@ -47,8 +36,8 @@ static OWN_PAGE: [Calls<'static>; 1] = [Calls {
 }];
 
 #[test]
-fn other_nodes_ask_the_managing_node(rt: HostRuntime) -> Result<(), Fail> {
-    check_node(&rt, 3, &FOREIGN_PAGES)
+fn other_nodes_ask_the_managing_node(rt: HostRuntime) {
+    check_node(&rt, 3, &FOREIGN_PAGES);
 }
 
 static FOREIGN_PAGES: [Calls<'static>; 2] = [
@@ -100,10 +89,9 @@ fn obeys_the_laws(rt: &impl Abort, manager: &mut FixedManager<Global>, me: u8) {
 }
 
 #[test]
-fn laws_of_a_manager(rt: HostRuntime) -> Result<(), Fail> {
+fn laws_of_a_manager(rt: HostRuntime) {
     for me in 0..4 {
-        let mut manager = FixedManager::new(rt.alloc(), &CONFIG, me)?;
+        let mut manager = FixedManager::new(rt.alloc(), &MANAGED, me).expect(&rt, "memory");
         obeys_the_laws(&rt, &mut manager, me);
     }
-    Ok(())
 }

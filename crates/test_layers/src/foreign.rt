@@ -2,8 +2,8 @@
 //! bit changed. Each is refused as one that spells no frame, or is the spelling of the frame it is read as.
 ghost use Rattle.std.specs.Prelude.{◌<◌};
 
-use crate::common::{expect_items, expect_same_at};
-use crate::wire::{KINDS_AND_LENGTHS, PAIR, ZEROS, string};
+use crate::common::{PAIR, expect_items, expect_same_at};
+use crate::wire::{KINDS_AND_LENGTHS, ZEROS, string};
 use ivy_model::{Config, Fault};
 use ivy_wire::{FrameKind, decode, encode};
 use rand_core::utils::NextWord;

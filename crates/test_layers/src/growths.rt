@@ -1,76 +1,19 @@
 //! Each growth refused in turn in what a node does that has one call in progress: a call that begins, one that is asked
 //! for its reply, and a message that comes. The node is as it was then, and goes on when it is tried again.
 
+use crate::common::{Growing, Scene};
 use crate::letters::{Bytes, Said};
-use crate::memory::{Node, Scene, Step, check_node};
+use crate::memory::{Step, refuse};
 use ivy_memory::CallProgress;
 use ivy_model::{Call, Fault, Reply};
-use std::alloc::{Allocator, Global};
-use std::process::Abort;
-use std::test::Fail;
-use test_support::Failing;
-
-/// What a node does while a growth is refused, what goes before it, and what it does after that.
-pub(crate) struct Growing<'a> {
-    pub(crate) before: &'a [Step],
-    pub(crate) refused: Step,
-    pub(crate) after: Scene<'a>,
-}
-
-/// More growths than a step here asks for.
-const MANY: u64 = 20;
-
-/// The n-th growth is refused to a node. Whether it was asked for: the step is refused then, and only then.
-fn refused_of<A: Allocator + Copy>(
-    rt: &impl Abort,
-    (memory, n): (&Failing<Global>, u64),
-    node: &mut Node<A>,
-    growing: &Growing,
-) -> Result<bool, Fail> {
-    for step in growing.before {
-        assert!(rt; node.goes(step)?);
-    }
-    memory.refuse(n);
-    let is_refused = node.goes(&growing.refused)?;
-    let is_met = memory.asked(n) >= n;
-    memory.refuse(0);
-    assert!(rt; is_refused == is_met, "growth {n}");
-    if is_met {
-        check_node(rt, node, &growing.after)?;
-    }
-    Ok(is_met)
-}
-
-/// The same of a new node.
-fn refused_at(
-    rt: &impl Abort,
-    memory: &Failing<Global>,
-    n: u64,
-    growing: &Growing,
-) -> Result<bool, Fail> {
-    let mut node = Node::new(memory, growing.after.me)?;
-    refused_of(rt, (memory, n), &mut node, growing)
-}
-
-/// Refuses each growth in turn, until one is not asked for.
-pub(crate) fn refuse_each<R: Abort + AllocGlobal>(rt: &R, growing: &Growing) -> Result<(), Fail> {
-    let memory = Failing::new(rt.alloc());
-    for n in 1..MANY {
-        if !refused_at(rt, &memory, n, growing)? {
-            assert!(rt; n > 1);
-            return Ok(());
-        }
-    }
-    Err("no end of growths".into())
-}
 
 /// A call that has to ask for a copy does not begin.
 #[test]
-fn growths_of_a_call_that_asks(rt: HostRuntime) -> Result<(), Fail> {
-    refuse_each(&rt, &CALL_ASKS)
+fn growths_of_a_call_that_asks(rt: HostRuntime) {
+    refuse(&rt, &CALL_ASKS);
 }
 
-static CALL_ASKS: Growing<'static> = Growing {
+static CALL_ASKS: Growing<'static, Step> = Growing {
     before: &[],
     refused: Step::Awaits(1, 3, Err(Fault::Memory)),
     after: Scene {
@@ -89,11 +32,11 @@ static CALL_ASKS: Growing<'static> = Growing {
 /// An await whose copy was given up asks for another one when it is asked for its reply. Where that is refused the
 /// call is in progress still, under the same number.
 #[test]
-fn growths_of_a_reply_that_asks(rt: HostRuntime) -> Result<(), Fail> {
-    refuse_each(&rt, &REPLY_ASKS)
+fn growths_of_a_reply_that_asks(rt: HostRuntime) {
+    refuse(&rt, &REPLY_ASKS);
 }
 
-static REPLY_ASKS: Growing<'static> = Growing {
+static REPLY_ASKS: Growing<'static, Step> = Growing {
     before: &[
         Step::Awaits(1, 3, Ok(CallProgress::Awaited)),
         Step::Comes(0, (Said::Copy(Bytes::Zeros), 1, 3)),
@@ -119,11 +62,11 @@ static REPLY_ASKS: Growing<'static> = Growing {
 
 /// The page that a request asks for stays where it was, and is given when the request comes again.
 #[test]
-fn growths_of_a_request_for_the_page(rt: HostRuntime) -> Result<(), Fail> {
-    refuse_each(&rt, &REQUEST_FOR_THE_PAGE)
+fn growths_of_a_request_for_the_page(rt: HostRuntime) {
+    refuse(&rt, &REQUEST_FOR_THE_PAGE);
 }
 
-static REQUEST_FOR_THE_PAGE: Growing<'static> = Growing {
+static REQUEST_FOR_THE_PAGE: Growing<'static, Step> = Growing {
     before: &[],
     refused: Step::Refuses(1, (Said::WriteRequest, 1, 7)),
     after: Scene {

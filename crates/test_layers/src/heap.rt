@@ -1,13 +1,11 @@
 //! Calls of the heap at two nodes. Node 0 keeps the heap, and node 1 asks it.
-
-use crate::growths::{Growing, refuse_each};
+use crate::common::{Growing, Scene, Stepped, expect_scene};
 use crate::letters::{Letter, Said};
-use crate::memory::{Node, Outcome, Scene, Step, check, check_node};
+use crate::memory::{Node, Outcome, Step, check, refuse};
 use ivy_memory::CallProgress;
 use ivy_model::{Call, Fault, Reply};
 use std::alloc::Global;
 use std::process::Abort;
-use std::test::Fail;
 
 /// What calls come to: the block at address 64, where the heap begins; the end of a block; and the refusals of no
 /// bytes, of more than there is room for, and of the end of a block that is not there.
@@ -41,45 +39,36 @@ struct Round {
 
 /// Whether the round goes as it says.
 fn goes_round(
-    keeper: &mut Node<Global>,
-    node: &mut Node<Global>,
-    round: &Round,
-) -> Result<bool, Fail> {
-    Ok(
-        node.goes(&round.begins)?
-            && keeper.takes_last(node.posts(), round.asks)?
-            && node.takes_last(keeper.posts(), round.answers)?
-            && node.goes(&round.ends)?,
-    )
-}
-
-fn check_rounds(
     rt: &impl Abort,
     keeper: &mut Node<Global>,
     node: &mut Node<Global>,
-) -> Result<(), Fail> {
+    round: &Round,
+) -> bool {
+    node.goes(rt, &round.begins)
+        && keeper.takes_last(rt, node.posts(), round.asks)
+        && node.takes_last(rt, keeper.posts(), round.answers)
+        && node.goes(rt, &round.ends)
+}
+
+fn check_rounds(rt: &impl Abort, keeper: &mut Node<Global>, node: &mut Node<Global>) {
     for (index, round) in ROUNDS.iter().enumerate() {
-        assert!(rt; goes_round(keeper, node, round)?, "round {index}");
+        assert!(rt; goes_round(rt, keeper, node, round), "round {index}");
     }
-    check_node(rt, node, &ASKED)?;
-    check_node(rt, keeper, &ANSWERED)
+    expect_scene(rt, node, &ASKED);
+    expect_scene(rt, keeper, &ANSWERED);
 }
 
 /// Node 1 makes the calls of the rounds, with node 0.
-fn check_asking<R: Abort + AllocGlobal>(rt: &R, keeper: &mut Node<Global>) -> Result<(), Fail> {
-    let mut node = Node::new(rt.alloc(), 1)?;
-    check_rounds(rt, keeper, &mut node)
-}
-
-fn check_keeper<R: Abort + AllocGlobal>(rt: &R) -> Result<(), Fail> {
-    let mut keeper = Node::new(rt.alloc(), 0)?;
-    check_asking(rt, &mut keeper)
+fn check_asking(rt: &(impl Abort + AllocGlobal), keeper: &mut Node<Global>) {
+    let mut node = Node::new(rt, rt.alloc(), 1);
+    check_rounds(rt, keeper, &mut node);
 }
 
 /// Each request and each answer is the one message that its node posts. What will be refused is asked for too.
 #[test]
-fn node_1_asks_node_0(rt: HostRuntime) -> Result<(), Fail> {
-    check_keeper(&rt)
+fn node_1_asks_node_0(rt: HostRuntime) {
+    let mut keeper = Node::new(&rt, rt.alloc(), 0);
+    check_asking(&rt, &mut keeper);
 }
 
 static ROUNDS: [Round; 5] = [
@@ -116,7 +105,7 @@ static ROUNDS: [Round; 5] = [
 ];
 
 /// What the nodes have posted after these rounds.
-static ANSWERED: Scene<'static> = Scene {
+static ANSWERED: Scene<'static, Step> = Scene {
     me: 0,
     steps: &[Step::Breaches(0)],
     posted: &[
@@ -128,7 +117,7 @@ static ANSWERED: Scene<'static> = Scene {
     ],
 };
 
-static ASKED: Scene<'static> = Scene {
+static ASKED: Scene<'static, Step> = Scene {
     me: 1,
     steps: &[Step::Breaches(0), Step::Asked(None)],
     posted: &[
@@ -142,11 +131,11 @@ static ASKED: Scene<'static> = Scene {
 
 /// Node 0 serves its own calls at once, and posts nothing.
 #[test]
-fn node_0_asks_nobody(rt: HostRuntime) -> Result<(), Fail> {
-    check(&rt, &AT_NODE_0)
+fn node_0_asks_nobody(rt: HostRuntime) {
+    check(&rt, &AT_NODE_0);
 }
 
-static AT_NODE_0: Scene<'static> = Scene {
+static AT_NODE_0: Scene<'static, Step> = Scene {
     me: 0,
     steps: &[
         Step::Allocates(8, 1, AT_64),
@@ -162,11 +151,11 @@ static AT_NODE_0: Scene<'static> = Scene {
 /// An answer that nobody waits for, one of another call, one to a Free, one to another node's call, and requests to a
 /// node that keeps no heap: each is one breach, and the call waits on. So is an answer that comes twice.
 #[test]
-fn forged_answers(rt: HostRuntime) -> Result<(), Fail> {
-    check(&rt, &FORGED_ANSWERS)
+fn forged_answers(rt: HostRuntime) {
+    check(&rt, &FORGED_ANSWERS);
 }
 
-static FORGED_ANSWERS: Scene<'static> = Scene {
+static FORGED_ANSWERS: Scene<'static, Step> = Scene {
     me: 1,
     steps: &[
         Step::Comes(0, GETS_64),
@@ -199,11 +188,11 @@ static FORGED_ANSWERS: Scene<'static> = Scene {
 /// Answers with codes that their calls cannot have: 8 for some bytes, 9 for none, and an address for none. Each is the
 /// reply of its call, and no breach.
 #[test]
-fn forged_codes(rt: HostRuntime) -> Result<(), Fail> {
-    check(&rt, &FORGED_CODES)
+fn forged_codes(rt: HostRuntime) {
+    check(&rt, &FORGED_CODES);
 }
 
-static FORGED_CODES: Scene<'static> = Scene {
+static FORGED_CODES: Scene<'static, Step> = Scene {
     me: 1,
     steps: &[
         Step::Allocates(8, 1, AWAITED),
@@ -228,11 +217,11 @@ static FORGED_CODES: Scene<'static> = Scene {
 /// A request that is not its sender's, and answers to the node that gives them: each is one breach, and the heap
 /// stays as it was.
 #[test]
-fn forged_requests(rt: HostRuntime) -> Result<(), Fail> {
-    check(&rt, &FORGED_REQUESTS)
+fn forged_requests(rt: HostRuntime) {
+    check(&rt, &FORGED_REQUESTS);
 }
 
-static FORGED_REQUESTS: Scene<'static> = Scene {
+static FORGED_REQUESTS: Scene<'static, Step> = Scene {
     me: 0,
     steps: &[
         Step::Allocates(8, 1, AT_64),
@@ -254,11 +243,11 @@ static FORGED_REQUESTS: Scene<'static> = Scene {
 
 /// A call whose request is refused does not begin.
 #[test]
-fn a_refused_request(rt: HostRuntime) -> Result<(), Fail> {
-    check(&rt, &REFUSED_REQUEST)
+fn a_refused_request(rt: HostRuntime) {
+    check(&rt, &REFUSED_REQUEST);
 }
 
-static REFUSED_REQUEST: Scene<'static> = Scene {
+static REFUSED_REQUEST: Scene<'static, Step> = Scene {
     me: 1,
     steps: &[
         Step::IsFull(true),
@@ -277,11 +266,11 @@ static REFUSED_REQUEST: Scene<'static> = Scene {
 /// A block whose answer is refused is taken back, and is given again. One is there still where the answer to its end
 /// is refused.
 #[test]
-fn a_refused_answer(rt: HostRuntime) -> Result<(), Fail> {
-    check(&rt, &REFUSED_ANSWER)
+fn a_refused_answer(rt: HostRuntime) {
+    check(&rt, &REFUSED_ANSWER);
 }
 
-static REFUSED_ANSWER: Scene<'static> = Scene {
+static REFUSED_ANSWER: Scene<'static, Step> = Scene {
     me: 0,
     steps: &[
         Step::IsFull(true),
@@ -300,11 +289,11 @@ static REFUSED_ANSWER: Scene<'static> = Scene {
 
 /// Node 1 asks for a block that the heap has no memory for: that is refused with 1, and is served when it comes again.
 #[test]
-fn growths_of_a_request(rt: HostRuntime) -> Result<(), Fail> {
-    refuse_each(&rt, &REQUEST_COMES)
+fn growths_of_a_request(rt: HostRuntime) {
+    refuse(&rt, &REQUEST_COMES);
 }
 
-static REQUEST_COMES: Growing<'static> = Growing {
+static REQUEST_COMES: Growing<'static, Step> = Growing {
     before: &[],
     refused: Step::Refuses(1, WANTS_8),
     after: Scene {
@@ -321,11 +310,11 @@ static REQUEST_COMES: Growing<'static> = Growing {
 
 /// So is a call of node 0 itself.
 #[test]
-fn growths_of_a_call(rt: HostRuntime) -> Result<(), Fail> {
-    refuse_each(&rt, &NODE_0_CALLS)
+fn growths_of_a_call(rt: HostRuntime) {
+    refuse(&rt, &NODE_0_CALLS);
 }
 
-static NODE_0_CALLS: Growing<'static> = Growing {
+static NODE_0_CALLS: Growing<'static, Step> = Growing {
     before: &[],
     refused: Step::Allocates(8, 1, Err(Fault::Memory)),
     after: Scene {

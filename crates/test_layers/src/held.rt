@@ -5,7 +5,6 @@ use ivy_link::{Link, MOST_AHEAD};
 use ivy_wire::{Bytes, Frame};
 use std::alloc::Global;
 use std::process::Abort;
-use std::test::Fail;
 
 const NODES: u8 = 3;
 
@@ -37,19 +36,19 @@ fn frame(dest: u8, number: u64) -> Frame<()>
 
 /// Whether the string is given back, as it was.
 fn gives_back(
+    rt: &(impl Abort + AllocGlobal),
     link: &mut Link<Global>,
-    alloc: Global,
     dest: u8,
     number: u64,
     mark: u8,
-) -> Result<bool, Fail>
+) -> bool
     requires { length link.old.peers ≡ NODES }
     ensures { length link.new.peers ≡ NODES }
 {
-    let string = Bytes::new(alloc, &[mark])?;
+    let string = Bytes::new(rt.alloc(), &[mark]).expect(rt, "memory");
     match link.hold(&frame(dest, number), string) {
-        Some(back) => Ok(back.bytes() == [mark].as_slice()),
-        None => Ok(false),
+        Some(back) => back.bytes() == [mark].as_slice(),
+        None => false,
     }
 }
 
@@ -63,34 +62,33 @@ fn takes(link: &mut Link<Global>) -> Option<u8>
 }
 
 /// Whether the step goes as it says.
-fn goes(link: &mut Link<Global>, alloc: Global, step: Step) -> Result<bool, Fail>
+fn goes(rt: &(impl Abort + AllocGlobal), link: &mut Link<Global>, step: Step) -> bool
     requires { length link.old.peers ≡ NODES }
     ensures { length link.new.peers ≡ NODES }
 {
     match step {
-        Step::Holds(number, mark) => Ok(!gives_back(link, alloc, 1, number, mark)?),
-        Step::GivesBack(number, mark) => gives_back(link, alloc, 1, number, mark),
+        Step::Holds(number, mark) => !gives_back(rt, link, 1, number, mark),
+        Step::GivesBack(number, mark) => gives_back(rt, link, 1, number, mark),
         Step::Accepts(number) => {
             link.accept(&frame(1, number));
-            Ok(true)
+            true
         }
-        Step::Takes(mark) => Ok(takes(link) == mark),
+        Step::Takes(mark) => takes(link) == mark,
     }
 }
 
 /// Asserts that the steps go as they say, of a new link of node 1.
-fn check<R: Abort + AllocGlobal>(rt: &R, steps: &[Step]) -> Result<(), Fail> {
-    let mut link = Link::new(rt.alloc(), 1, NODES)?;
+fn check(rt: &(impl Abort + AllocGlobal), steps: &[Step]) {
+    let mut link = Link::new(rt.alloc(), 1, NODES).expect(rt, "memory");
     for (index, step) in steps.iter().enumerate() {
-        assert!(rt; goes(&mut link, rt.alloc(), *step)?, "step {index}");
+        assert!(rt; goes(rt, &mut link, *step), "step {index}");
     }
-    Ok(())
 }
 
 /// A string is held until the one before it was delivered, one of each number.
 #[test]
-fn a_string_that_comes_early(rt: HostRuntime) -> Result<(), Fail> {
-    check(&rt, &COMES_EARLY)
+fn a_string_that_comes_early(rt: HostRuntime) {
+    check(&rt, &COMES_EARLY);
 }
 
 static COMES_EARLY: [Step; 7] = [
@@ -105,9 +103,9 @@ static COMES_EARLY: [Step; 7] = [
 
 /// Numbers from the next one to the 32nd above those delivered are held, and no others.
 #[test]
-fn as_far_as_a_pulse_reaches(rt: HostRuntime) -> Result<(), Fail> {
+fn as_far_as_a_pulse_reaches(rt: HostRuntime) {
     assert!(&rt; MOST_AHEAD == 32);
-    check(&rt, &REACHES)
+    check(&rt, &REACHES);
 }
 
 static REACHES: [Step; 8] = [
@@ -123,8 +121,8 @@ static REACHES: [Step; 8] = [
 
 /// A string is forgotten once a frame of its number is accepted, and those after it stay.
 #[test]
-fn a_string_that_came_again(rt: HostRuntime) -> Result<(), Fail> {
-    check(&rt, &CAME_AGAIN)
+fn a_string_that_came_again(rt: HostRuntime) {
+    check(&rt, &CAME_AGAIN);
 }
 
 static CAME_AGAIN: [Step; 7] = [
@@ -139,9 +137,8 @@ static CAME_AGAIN: [Step; 7] = [
 
 /// What is for another node is given back.
 #[test]
-fn a_string_for_another_node(rt: HostRuntime) -> Result<(), Fail> {
-    let mut link = Link::new(rt.alloc(), 1, NODES)?;
-    assert!(&rt; gives_back(&mut link, rt.alloc(), 2, 1, 10)?);
+fn a_string_for_another_node(rt: HostRuntime) {
+    let mut link = Link::new(rt.alloc(), 1, NODES).expect(&rt, "memory");
+    assert!(&rt; gives_back(&rt, &mut link, 2, 1, 10));
     assert!(&rt; takes(&mut link).is_none());
-    Ok(())
 }

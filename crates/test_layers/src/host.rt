@@ -1,41 +1,20 @@
 //! The manager of a node, which its configuration names.
-use crate::managers::{Calls, Told, check};
+use crate::managers::{Calls, HINTED, MANAGED, Told, check};
 use ivy_host::NodeManager;
-use ivy_model::{Config, Kind};
+use ivy_model::Config;
 use std::process::Abort;
-use std::test::Fail;
 
-/// Four nodes, of which node 2 manages page 6 where there are managing nodes.
-const MANAGED: Config = Config {
-    nodes: 4,
-    pages: 8,
-    page_size: 64,
-    manager: Kind::Fixed,
-};
-
-const HINTED: Config = Config {
-    nodes: 4,
-    pages: 8,
-    page_size: 64,
-    manager: Kind::Dynamic,
-};
-
-fn check_node<R: Abort + AllocGlobal>(
-    rt: &R,
-    config: &Config,
-    me: u8,
-    calls: &Calls,
-) -> Result<(), Fail> {
-    config.check()?;
-    let mut manager = NodeManager::new(rt.alloc(), config, me)?;
+/// The manager of node `me`, of four.
+fn check_node(rt: &(impl Abort + AllocGlobal), config: &Config, me: u8, calls: &Calls) {
+    config.check().expect(rt, "a configuration");
+    let mut manager = NodeManager::new(rt.alloc(), config, me).expect(rt, "memory");
     check(rt, &mut manager, calls);
-    Ok(())
 }
 
 #[test]
-fn managing_nodes(rt: HostRuntime) -> Result<(), Fail> {
-    check_node(&rt, &MANAGED, 2, &MANAGING)?;
-    check_node(&rt, &MANAGED, 3, &OTHER)
+fn managing_nodes(rt: HostRuntime) {
+    check_node(&rt, &MANAGED, 2, &MANAGING);
+    check_node(&rt, &MANAGED, 3, &OTHER);
 }
 
 static MANAGING: Calls<'static> = Calls {
@@ -63,8 +42,8 @@ static OTHER: Calls<'static> = Calls {
 };
 
 #[test]
-fn hints(rt: HostRuntime) -> Result<(), Fail> {
-    check_node(&rt, &HINTED, 2, &HINTING)
+fn hints(rt: HostRuntime) {
+    check_node(&rt, &HINTED, 2, &HINTING);
 }
 
 static HINTING: Calls<'static> = Calls {

@@ -1,11 +1,11 @@
 //! Messages about one page or of the heap, as rows of tables.
-ghost use Rattle.std.specs.Prelude.{◌≢◌, ◌<◌, IfOk, OnOk};
+ghost use Rattle.std.specs.Prelude.{◌≢◌, ◌<◌};
 ghost use Rattle.ivy_wire.specs.Lent.{owned_message};
 ghost use Rattle.ivy_wire.specs.stated.Spelling.{FitsMessage};
 
 use ivy_model::Config;
 use ivy_wire::{Content, Frame, Message};
-use std::test::Fail;
+use std::process::Abort;
 
 /// The bytes of a page.
 #[derive(Clone, Copy)]
@@ -90,18 +90,19 @@ pub(crate) fn message(page: u32, letter: Letter) -> Message<&'static [u8]> {
     }
 }
 
-/// The message, where it may come to node `me` from this one.
+/// The message, which may come to node `me` from this one.
 pub(crate) fn received<'a>(
+    rt: &impl Abort,
     config: &Config,
     from: u8,
     me: u8,
     message: Message<&'a [u8]>,
-) -> Result<Message<&'a [u8]>, Fail>
-    ensures from { OnOk result (from < config.now.nodes) }
-    ensures foreign { OnOk result (from ≢ me) }
-    ensures fits { IfOk result (λ message. FitsMessage config.now (owned_message message)) }
+) -> Message<&'a [u8]>
+    ensures from { from < config.now.nodes }
+    ensures foreign { from ≢ me }
+    ensures fits { FitsMessage config.now (owned_message result) }
 {
-    config.check()?;
+    config.check().expect(rt, "a configuration");
     let frame = Frame {
         source: from,
         dest: me,
@@ -109,11 +110,6 @@ pub(crate) fn received<'a>(
         ack: 0,
         body: Some(message),
     };
-    if !frame.fits(config) {
-        return Err("a message that does not fit".into());
-    }
-    match frame.body {
-        Some(message) => Ok(message),
-        None => Err("no message".into()),
-    }
+    assert!(rt; frame.fits(config));
+    frame.body.expect(rt, "a message")
 }

@@ -1,5 +1,5 @@
 //! Messages between nodes: numbered, acknowledged, sent again, and told apart.
-ghost use Rattle.std.specs.Prelude.{◌≡◌, ◌<◌, length, map, IfOk};
+ghost use Rattle.std.specs.Prelude.{◌≡◌, ◌<◌, length, map};
 ghost use Rattle.ivy_wire.specs.Lent.{owned_parcel};
 ghost use Rattle.ivy_link.specs.Holding.{AreToPeers};
 
@@ -8,7 +8,6 @@ use ivy_link::{Link, Verdict, delivers_in_order};
 use ivy_wire::{Frame, Message, OwnedPage, Parcel};
 use std::alloc::Global;
 use std::process::Abort;
-use std::test::Fail;
 
 const NODES: u8 = 3;
 
@@ -101,152 +100,156 @@ fn are_owned(frames: &[Frame<OwnedPage<Global>>], rows: &[Row]) -> bool {
     frames.len() == rows.len()
 }
 
-/// The node, where it is there.
-fn peer(node: u8) -> Result<u8, Fail>
-    ensures within { IfOk result (λ peer. peer < NODES) }
-    ensures same { IfOk result (λ peer. peer ≡ node) }
+/// The node, which is one of the three.
+fn peer(rt: &impl Abort, node: u8) -> u8
+    ensures within { result < NODES }
+    ensures same { result ≡ node }
 {
-    if node < NODES {
-        Ok(node)
-    } else {
-        Err("no such node".into())
-    }
+    assert!(rt; node < NODES);
+    node
 }
 
 /// Sends the messages. Whether their frames are these, and were shown before.
-fn sends(link: &mut Link<Global>, parcels: &[Parcel<&[u8]>], rows: &[Row]) -> Result<bool, Fail>
+fn sends(rt: &impl Abort, link: &mut Link<Global>, parcels: &[Parcel<&[u8]>], rows: &[Row]) -> bool
     requires nodes { length link.old.peers ≡ NODES }
     requires within { AreToPeers link.old (map owned_parcel parcels.now) }
     ensures { length link.new.peers ≡ NODES }
 {
-    let shown = are(&link.frames(parcels)?, rows);
-    let sent = are(&link.send(parcels)?, rows);
-    Ok(shown && sent)
+    let shown = are(&link.frames(parcels).expect(rt, "memory"), rows);
+    let sent = are(&link.send(parcels).expect(rt, "memory"), rows);
+    shown && sent
 }
 
-fn sends_one(link: &mut Link<Global>, me: u8, to: u8, sent: Load, row: Row) -> Result<bool, Fail>
+fn sends_one(rt: &impl Abort, link: &mut Link<Global>, ends: (u8, u8), sent: Load, row: Row) -> bool
     requires { length link.old.peers ≡ NODES }
     ensures { length link.new.peers ≡ NODES }
 {
-    let to = peer(to)?;
-    sends(link, &[parcel(me, to, sent)], &[row])
+    let to = peer(rt, ends.1);
+    sends(rt, link, &[parcel(ends.0, to, sent)], &[row])
 }
 
 fn sends_each(
+    rt: &impl Abort,
     link: &mut Link<Global>,
-    me: u8,
-    to: [u8; 3],
+    ends: (u8, [u8; 3]),
     sent: Load,
     rows: &[Row],
-) -> Result<bool, Fail>
+) -> bool
     requires { length link.old.peers ≡ NODES }
     ensures { length link.new.peers ≡ NODES }
 {
-    let [first, second, third] = to;
-    let first = peer(first)?;
-    let second = peer(second)?;
-    let third = peer(third)?;
+    let (me, [first, second, third]) = ends;
+    let first = peer(rt, first);
+    let second = peer(rt, second);
+    let third = peer(rt, third);
     let parcels = [
         parcel(me, first, sent),
         parcel(me, second, sent),
         parcel(me, third, sent),
     ];
-    sends(link, &parcels, rows)
+    sends(rt, link, &parcels, rows)
 }
 
-fn keeps(link: &mut Link<Global>, me: u8, to: u8, sent: Load) -> Result<(), Fail>
+fn keeps(rt: &impl Abort, link: &mut Link<Global>, me: u8, to: u8, sent: Load)
     requires { length link.old.peers ≡ NODES }
     ensures { length link.new.peers ≡ NODES }
 {
-    let to = peer(to)?;
-    link.keep(&[parcel(me, to, sent)])?;
-    Ok(())
+    let to = peer(rt, to);
+    link.keep(&[parcel(me, to, sent)]).expect(rt, "memory");
 }
 
-fn offers(link: &Link<Global>, row: Row) -> Result<Verdict, Fail>
+fn offers(rt: &impl Abort, link: &Link<Global>, row: Row) -> Verdict
     requires { length link.now.peers ≡ NODES }
 {
-    let _source = peer(row.0)?;
-    Ok(link.offer(&frame(row)))
+    let _source = peer(rt, row.0);
+    link.offer(&frame(row))
 }
 
-fn accepts(link: &mut Link<Global>, row: Row) -> Result<(), Fail>
+fn accepts(rt: &impl Abort, link: &mut Link<Global>, row: Row)
     requires { length link.old.peers ≡ NODES }
     ensures { length link.new.peers ≡ NODES }
 {
-    let _source = peer(row.0)?;
+    let _source = peer(rt, row.0);
     link.accept(&frame(row));
-    Ok(())
 }
 
-fn pulses(link: &mut Link<Global>, to: u8, rows: &[Row]) -> Result<bool, Fail>
+fn pulses(rt: &impl Abort, link: &mut Link<Global>, to: u8, rows: &[Row]) -> bool
     requires { length link.old.peers ≡ NODES }
     ensures { length link.new.peers ≡ NODES }
 {
-    let to = peer(to)?;
-    Ok(are_owned(&link.pulse(to)?, rows))
+    let to = peer(rt, to);
+    are_owned(&link.pulse(to).expect(rt, "memory"), rows)
 }
 
-fn shows(link: &Link<Global>, to: u8, rows: &[Row]) -> Result<bool, Fail>
+fn shows(rt: &impl Abort, link: &Link<Global>, to: u8, rows: &[Row]) -> bool
     requires { length link.now.peers ≡ NODES }
 {
-    let to = peer(to)?;
-    Ok(are(&link.pulse_frames(to)?, rows))
+    let to = peer(rt, to);
+    are(&link.pulse_frames(to).expect(rt, "memory"), rows)
 }
 
 /// How many frames it would send again, and the first and the last number.
-fn span(link: &Link<Global>, to: u8) -> Result<(usize, Option<(u64, u64)>), Fail>
+fn span(rt: &impl Abort, link: &Link<Global>, to: u8) -> (usize, Option<(u64, u64)>)
     requires { length link.now.peers ≡ NODES }
 {
-    let to = peer(to)?;
-    let frames = link.pulse_frames(to)?;
+    let to = peer(rt, to);
+    let frames = link.pulse_frames(to).expect(rt, "memory");
     let ends = match (frames.first(), frames.last()) {
         (Some(first), Some(last)) => Some((first.number, last.number)),
         _ => None,
     };
-    Ok((frames.len(), ends))
+    (frames.len(), ends)
 }
 
 /// Whether the step goes as it says, of the link of node `me`.
-fn goes(link: &mut Link<Global>, me: u8, step: &Step) -> Result<bool, Fail>
+fn goes(rt: &impl Abort, link: &mut Link<Global>, me: u8, step: &Step) -> bool
     requires { length link.old.peers ≡ NODES }
     ensures { length link.new.peers ≡ NODES }
 {
     match step {
-        Step::Sends(to, sent, row) => sends_one(link, me, *to, *sent, *row),
-        Step::SendsEach(to, sent, rows) => sends_each(link, me, *to, *sent, rows),
+        Step::Sends(to, sent, row) => sends_one(rt, link, (me, *to), *sent, *row),
+        Step::SendsEach(to, sent, rows) => sends_each(rt, link, (me, *to), *sent, rows),
         Step::Keeps(to, sent) => {
-            keeps(link, me, *to, *sent)?;
-            Ok(true)
+            keeps(rt, link, me, *to, *sent);
+            true
         }
-        Step::Offers(row, verdict) => Ok(offers(link, *row)? == *verdict),
+        Step::Offers(row, verdict) => offers(rt, link, *row) == *verdict,
         Step::Accepts(row) => {
-            accepts(link, *row)?;
-            Ok(true)
+            accepts(rt, link, *row);
+            true
         }
-        Step::Pulses(to, rows) => pulses(link, *to, rows),
-        Step::Shows(to, rows) => shows(link, *to, rows),
+        Step::Pulses(to, rows) => pulses(rt, link, *to, rows),
+        Step::Shows(to, rows) => shows(rt, link, *to, rows),
         Step::Pulsed(to) => {
-            link.pulsed(peer(*to)?);
-            Ok(true)
+            link.pulsed(peer(rt, *to));
+            true
         }
-        Step::Spans(to, count, ends) => Ok(span(link, *to)? == (*count, *ends)),
+        Step::Spans(to, count, ends) => span(rt, link, *to) == (*count, *ends),
     }
 }
 
-fn check_link(rt: &impl Abort, link: &mut Link<Global>, me: u8, steps: &[Step]) -> Result<(), Fail>
+fn check_link(rt: &impl Abort, link: &mut Link<Global>, me: u8, steps: &[Step])
     requires { length link.old.peers ≡ NODES }
 {
     for (index, step) in steps.iter().enumerate() {
-        assert!(rt; goes(link, me, step)?, "step {index}");
+        assert!(rt; goes(rt, link, me, step), "step {index}");
     }
-    Ok(())
+}
+
+/// The link of node 1 of three. That there are three is proved here once.
+fn link_of(rt: &(impl Abort + AllocGlobal), me: u8) -> Link<Global>
+    requires { me < NODES }
+    ensures { length result.peers ≡ NODES }
+{
+    Link::new(rt.alloc(), me, NODES).expect(rt, "memory")
 }
 
 /// Asserts that the steps go as they say, of the link of node `me` of three.
-fn check<R: Abort + AllocGlobal>(rt: &R, me: u8, steps: &[Step]) -> Result<(), Fail> {
-    let mut link = Link::new(rt.alloc(), me, NODES)?;
-    check_link(rt, &mut link, me, steps)
+fn check(rt: &(impl Abort + AllocGlobal), me: u8, steps: &[Step])
+    requires { me < NODES }
+{
+    let mut link = link_of(rt, me);
+    check_link(rt, &mut link, me, steps);
 }
 
 /// Frames of node 1 with its request, at first and with the answer acknowledged, and its second message.
@@ -265,9 +268,9 @@ const ACKNOWLEDGES: Row = (0, 1, 0, 1, None);
 
 /// Node 1 asks for a page, and node 0 answers.
 #[test]
-fn first_load(rt: HostRuntime) -> Result<(), Fail> {
-    check(&rt, 1, &ASKING)?;
-    check(&rt, 0, &ANSWERING)
+fn first_load(rt: HostRuntime) {
+    check(&rt, 1, &ASKING);
+    check(&rt, 0, &ANSWERING);
 }
 
 static ASKING: [Step<'static>; 3] = [
@@ -283,8 +286,8 @@ static ANSWERING: [Step<'static>; 2] = [
 
 /// The node that asked sends its request again, with the answer acknowledged, until it is acknowledged.
 #[test]
-fn request_sent_again(rt: HostRuntime) -> Result<(), Fail> {
-    check(&rt, 1, &SENT_AGAIN)
+fn request_sent_again(rt: HostRuntime) {
+    check(&rt, 1, &SENT_AGAIN);
 }
 
 static SENT_AGAIN: [Step<'static>; 5] = [
@@ -297,8 +300,8 @@ static SENT_AGAIN: [Step<'static>; 5] = [
 
 /// The node that answered owes an acknowledgement for a request that comes again, once.
 #[test]
-fn answer_acknowledged(rt: HostRuntime) -> Result<(), Fail> {
-    check(&rt, 0, &ACKNOWLEDGED)
+fn answer_acknowledged(rt: HostRuntime) {
+    check(&rt, 0, &ACKNOWLEDGED);
 }
 
 static ACKNOWLEDGED: [Step<'static>; 7] = [
@@ -314,8 +317,8 @@ static ACKNOWLEDGED: [Step<'static>; 7] = [
 /// Once the frames that a pulse shows are sent, no acknowledgement is owed any more, and what is kept
 /// stays so.
 #[test]
-fn pulse_in_two_calls(rt: HostRuntime) -> Result<(), Fail> {
-    check(&rt, 0, &TWO_CALLS)
+fn pulse_in_two_calls(rt: HostRuntime) {
+    check(&rt, 0, &TWO_CALLS);
 }
 
 static TWO_CALLS: [Step<'static>; 7] = [
@@ -330,8 +333,8 @@ static TWO_CALLS: [Step<'static>; 7] = [
 
 /// The messages to each node have numbers of their own.
 #[test]
-fn numbers_of_each_pair(rt: HostRuntime) -> Result<(), Fail> {
-    check(&rt, 1, &EACH_PAIR)
+fn numbers_of_each_pair(rt: HostRuntime) {
+    check(&rt, 1, &EACH_PAIR);
 }
 
 static EACH_PAIR: [Step<'static>; 3] = [
@@ -346,8 +349,8 @@ static EACH_PAIR: [Step<'static>; 3] = [
 
 /// A frame for another node is NotMine, and accepting it changes nothing.
 #[test]
-fn frame_for_another_node(rt: HostRuntime) -> Result<(), Fail> {
-    check(&rt, 1, &ANOTHER_NODE)
+fn frame_for_another_node(rt: HostRuntime) {
+    check(&rt, 1, &ANOTHER_NODE);
 }
 
 static ANOTHER_NODE: [Step<'static>; 4] = [
@@ -358,23 +361,22 @@ static ANOTHER_NODE: [Step<'static>; 4] = [
 ];
 
 /// Node 1 keeps so many messages for node 0.
-fn keep_many(link: &mut Link<Global>, count: u64) -> Result<(), Fail>
+fn keep_many(rt: &impl Abort, link: &mut Link<Global>, count: u64)
     requires { length link.old.peers ≡ NODES }
     ensures { length link.new.peers ≡ NODES }
 {
     for _ in 0..count {
-        keeps(link, 1, 0, Load::Request)?;
+        keeps(rt, link, 1, 0, Load::Request);
     }
-    Ok(())
 }
 
 /// A pulse sends the first 32 of the messages that are kept, and an acknowledgement of more than was
 /// sent drops none of them.
 #[test]
-fn more_kept_than_a_pulse(rt: HostRuntime) -> Result<(), Fail> {
-    let mut link = Link::new(rt.alloc(), 1, NODES)?;
-    keep_many(&mut link, 34)?;
-    check_link(&rt, &mut link, 1, &MORE_KEPT)
+fn more_kept_than_a_pulse(rt: HostRuntime) {
+    let mut link = link_of(&rt, 1);
+    keep_many(&rt, &mut link, 34);
+    check_link(&rt, &mut link, 1, &MORE_KEPT);
 }
 
 static MORE_KEPT: [Step<'static>; 7] = [
@@ -389,10 +391,10 @@ static MORE_KEPT: [Step<'static>; 7] = [
 
 /// A message before which another one is missing is Ahead and is owed nothing.
 #[test]
-fn a_message_ahead(rt: HostRuntime) -> Result<(), Fail> {
+fn a_message_ahead(rt: HostRuntime) {
     delivers_in_order();
-    check(&rt, 1, &SENDS_TWO)?;
-    check(&rt, 0, &AHEAD)
+    check(&rt, 1, &SENDS_TWO);
+    check(&rt, 0, &AHEAD);
 }
 
 static SENDS_TWO: [Step<'static>; 2] = [

@@ -1,6 +1,21 @@
 //! What a manager of pages is told of one page, as rows of tables.
+use crate::common::PAIR;
+use ivy_model::{Config, Kind};
 use ivy_pagetable::Manager;
 use std::process::Abort;
+
+/// Four nodes that manage eight pages: node 1 manages pages 1 and 5, node 2 pages 2 and 6.
+pub(crate) const MANAGED: Config = Config {
+    nodes: 4,
+    pages: 8,
+    ..PAIR
+};
+
+/// The same by hints.
+pub(crate) const HINTED: Config = Config {
+    manager: Kind::Dynamic,
+    ..MANAGED
+};
 
 /// What a manager is told.
 #[derive(Clone, Copy)]

@@ -1,24 +1,17 @@
-//! Calls at one of two nodes, under managing nodes.
+//! Calls at one of two nodes, under managing nodes. Node 0 keeps the owner of page 0, where the counts are.
 ghost use Rattle.ivy_model.specs.stated.Legal.{HasWidth};
 
+use crate::common::{Growing, PAIR, Scene, Stepped, expect_scene, refuse_each};
 use crate::letters::{Bytes, Letter, Said, message, received};
 use crate::posted::Posted;
 use ivy_fixed::FixedManager;
 use ivy_memory::{CallProgress, Memory};
-use ivy_model::{Call, Config, Fault, Kind, Reply};
+use ivy_model::{Call, Fault, Reply};
 use ivy_wire::Message;
 use std::alloc::Allocator;
 use std::marker::Model;
 use std::process::Abort;
-use std::test::Fail;
-
-/// Two nodes, and two pages of 64 bytes. Node 0 keeps the owner of page 0, where the counts are.
-const PAIR: Config = Config {
-    nodes: 2,
-    pages: 2,
-    page_size: 64,
-    manager: Kind::Fixed,
-};
+use test_support::Failing;
 
 /// One of the two nodes, and what it posts.
 #[derive(Drop)]
@@ -33,7 +26,7 @@ impl<A: Allocator> Model for Node<A> {
     ghost use Rattle.ivy_wire.specs.stated.Data as wire;
     ghost use Rattle.ivy_fixed.specs.stated.Fixed.{Owners};
     ghost use Rattle.ivy_memory.specs.stated.Memories as memories;
-    ghost use Rattle.test_layers.specs.declared.memory.TheConstants.{PAIR};
+    ghost use Rattle.test_layers.specs.declared.common.TheConstants.{PAIR};
     ghost use Rattle.std.specs.Coded.{codes};
     ghost use Rattle.ivy_pagetable.specs.stated.NodeSets.{nodes_code};
     ghost use Rattle.ivy_alloc.specs.Heap.{heap_state_code};
@@ -76,59 +69,50 @@ pub(crate) enum Step {
 }
 
 impl<A: Allocator + Copy> Node<A> {
-    /// Node `me`, with this memory, in which its messages are kept, too.
-    pub(crate) fn new(alloc: A, me: u8) -> Result<Node<A>, Fail> {
-        PAIR.check()?;
-        if me >= PAIR.nodes {
-            return Err("no such node".into());
-        }
-        let manager = FixedManager::new(alloc, &PAIR, me)?;
-        Ok(Node {
-            memory: Memory::new(alloc, &PAIR, me, manager)?,
-            posted: Posted::new(alloc, PAIR, me),
-        })
-    }
-
     /// Whether a call comes to this.
-    fn begins(&mut self, call: Call, number: u64, outcome: Outcome) -> Result<bool, Fail>
+    fn begins(&mut self, rt: &impl Abort, call: Call, number: u64, outcome: Outcome) -> bool
         requires { HasWidth call }
     {
-        if number == 0 {
-            return Err("calls are numbered from 1".into());
-        }
+        assert!(rt; number != 0);
         match self.memory.begin(call, number, &mut self.posted) {
-            Ok(answer) => Ok(outcome == Ok(answer)),
-            Err(fault) => Ok(outcome == Err(fault)),
+            Ok(answer) => outcome == Ok(answer),
+            Err(fault) => outcome == Err(fault),
         }
     }
 
     /// Whether the reply of the call comes to this.
-    fn polls(&mut self, outcome: Outcome) -> Result<bool, Fail> {
+    fn polls(&mut self, outcome: Outcome) -> bool {
         match self.memory.poll_reply(&mut self.posted) {
-            Ok(answer) => Ok(outcome == Ok(answer)),
-            Err(fault) => Ok(outcome == Err(fault)),
+            Ok(answer) => outcome == Ok(answer),
+            Err(fault) => outcome == Err(fault),
         }
     }
 
     /// Whether a message of the other node comes to this.
     fn takes(
         &mut self,
+        rt: &impl Abort,
         from: u8,
         message: Message<&[u8]>,
         outcome: Result<(), Fault>,
-    ) -> Result<bool, Fail> {
-        let message = received(&PAIR, from, self.posted.node(), message)?;
+    ) -> bool {
+        let message = received(rt, &PAIR, from, self.posted.node(), message);
         match self.memory.handle(from, message, &mut self.posted) {
-            Ok(()) => Ok(outcome == Ok(())),
-            Err(fault) => Ok(outcome == Err(fault)),
+            Ok(()) => outcome == Ok(()),
+            Err(fault) => outcome == Err(fault),
         }
     }
 
     /// Whether the message that another node posted last is this letter to this node, and is taken.
-    pub(crate) fn takes_last(&mut self, other: &Posted<A>, letter: Letter) -> Result<bool, Fail> {
+    pub(crate) fn takes_last(
+        &mut self,
+        rt: &impl Abort,
+        other: &Posted<A>,
+        letter: Letter,
+    ) -> bool {
         match other.last_to(self.posted.node(), letter) {
-            Some(parcel) => self.takes(parcel.source, parcel.message.lent(), Ok(())),
-            None => Ok(false),
+            Some(parcel) => self.takes(rt, parcel.source, parcel.message.lent(), Ok(())),
+            None => false,
         }
     }
 
@@ -136,69 +120,70 @@ impl<A: Allocator + Copy> Node<A> {
     pub(crate) fn posts(&self) -> &Posted<A> {
         &self.posted
     }
+}
 
-    /// Whether the step goes as it says.
-    pub(crate) fn goes(&mut self, step: &Step) -> Result<bool, Fail> {
+impl<A: Allocator + Copy> Stepped<A> for Node<A> {
+    type Step = Step;
+
+    fn new(rt: &impl Abort, alloc: A, me: u8) -> Node<A> {
+        PAIR.check().expect(rt, "a configuration");
+        assert!(rt; me < PAIR.nodes);
+        let manager = FixedManager::new(alloc, &PAIR, me).expect(rt, "memory");
+        Node {
+            memory: Memory::new(alloc, &PAIR, me, manager).expect(rt, "memory"),
+            posted: Posted::new(alloc, PAIR, me),
+        }
+    }
+
+    fn goes(&mut self, rt: &impl Abort, step: &Step) -> bool {
         match step {
             Step::Awaits(least, number, outcome) => {
                 let call = Call::Await {
                     k: 0,
                     least: *least,
                 };
-                self.begins(call, *number, *outcome)
+                self.begins(rt, call, *number, *outcome)
             }
-            Step::Reads(k, number, outcome) => self.begins(
-                Call::Count { k: *k },
-                *number,
-                *outcome,
-            ),
+            Step::Reads(k, number, outcome) => {
+                self.begins(rt, Call::Count { k: *k }, *number, *outcome)
+            }
             Step::Advances(k, number, outcome) => {
-                self.begins(Call::Advance { k: *k }, *number, *outcome)
+                self.begins(rt, Call::Advance { k: *k }, *number, *outcome)
             }
             Step::Allocates(size, number, outcome) => {
-                self.begins(Call::Alloc { size: *size }, *number, *outcome)
+                self.begins(rt, Call::Alloc { size: *size }, *number, *outcome)
             }
             Step::Frees(addr, number, outcome) => {
-                self.begins(Call::Free { addr: *addr }, *number, *outcome)
+                self.begins(rt, Call::Free { addr: *addr }, *number, *outcome)
             }
             Step::Polls(outcome) => self.polls(*outcome),
-            Step::Comes(from, letter) => self.takes(*from, message(0, *letter), Ok(())),
+            Step::Comes(from, letter) => self.takes(rt, *from, message(0, *letter), Ok(())),
             Step::Refuses(from, letter) => {
-                self.takes(*from, message(0, *letter), Err(Fault::Memory))
+                self.takes(rt, *from, message(0, *letter), Err(Fault::Memory))
             }
             Step::IsFull(is_full) => {
                 self.posted.refuse(*is_full);
-                Ok(true)
+                true
             }
-            Step::Posted(number) => Ok(self.posted.parcels().len() == *number),
-            Step::Asked(call) => Ok(self.memory.asked() == *call),
-            Step::Breaches(number) => Ok(self.memory.breaches() == *number),
+            Step::Posted(number) => self.posted.parcels().len() == *number,
+            Step::Asked(call) => self.memory.asked() == *call,
+            Step::Breaches(number) => self.memory.breaches() == *number,
         }
     }
-}
 
-/// The steps of a node, and all that it posts: each message with the node that it goes to.
-pub(crate) struct Scene<'a> {
-    pub(crate) me: u8,
-    pub(crate) steps: &'a [Step],
-    pub(crate) posted: &'a [(u8, Letter)],
-}
-
-pub(crate) fn check_node<A: Allocator + Copy>(
-    rt: &impl Abort,
-    node: &mut Node<A>,
-    scene: &Scene,
-) -> Result<(), Fail> {
-    for (index, step) in scene.steps.iter().enumerate() {
-        assert!(rt; node.goes(step)?, "step {index}");
+    fn has_posted(&self, wanted: &[(u8, Letter)]) -> bool {
+        self.posted.are(0, wanted)
     }
-    assert!(rt; node.posted.are(0, scene.posted));
-    Ok(())
 }
 
-pub(crate) fn check<R: Abort + AllocGlobal>(rt: &R, scene: &Scene) -> Result<(), Fail> {
-    let mut node = Node::new(rt.alloc(), scene.me)?;
-    check_node(rt, &mut node, scene)
+pub(crate) fn check(rt: &(impl Abort + AllocGlobal), scene: &Scene<Step>) {
+    let mut node = Node::new(rt, rt.alloc(), scene.me);
+    expect_scene(rt, &mut node, scene);
+}
+
+pub(crate) fn refuse(rt: &(impl Abort + AllocGlobal), growing: &Growing<Step>) {
+    let memory = Failing::new(rt.alloc());
+    refuse_each::<Node<_>>(rt, &memory, growing);
 }
 
 /// The reply of a count at 0, and of one at its greatest value.
@@ -209,11 +194,11 @@ const MOST: Outcome = Ok(CallProgress::Given(Reply::Value(u64::MAX)));
 /// An awaited count comes too low. The word is tried again without an answer, and nothing is posted; once the
 /// copy is given up it faults again, under the same number; and the next copy has the count.
 #[test]
-fn an_await_without_a_copy(rt: HostRuntime) -> Result<(), Fail> {
-    check(&rt, &WITHOUT_A_COPY)
+fn an_await_without_a_copy(rt: HostRuntime) {
+    check(&rt, &WITHOUT_A_COPY);
 }
 
-static WITHOUT_A_COPY: Scene<'static> = Scene {
+static WITHOUT_A_COPY: Scene<'static, Step> = Scene {
     me: 1,
     steps: &[
         Step::Awaits(1, 3, Ok(CallProgress::Awaited)),
@@ -246,11 +231,11 @@ static WITHOUT_A_COPY: Scene<'static> = Scene {
 
 /// The owner awaits a count that is too low yet, and asks nobody until it has given the page away.
 #[test]
-fn an_await_of_the_owner(rt: HostRuntime) -> Result<(), Fail> {
-    check(&rt, &OWNER_AWAITS)
+fn an_await_of_the_owner(rt: HostRuntime) {
+    check(&rt, &OWNER_AWAITS);
 }
 
-static OWNER_AWAITS: Scene<'static> = Scene {
+static OWNER_AWAITS: Scene<'static, Step> = Scene {
     me: 0,
     steps: &[
         Step::Awaits(0, 1, ZERO),
@@ -272,11 +257,11 @@ static OWNER_AWAITS: Scene<'static> = Scene {
 /// A call beside one in progress is refused with 18, be it one that hits, is refused or wants to post, and the one
 /// in progress goes on.
 #[test]
-fn a_call_beside_another(rt: HostRuntime) -> Result<(), Fail> {
-    check(&rt, &BESIDE_ANOTHER)
+fn a_call_beside_another(rt: HostRuntime) {
+    check(&rt, &BESIDE_ANOTHER);
 }
 
-static BESIDE_ANOTHER: Scene<'static> = Scene {
+static BESIDE_ANOTHER: Scene<'static, Step> = Scene {
     me: 0,
     steps: &[
         Step::Awaits(1, 1, Ok(CallProgress::Awaited)),

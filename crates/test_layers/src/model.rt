@@ -1,18 +1,11 @@
 //! The flat memory, the order checker, the limits of a configuration and the texts of faults.
-use crate::common::expect_same;
+use crate::common::{PAIR, expect_same};
 use ivy_model::{Call, Config, Fault, Kind, Record, Reply, access_refusal, check_order};
 use std::process::Abort;
 
-const SMALL: Config = Config {
-    nodes: 2,
-    pages: 2,
-    page_size: 64,
-    manager: Kind::Fixed,
-};
-
 /// Whether the smallest memory can make these records, in this order.
 fn is_order(rt: &(impl Abort + AllocGlobal), records: &[Record]) -> bool {
-    check_order(rt.alloc(), &SMALL, records).expect(rt, "memory")
+    check_order(rt.alloc(), &PAIR, records).expect(rt, "memory")
 }
 
 /// Whether node 0 can be answered so by the smallest memory, in this order.
@@ -68,41 +61,35 @@ fn expect_checked(rt: &impl Abort, configs: &[Config], wanted: Result<(), Fault>
 #[test]
 fn limits(rt: HostRuntime) {
     let accepted = [
-        SMALL,
-        Config { nodes: 32, ..SMALL },
-        Config {
-            pages: 256,
-            ..SMALL
-        },
+        PAIR,
+        Config { nodes: 32, ..PAIR },
+        Config { pages: 256, ..PAIR },
         Config {
             page_size: 4096,
-            ..SMALL
+            ..PAIR
         },
         Config {
             manager: Kind::Dynamic,
-            ..SMALL
+            ..PAIR
         },
     ];
     expect_checked(&rt, &accepted, Ok(()));
     let refused = [
-        Config { nodes: 1, ..SMALL },
-        Config { nodes: 33, ..SMALL },
-        Config { pages: 1, ..SMALL },
-        Config {
-            pages: 257,
-            ..SMALL
-        },
+        Config { nodes: 1, ..PAIR },
+        Config { nodes: 33, ..PAIR },
+        Config { pages: 1, ..PAIR },
+        Config { pages: 257, ..PAIR },
         Config {
             page_size: 32,
-            ..SMALL
+            ..PAIR
         },
         Config {
             page_size: 96,
-            ..SMALL
+            ..PAIR
         },
         Config {
             page_size: 8192,
-            ..SMALL
+            ..PAIR
         },
     ];
     expect_checked(&rt, &refused, Err(Fault::BadConfig));
@@ -110,18 +97,18 @@ fn limits(rt: HostRuntime) {
 
 #[test]
 fn wide_limits(rt: HostRuntime) {
-    let with_pages = |pages| Config { pages, ..SMALL };
+    let with_pages = |pages| Config { pages, ..PAIR };
     for pages in [2, 256, 257, 65_536] {
         expect_same(&rt, with_pages(pages).check_wide(), Ok(()));
     }
     for pages in [0, 1, 65_537, u32::MAX] {
         expect_same(&rt, with_pages(pages).check_wide(), Err(Fault::BadConfig));
     }
-    let nodes = Config { nodes: 33, ..SMALL };
+    let nodes = Config { nodes: 33, ..PAIR };
     expect_same(&rt, nodes.check_wide(), Err(Fault::BadConfig));
     let page_size = Config {
         page_size: 96,
-        ..SMALL
+        ..PAIR
     };
     expect_same(&rt, page_size.check_wide(), Err(Fault::BadConfig));
 }
@@ -183,11 +170,11 @@ fn refused_accesses(rt: HostRuntime) {
     ];
     assert!(rt; is_legal(&rt, &answers));
     assert!(rt; !is_legal(&rt, &[(load(3, 66), Reply::Value(0))]));
-    expect_same(&rt, access_refusal(&SMALL, 8, 120), None);
-    expect_same(&rt, access_refusal(&SMALL, 8, 121), Some(3));
-    expect_same(&rt, access_refusal(&SMALL, 1, 128), Some(4));
-    expect_same(&rt, access_refusal(&SMALL, 1, 0), Some(5));
-    expect_same(&rt, access_refusal(&SMALL, 8, 129), Some(3));
+    expect_same(&rt, access_refusal(&PAIR, 8, 120), None);
+    expect_same(&rt, access_refusal(&PAIR, 8, 121), Some(3));
+    expect_same(&rt, access_refusal(&PAIR, 1, 128), Some(4));
+    expect_same(&rt, access_refusal(&PAIR, 1, 0), Some(5));
+    expect_same(&rt, access_refusal(&PAIR, 8, 129), Some(3));
 }
 
 #[test]

@@ -9,7 +9,6 @@ use ivy_pagetable::{
 };
 use std::alloc::Global;
 use std::process::Abort;
-use std::test::Fail;
 
 const CONFIG: Config = Config {
     nodes: 4,
@@ -62,8 +61,8 @@ fn sets_as_numbers(rt: HostRuntime) {
 }
 
 #[test]
-fn numbers_have_their_highest_byte_first(rt: HostRuntime) -> Result<(), Fail> {
-    let mut table = PageTable::new(rt.alloc(), &CONFIG, 0)?;
+fn numbers_have_their_highest_byte_first(rt: HostRuntime) {
+    let mut table = PageTable::new(rt.alloc(), &CONFIG, 0).expect(&rt, "memory");
     let store = Word::Store {
         width: 1,
         offset: 64,
@@ -76,7 +75,6 @@ fn numbers_have_their_highest_byte_first(rt: HostRuntime) -> Result<(), Fail> {
     expect_same(&rt, table.carry_out(1, store), Out::Done);
     expect_same(&rt, table.carry_out(1, load), Out::Value(512));
     expect_same(&rt, table.carry_out(0, load), Out::Value(0));
-    Ok(())
 }
 
 /// A swap is written, and gives the number that stood there.
@@ -131,8 +129,8 @@ fn fetch_and_add_of_two_bytes(rt: HostRuntime) {
 
 /// The number that stands where a word is to be stored.
 #[test]
-fn number_of_a_word(rt: HostRuntime) -> Result<(), Fail> {
-    let mut table = PageTable::new(rt.alloc(), &CONFIG, 0)?;
+fn number_of_a_word(rt: HostRuntime) {
+    let mut table = PageTable::new(rt.alloc(), &CONFIG, 0).expect(&rt, "memory");
     table.install(1, [1u8; 128].as_slice());
     let store = Word::Store {
         width: 2,
@@ -140,7 +138,6 @@ fn number_of_a_word(rt: HostRuntime) -> Result<(), Fail> {
         value: 3,
     };
     expect_same(&rt, table.number(1, store), 257);
-    Ok(())
 }
 
 #[test]

@@ -2,21 +2,15 @@
 ghost use Rattle.std.specs.Prelude.{◌≡◌, length};
 ghost use Rattle.ivy_pagetable.specs.stated.Words.{IsWord};
 
-use crate::common::expect_same;
-use ivy_model::{Config, Kind};
+use crate::common::{PAIR, expect_same};
+use ivy_model::Config;
 use ivy_pagetable::{NodeTable, Out, Word};
 use std::alloc::{Allocator, Global};
 use std::process::Abort;
-use std::test::Fail;
 use test_support::Failing;
 
 /// More pages than a node makes as it begins.
-const WIDE: Config = Config {
-    nodes: 2,
-    pages: 257,
-    page_size: 64,
-    manager: Kind::Fixed,
-};
+const WIDE: Config = Config { pages: 257, ..PAIR };
 
 const LOAD: Word = Word::Load {
     width: 8,

@@ -1,20 +1,12 @@
 //! Frames as strings of bytes: the worked examples, and each fault of a string that spells no frame.
-use crate::common::{expect_items, expect_same, expect_same_at};
-use ivy_model::{Config, Fault, Kind};
+use crate::common::{PAIR, expect_items, expect_same, expect_same_at};
+use ivy_model::{Config, Fault};
 use ivy_wire::{
     Bytes, Content, Frame, FrameKind, Message, OwnedPage, decode, destination, encode,
     grammar_is_prefix_free, read_frame,
 };
 use std::alloc::Global;
 use std::process::Abort;
-
-/// Two nodes, and two pages of 64 bytes.
-pub(crate) const PAIR: Config = Config {
-    nodes: 2,
-    pages: 2,
-    page_size: 64,
-    manager: Kind::Fixed,
-};
 
 /// A third node.
 const THREE: Config = Config { nodes: 3, ..PAIR };

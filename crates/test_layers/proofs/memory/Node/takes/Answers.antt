@@ -10,7 +10,7 @@ pub invariant_of-self : goal.invariant_of-self
 invariant_of-self g c =
     let same =
     told-same fixed_ops c.self.inside.memory c.args.from
-    (owned_message c.in_ok-message.message) in
+    (owned_message c.received-message.result) in
     elim c.match-handle.branch [
       | in-Ok w ↦ (
         ap (λ x. x.coherence.config) w.in-Ok.ensures.ok ∙ same.config ∙ c.self.invariant.0,
