@@ -1,6 +1,7 @@
-/* What plain pointers take, between two processes: a hit beside plain memory; a read miss, a raise, a write miss and a hand-over
- * beside the same by a call on a page that is never lent, by turns in one run. Started by ivyrun -n 2. What is told is the least, a
- * tenth and the median of all, in microseconds, and how often the call's. */
+/* What plain pointers take, between two processes: a hit beside plain memory; a read miss, a raise and a write miss beside the same by
+ * a call on a page that is never lent, by turns in one run. Started by ivyrun -n 2. What is told is the least, a tenth and the median
+ * of all, in microseconds, and how often the call's. With a number of seconds: all processes write one page without a pause so long,
+ * and what is told is how long one of them did not go on, at most. */
 #ifndef _GNU_SOURCE
 #define _GNU_SOURCE
 #endif
@@ -79,6 +80,32 @@ static double hits(volatile uint64_t *words) {
   return least * 1000 / HITS;
 }
 
+typedef struct { uint64_t all, laps[32]; double longest[32]; } shared_page;
+
+static void share(shared_page *page, double seconds) {
+  double last, now, end;
+  ivy_map_barrier(ivy);
+  last = now_us();
+  end = last + seconds * 1e6;
+  while ((now = now_us()) < end) {
+    if (now - last > page->longest[me]) page->longest[me] = now - last;
+    last = now;
+    for (int i = 0; i < 100; i++) __atomic_fetch_add(&page->all, 1, __ATOMIC_SEQ_CST);
+    page->laps[me] += 100;
+  }
+  ivy_map_barrier(ivy);
+  double longest = 0;
+  uint64_t laps = 0;
+  for (uint32_t i = 0; i < ivy_nodes(ivy); i++) {
+    laps += page->laps[i];
+    if (page->longest[i] > longest) longest = page->longest[i];
+  }
+  if (laps != page->all) wrong();
+  if (me == 0) printf("%s: one page that %u processes write for %.0f s: one stood still for %.0f ms at most, %.1f million additions\n",
+                      ivy_map_image(ivy), ivy_nodes(ivy), seconds, longest / 1000, (double)laps / 1e6);
+  ivy_map_barrier(ivy);
+}
+
 int main(int argc, char **argv) {
   static const char *const names[] = { "a read miss", "a raise", "a write miss" };
   static samples own, other;
@@ -92,6 +119,11 @@ int main(int argc, char **argv) {
   ivy_exit_on_error(ivy, 1);
   me = ivy_me(ivy);
   if (me == 0) *ivy_map_root(ivy) = ivy_map_malloc_pages(ivy, 4096);
+  if (argc > 1) {
+    ivy_map_barrier(ivy);
+    share((shared_page *)*ivy_map_root(ivy), atof(argv[1]));
+    return ivy_finalize(ivy);
+  }
   meet();
   volatile uint64_t *word = (volatile uint64_t *)*ivy_map_root(ivy);
   if (me == 1) {

@@ -32,32 +32,25 @@ enum { WINDOW_US = 200, FAILURES = 3, RAN_NS = 10000, LATE_US = 20000 };
 /* No more strings of a peer are kept back; it makes them again. */
 enum { MOST_KEPT = 64 };
 
-/* With so few pages that may be written nobody is asked which of them were; and with more than so many, where the kernel says
- * which, or where all are copied, some may be read alone from then on. */
-enum { FEW = 24, MOST_SCANNED = 8192, MOST_COPIED = 4096, STRETCHES = 64 };
-
-static uint64_t address_of(uint32_t page) { return (uint64_t)page * MAP_PAGE; }
+/* With so few open pages all are kept before a call, and stay open; and at most so many are opened in a row. */
+enum { FEW = 24, MOST_ROW = 256, SCATTERED = 8 };
 
 /* ---- A page goes back -------------------------------------------------------------------------------------------------- */
 
 /* The node has what stands in the image. While a call is in progress nothing happens: it was kept before that began. */
 static void keep_page(ivy_process *p, uint32_t page, const uint8_t *bytes) {
   size_t words = 0;
-  ivy_store_block(&p->node, address_of(page), bytes, MAP_PAGE, &words);
+  ivy_store_block(&p->node, ivy_in_map_address(page), bytes, MAP_PAGE, &words);
   p->map->counts.kept += words > 0;
 }
 
-static void set_lent(ivy_mapping *map, uint32_t page, uint32_t lent) {
+static void close_page(ivy_mapping *map, uint32_t page) {
   map_page *it = &map->pages[page];
-  if (it->lent == IVY_TO_WRITE) {
-    uint32_t last = map->written[--map->writes];
-    map->written[it->place] = last;
-    map->pages[last].place = it->place;
-  }
-  it->lent = (uint8_t)lent;
-  if (lent != IVY_TO_WRITE) return;
-  it->place = map->writes;
-  map->written[map->writes++] = page;
+  if (!it->is_open) return;
+  uint32_t last = map->open[--map->opens];
+  map->open[it->place] = last;
+  map->pages[last].place = it->place;
+  it->is_open = 0;
 }
 
 /* Takes a page from the program, but for what it may be lent for then: first from its eyes, then its bytes, then the mark. */
@@ -65,51 +58,99 @@ static void take(ivy_process *p, uint32_t page, uint32_t on) {
   ivy_mapping *map = p->map;
   map_page *it = &map->pages[page];
   const uint8_t *bytes = ivy_in_map_at(map->bytes, page);
-  if (it->shown > on) bytes = map->image->lower(map, page, on);
-  if (it->lent == IVY_TO_WRITE) keep_page(p, page, bytes);
+  if (it->shown > on) bytes = map->image->lower(map, page, 1, on);
+  if (it->is_open) keep_page(p, page, bytes);
+  close_page(map, page);
   if (it->shown > on) it->shown = (uint8_t)on;
-  set_lent(map, page, on);
+  it->lent = (uint8_t)on;
   ivy_give_back(&p->node, page, on);
   map->gave = 1;
   map->counts.taken++;
 }
 
-/* All pages that may be written, of which the kernel says which of them were. */
-static void keep_written(ivy_process *p) {
-  ivy_mapping *map = p->map;
-  map_stretch found[STRETCHES];
-  uint32_t from = map->count, end = 0, many;
-  for (uint32_t i = 0; i < map->writes; i++) {
-    if (map->written[i] < from) from = map->written[i];
-    if (map->written[i] >= end) end = map->written[i] + 1;
-  }
-  while ((many = ivy_in_map_written(map, &from, end, found, STRETCHES)))
-    for (uint32_t i = 0; i < many; i++)
-      for (uint32_t page = found[i].first; page < found[i].end; page++)
-        if (map->pages[page].lent == IVY_TO_WRITE) keep_page(p, page, ivy_in_map_at(map->bytes, page));
+static void keep_open(ivy_process *p, uint32_t page) {
+  if (p->map->pages[page].is_open) keep_page(p, page, ivy_in_map_at(p->map->bytes, page));
 }
 
-/* Where other threads go on during the call, they write no more. While the only one waits for a page, all is kept already. */
+/* The open pages of which the kernel says that they were written. */
+static void keep_written(ivy_process *p) {
+  const ivy_mapping *map = p->map;
+  uint32_t from = map->count, end = 0;
+  for (uint32_t i = 0; i < map->opens; i++) {
+    if (map->open[i] < from) from = map->open[i];
+    if (map->open[i] >= end) end = map->open[i] + 1;
+  }
+  ivy_in_map_written(p, from, end, keep_open);
+}
+
+/* So many open pages, from one in their list on, are in a row. */
+static uint32_t row_at(const ivy_mapping *map, uint32_t place) {
+  const map_page *first = &map->pages[map->open[place]];
+  uint32_t many = 1;
+  while (place + many < map->opens && map->open[place + many] == map->open[place] + many && first[many].shown == first->shown) many++;
+  return many;
+}
+
+/* The open pages may be stored no more: those in a row together. */
+static void lower_open(ivy_mapping *map) {
+  for (uint32_t i = 0, many; i < map->opens; i += many) {
+    map_page *first = &map->pages[map->open[i]];
+    many = row_at(map, i);
+    if (first->shown == IVY_TO_WRITE) map->image->lower(map, map->open[i], many, IVY_TO_READ);
+    for (uint32_t k = 0; k < many; k++)
+      if (first[k].shown == IVY_TO_WRITE) first[k].shown = IVY_TO_READ;
+  }
+}
+
+/* Whether what may have been written is to be closed: other threads go on during a call; or it is much, and in long rows; or nobody
+ * tells what of it was written, which the kernel is asked for where such pages are scattered time after time. */
+static int must_close(ivy_process *p) {
+  ivy_mapping *map = p->map;
+  uint32_t rows = 0;
+  if (p->shared || map->lowers || map->opens <= FEW) return p->shared || map->lowers;
+  for (uint32_t i = 0; i < map->opens; i += row_at(map, i)) rows++;
+  if (rows * FEW < map->opens) return 1;
+  if (++map->scattered == SCATTERED) ivy_in_map_watch(map);
+  return map->scanner < 0;
+}
+
+/* Before a call all is kept that may have been written. What is closed opens again by faults. While the only thread waits for a
+ * page, all is kept already. */
 void ivy_in_map_keep(ivy_process *p) {
   ivy_mapping *map = p->map;
-  uint32_t most = p->shared || map->lowers ? 0 : map->scanner >= 0 ? MOST_SCANNED : MOST_COPIED;
   if (map->waits) return;
-  while (map->writes > most) take(p, map->written[map->turn++ % map->writes], IVY_TO_READ);
-  if (map->scanner >= 0 && map->writes > FEW) {
-    keep_written(p);
-  } else {
-    for (uint32_t i = 0; i < map->writes; i++) keep_page(p, map->written[i], ivy_in_map_at(map->bytes, map->written[i]));
-  }
+  int closes = must_close(p);
+  if (closes) lower_open(map);
+  if (!closes && map->opens > FEW) keep_written(p);
+  else for (uint32_t i = 0; i < map->opens; i++) keep_open(p, map->open[i]);
+  while (closes && map->opens) close_page(map, map->open[map->opens - 1]);
 }
 
 /* ---- A page comes -------------------------------------------------------------------------------------------------------- */
 
+/* Pages in a row that are closed are opened together, twice as many where the last ones came just before. */
+static uint32_t row_from(ivy_mapping *map, uint32_t page) {
+  const map_page *first = &map->pages[page];
+  uint32_t many = 1;
+  map->row = page != map->next ? 1 : map->row < MOST_ROW ? 2 * map->row : map->row;
+  while (many < map->row && page + many < map->count && first[many].lent == IVY_TO_WRITE && first[many].shown == IVY_TO_READ) many++;
+  map->next = page + many;
+  return many;
+}
+
 static void show(ivy_mapping *map, uint32_t page, uint32_t to) {
   map_page *it = &map->pages[page];
+  uint32_t many = 1;
   if (it->shown >= to) return;
   if (it->shown == IVY_UNLENT) map->image->show(map, page, to);
-  else map->image->raise(map, page);
-  it->shown = (uint8_t)to;
+  else map->image->raise(map, page, many = row_from(map, page));
+  for (uint32_t i = 0; i < many; i++) {
+    it[i].shown = (uint8_t)to;
+    if (to != IVY_TO_WRITE || it[i].is_open) continue;
+    it[i].is_open = 1;
+    it[i].place = map->opens;
+    map->open[map->opens++] = page + i;
+  }
 }
 
 /* Lends a page that is here, with the bytes that the node has, and shows it. */
@@ -119,12 +160,12 @@ static uint32_t lend(ivy_process *p, uint32_t page, uint32_t to) {
   size_t words = 0;
   if (it->lent == IVY_UNLENT) {
     uint8_t *room = map->room ? map->room : ivy_in_map_at(map->bytes, page);
-    ivy_load_block(&p->node, address_of(page), room, MAP_PAGE, &words);
+    ivy_load_block(&p->node, ivy_in_map_address(page), room, MAP_PAGE, &words);
     if (words * 8 != MAP_PAGE) return IVY_NO_PAGE;
   }
   uint32_t status = ivy_lend(&p->node, page, to);
   if (status != IVY_DONE) return status;
-  set_lent(map, page, to);
+  it->lent = (uint8_t)to;
   show(map, page, to);
   it->until = ivy_in_now() + WINDOW_US;
   return IVY_DONE;
@@ -139,6 +180,7 @@ static void take_reply(ivy_process *p) {
   if (status >= 256) return;
   map->asking = 0;
   map->answer = status == IVY_DONE ? lend(p, map->page, map->to) : status;
+  map->counts.gone += map->answer != IVY_DONE;
 }
 
 /* ---- Strings ------------------------------------------------------------------------------------------------------------- */
@@ -176,8 +218,7 @@ static void go_on(ivy_process *p, uint32_t peer) {
 static int offer(ivy_process *p, const uint8_t *bytes, size_t len) {
   uint32_t page, on;
   uint32_t status = ivy_in_deliver(p, bytes, len);
-  if (status == IVY_WANTED) {
-    if (ivy_wanted(&p->node, bytes, len, &page, &on) != IVY_WANTED) return 1;
+  if (status == IVY_WANTED && ivy_wanted(&p->node, bytes, len, &page, &on) == IVY_WANTED) {
     if (!may_take(p, page)) return 0;
     take(p, page, on);
     status = ivy_in_deliver(p, bytes, len);
@@ -251,7 +292,7 @@ static uint64_t call_of(ivy_process *p, uint32_t kind, uint32_t width, uint64_t 
 }
 
 static tickets look(ivy_process *p) {
-  uint64_t both = call_of(p, IVY_LOAD, 8, address_of(TOKEN_PAGE), 0);
+  uint64_t both = call_of(p, IVY_LOAD, 8, ivy_in_map_address(TOKEN_PAGE), 0);
   const tickets found = { (uint32_t)(both >> 32), (uint32_t)both };
   return found;
 }
@@ -266,7 +307,7 @@ static void wait_for_ticket(ivy_process *p, uint32_t number) {
 }
 
 static void take_token(ivy_process *p, map_thread *who) {
-  wait_for_ticket(p, (uint32_t)call_of(p, IVY_FETCH_AND_ADD, 4, address_of(TOKEN_PAGE), 1));
+  wait_for_ticket(p, (uint32_t)call_of(p, IVY_FETCH_AND_ADD, 4, ivy_in_map_address(TOKEN_PAGE), 1));
   p->map->has_token = 1;
   p->map->holder = who;
   p->map->shown_at = ivy_in_now();
@@ -276,7 +317,7 @@ static void take_token(ivy_process *p, map_thread *who) {
 void ivy_in_map_end_token(ivy_process *p) {
   if (!p->map->has_token) return;
   p->map->has_token = 0;
-  call_of(p, IVY_FETCH_AND_ADD, 4, address_of(TOKEN_PAGE) + 4, 1);
+  call_of(p, IVY_FETCH_AND_ADD, 4, ivy_in_map_address(TOKEN_PAGE) + 4, 1);
 }
 
 /* The time of a processor that a thread of this process took. */
@@ -291,7 +332,7 @@ static int did_run(const map_thread *who) { return ran(who->thread) - who->ran >
 /* The run is over: the next access tells the program so, also where it looks at a copy that nobody ends. */
 static void hide_all(ivy_mapping *map) {
   for (uint32_t page = ROOT_PAGE; page < map->count; page++) {
-    if (map->pages[page].shown) map->image->lower(map, page, IVY_UNLENT);
+    if (map->pages[page].shown) map->image->lower(map, page, 1, IVY_UNLENT);
     map->pages[page].shown = IVY_UNLENT;
   }
 }
@@ -315,7 +356,7 @@ static uint32_t ask(ivy_process *p, uint32_t page, uint32_t to) {
   ivy_mapping *map = p->map;
   uint64_t value;
   uint32_t status, kind = to == IVY_TO_WRITE ? IVY_FETCH_AND_ADD : IVY_LOAD;
-  while ((status = ivy_begin(&p->node, kind, 1, address_of(page), 0, 0, &value)) == IVY_MEMORY && !p->error) {
+  while ((status = ivy_begin(&p->node, kind, 1, ivy_in_map_address(page), 0, 0, &value)) == IVY_MEMORY && !p->error) {
     p->in_call = 1;
     ivy_in_wait(p);
   }
@@ -355,7 +396,6 @@ uint32_t ivy_in_map_acquire(ivy_process *p, uint32_t page, uint32_t to, map_thre
     uint32_t status = p->error ? p->error : ask(p, page, to);
     map->waits--;
     map->waiting = NULL;
-    map->counts.gone += !has(map, page, to);
     if (status != IVY_DONE && status != IVY_NO_PAGE && status != IVY_MEMORY) return status;
   }
   return p->error;
@@ -398,6 +438,6 @@ void ivy_in_map_fault(ivy_process *p, uint32_t page, uint32_t to, uint32_t threa
   }
   p->exits = 0;
   ivy_in_leave(p);
-  if (!p->dead) fprintf(stderr, "ivy: node %u: an access at %llu: %s\n", p->me, (unsigned long long)address_of(page), ivy_text(status));
+  if (!p->dead) fprintf(stderr, "ivy: node %u: an access at %llu: %s\n", p->me, (unsigned long long)ivy_in_map_address(page), ivy_text(status));
   _exit(ivy_exit_status(status));
 }

@@ -10,9 +10,10 @@
  * see the same bytes: a word of a call has its highest byte first.
  *
  * WHAT CANNOT WORK, since a page may go while somebody who knows no fault has its address: io_uring with fixed buffers, O_DIRECT,
- * vmsplice, buffers of MPI calls. Futexes, pthread mutexes and condition variables wake nobody in another process: take the locks
- * below. read(2) and write(2) with such a pointer answer EFAULT under protection where the page is not here; they work under
- * userfaultfd. A child of fork has none of the memory. Where several threads use pointers, ivy_use_threads says so, before.
+ * vmsplice, buffers of MPI calls. A handler of a signal does not touch the memory. Futexes, pthread mutexes and condition variables
+ * wake nobody in another process: take the locks below. read(2) and write(2) with such a pointer answer EFAULT under protection
+ * where the page is not here; they work under userfaultfd. A child of fork has none of the memory. Where several threads use
+ * pointers, ivy_use_threads says so, before.
  *
  * IVY_IMAGE=userfaultfd or protection says how pages are shown: the first one where it is allowed. An address where nothing is
  * ends the program, with a line that names it; where a peer is dead an access ends it by _exit(3), since it has no status. */
@@ -35,7 +36,7 @@ void *ivy_map_base(const ivy_process *process);
 const char *ivy_map_image(const ivy_process *process);
 
 /* A block at a multiple of 16, or of whole pages that nobody shares, which any process may free; null where there is no room, or
- * after a failure. Its bytes are not set to 0. */
+ * after a failure. Its bytes are 0 where no block was before. */
 void *ivy_map_malloc(ivy_process *process, size_t bytes);
 void *ivy_map_malloc_pages(ivy_process *process, size_t bytes);
 void ivy_map_free(ivy_process *process, void *block);

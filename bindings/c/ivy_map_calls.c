@@ -9,40 +9,21 @@
 
 /* ---- Calls of words, by the image --------------------------------------------------------------------------------------- */
 
-/* A number as the bytes of a word of so many bytes stand in the machine, the highest first; and back. */
-static uint64_t turned(uint64_t number, uint32_t width) {
-#if __BYTE_ORDER__ == __ORDER_LITTLE_ENDIAN__
-  return __builtin_bswap64(number) >> (64 - 8 * width);
-#else
-  return width == 8 ? number : number & ((1ull << 8 * width) - 1);
-#endif
-}
+/* The number of a word of 8 bytes, of which the machine's has them the other way round; and back. */
+static uint64_t turned(uint64_t number) { return __builtin_bswap64(number); }
 
-/* What stands there after a call, if it stores anything. */
-static int stores(const call *c, uint64_t old, uint64_t *to) {
-  uint64_t most = c->width == 8 ? UINT64_MAX : (1ull << 8 * c->width) - 1;
-  *to = (c->kind == IVY_FETCH_AND_ADD ? old + c->operand : c->operand) & most;
-  return c->kind != IVY_LOAD && (c->kind != IVY_COMPARE_AND_SWAP || old == (c->expected & most));
-}
-
-#define AS(type)                                                                                         \
-  do {                                                                                                   \
-    type *word = (type *)at, old = __atomic_load_n(word, __ATOMIC_SEQ_CST);                              \
-    while (stores(c, number = turned(old, c->width), &to)) {                                             \
-      if (__atomic_compare_exchange_n(word, &old, (type)turned(to, c->width), 0, __ATOMIC_SEQ_CST, __ATOMIC_SEQ_CST)) break; \
-    }                                                                                                    \
-  } while (0)
-
-/* Carries a call out on its page, which is lent for it: beside the program's own threads, in one step. */
-static uint64_t carry_out(const call *c, void *at) {
-  uint64_t number = 0, to;
-  switch (c->width) {
-    case 1: AS(uint8_t); break;
-    case 2: AS(uint16_t); break;
-    case 4: AS(uint32_t); break;
-    default: AS(uint64_t); break;
+/* Carries a call out on its page, which is lent for it: in one step of the machine on the 8 bytes in which its word lies, beside the
+ * program's own threads. Gives what stood there. */
+static uint64_t carry_out(const call *c, uint8_t *base) {
+  const uint64_t most = UINT64_MAX >> (64 - 8 * c->width), shift = 64 - 8 * (c->place % 8 + c->width);
+  uint64_t *at = (uint64_t *)(void *)(base + c->place / 8 * 8), old = __atomic_load_n(at, __ATOMIC_SEQ_CST);
+  for (;;) {
+    uint64_t all = turned(old), number = all >> shift & most;
+    uint64_t to = (c->kind == IVY_FETCH_AND_ADD ? number + c->operand : c->operand) & most;
+    if (c->kind == IVY_LOAD || (c->kind == IVY_COMPARE_AND_SWAP && number != (c->expected & most))) return number;
+    to = turned((all & ~(most << shift)) | to << shift);
+    if (__atomic_compare_exchange_n(at, &old, to, 0, __ATOMIC_SEQ_CST, __ATOMIC_SEQ_CST)) return number;
   }
-  return number;
 }
 
 static int is_width(uint32_t width) { return width == 1 || width == 2 || width == 4 || width == 8; }
@@ -73,7 +54,7 @@ uint32_t ivy_in_map_begin(ivy_process *p, const call *c, uint64_t *value) {
   }
   uint32_t status = ivy_in_map_acquire(p, page_of(c->place), c->kind == IVY_LOAD ? IVY_TO_READ : IVY_TO_WRITE, NULL);
   if (status != IVY_DONE) return status;
-  uint64_t number = carry_out(c, p->map->base + c->place);
+  uint64_t number = carry_out(c, p->map->base);
   if (c->kind != IVY_STORE) *value = number;
   if (!p->map->holder) ivy_in_map_end_token(p);
   return status;
@@ -86,10 +67,10 @@ static uint32_t carry_out_row(ivy_process *p, uint32_t kind, uint64_t address, u
   uint32_t status = IVY_DONE;
   if (address % 8 || !ivy_in_map_has(p->map, page_of(address))) {
     for (size_t i = 0; i < many && status == IVY_DONE; i++) {
-      const call c = { kind, 8, address + 8 * i, turned(words[i], 8), 0 };
+      const call c = { kind, 8, address + 8 * i, turned(words[i]), 0 };
       uint64_t value = 0;
       status = ivy_in_call(p, &c, &value);
-      if (kind == IVY_LOAD) words[i] = turned(value, 8);
+      if (kind == IVY_LOAD) words[i] = turned(value);
     }
     return status;
   }
@@ -121,8 +102,6 @@ uint32_t ivy_in_map_row(ivy_process *p, uint32_t kind, uint64_t address, uint8_t
 
 /* ---- Mapping -------------------------------------------------------------------------------------------------------------- */
 
-static uint64_t address_of(uint32_t page) { return (uint64_t)page * MAP_PAGE; }
-
 static uint32_t refuse(const ivy_process *p, uint32_t status, const char *why) {
   fprintf(stderr, "ivy: node %u: memory is not mapped: %s\n", p->me, why);
   return status;
@@ -147,7 +126,7 @@ static uint64_t by_call(ivy_process *p, uint32_t kind, uint64_t place, uint64_t 
 
 /* The first process that maps has the allocator give the pages of the runtime, which are its first block; the others wait. */
 static uint32_t claim(ivy_process *p) {
-  uint64_t claims = address_of(TOKEN_PAGE) + 8, is_claimed = claims + 8, seen = 0;
+  uint64_t claims = ivy_in_map_address(TOKEN_PAGE) + 8, is_claimed = claims + 8, seen = 0;
   uint32_t status = IVY_DONE;
   if (by_call(p, IVY_FETCH_AND_ADD, claims, 1, &status) == 0 && status == IVY_DONE) {
     uint64_t block = by_call(p, IVY_ALLOC, 0, MAP_OWN * MAP_PAGE, &status);
@@ -166,7 +145,7 @@ static void end_mapping(ivy_mapping *map) {
       free(it);
     }
   free(map->pages);
-  free(map->written);
+  free(map->open);
   free(map);
 }
 
@@ -177,10 +156,10 @@ static uint32_t begin_mapping(ivy_process *p) {
   map->process = p;
   map->count = p->config.pages;
   map->pages = (map_page *)calloc(map->count, sizeof *map->pages);
-  map->written = (uint32_t *)calloc(map->count, sizeof *map->written);
+  map->open = (uint32_t *)calloc(map->count, sizeof *map->open);
   for (uint32_t i = 0; i < MOST_NODES; i++) map->end[i] = &map->first[i];
   p->map = map;
-  if (map->pages && map->written && ivy_in_map_catch(p)) {
+  if (map->pages && map->open && ivy_in_map_catch(p)) {
     map->has_thread = map->image->wait && !pthread_create(&map->thread, NULL, map->image->wait, p);
     if (map->has_thread || !map->image->wait) return IVY_DONE;
     ivy_in_map_close(map);
@@ -243,7 +222,7 @@ void ivy_map_free(ivy_process *p, void *block) {
   if (block) ivy_free(p, ((uint64_t *)block)[-1]);
 }
 
-void **ivy_map_root(ivy_process *p) { return (void **)(void *)(p->map->base + address_of(ROOT_PAGE)); }
+void **ivy_map_root(ivy_process *p) { return (void **)(void *)(p->map->base + ivy_in_map_address(ROOT_PAGE)); }
 
 /* ---- Who waits for whom: by calls, which always come to an end -------------------------------------------------------------- */
 
@@ -262,15 +241,15 @@ static void wait_for(ivy_process *p, uint32_t width, uint64_t place, ivy_compari
 }
 
 void ivy_map_barrier(ivy_process *p) {
-  uint64_t nodes = ivy_nodes(p), here = ivy_fetch_add(p, 8, address_of(COUNT_PAGE), 1) + 1;
-  if (here % nodes == 0) ivy_store(p, 8, address_of(ROUND_PAGE), here / nodes);
-  else wait_for(p, 8, address_of(ROUND_PAGE), IVY_GE, (here + nodes - 1) / nodes);
+  uint64_t nodes = ivy_nodes(p), here = ivy_fetch_add(p, 8, ivy_in_map_address(COUNT_PAGE), 1) + 1;
+  if (here % nodes == 0) ivy_store(p, 8, ivy_in_map_address(ROUND_PAGE), here / nodes);
+  else wait_for(p, 8, ivy_in_map_address(ROUND_PAGE), IVY_GE, (here + nodes - 1) / nodes);
 }
 
 /* Who draws does not disturb those that wait: the numbers that are served are on another page. */
 static uint64_t lock_at(uint32_t lock, uint32_t is_served) {
   uint32_t page = LOCK_PAGES + 2 * (lock % LOCK_PAIRS) + is_served;
-  return address_of(page) + 4 * (lock % IVY_MAP_LOCKS / LOCK_PAIRS);
+  return ivy_in_map_address(page) + 4 * (lock % IVY_MAP_LOCKS / LOCK_PAIRS);
 }
 
 void ivy_map_lock_acquire(ivy_process *p, uint32_t lock) {

@@ -3,10 +3,6 @@
 #define IVY_MAP_INSIDE_H
 #include "ivy_inside.h"
 #include "ivy_map.h"
-#ifdef __cplusplus
-extern "C" {
-#endif
-
 enum { MAP_PAGE = 4096, MAP_LEAST = 16 };
 
 /* Pages of the runtime, from 1 on, which are the first block of the heap. All but the root's are used by calls alone. */
@@ -21,17 +17,18 @@ typedef struct {
   int (*open)(ivy_mapping *map);
   /* A page whose bytes are in its room may be loaded, or stored too. */
   void (*show)(ivy_mapping *map, uint32_t page, uint32_t to);
-  /* One that may be loaded may be stored too. */
-  void (*raise)(ivy_mapping *map, uint32_t page);
-  /* It may no more, on any processor, than be loaded, or not even that. Then gives where its bytes stand, until another call. */
-  const uint8_t *(*lower)(ivy_mapping *map, uint32_t page, uint32_t on);
+  /* So many pages that may be loaded may be stored too. */
+  void (*raise)(ivy_mapping *map, uint32_t page, uint32_t many);
+  /* They may no more, on any processor, than be loaded; or it is one, not even that. Then gives where its bytes stand, until
+   * another call. */
+  const uint8_t *(*lower)(ivy_mapping *map, uint32_t page, uint32_t many, uint32_t on);
   /* Waits for faults and serves them, until it ends; null where a signal tells of them. */
   void *(*wait)(void *process);
 } ivy_image;
 
-/* A page: what the node lends of it, what the image shows of it, where it is in the list of those lent to be written, and until
- * when it is kept. */
-typedef struct { int64_t until; uint32_t place; uint8_t lent, shown; } map_page;
+/* A page: until when it is kept; what the node lends of it, what the image shows of it; and whether it is open: it may have been
+ * written since the node had its bytes. Then, where it is in the list of these. */
+typedef struct { int64_t until; uint32_t place; uint8_t lent, shown, is_open; } map_page;
 
 /* A thread that faults: the pages that it had last for what it does, how often they were gone before it could go on, and what
  * time of a processor it had taken when it got the last one. */
@@ -49,11 +46,12 @@ struct ivy_mapping {
   uint8_t *room;  /* where a page is loaded to before it is shown, if that is not in `bytes` */
   uint32_t count;
   map_page *pages;
-  uint32_t *written, writes, turn; /* the pages that are lent to be written; whose turn it is to be so no more */
+  uint32_t *open, opens; /* the pages that are open */
+  uint32_t next, row;    /* the page behind those that were opened last in a row, and how many these were to be at most */
+  uint32_t scattered;    /* so often they were much and not in rows, before a call */
   int scanner, watch, faults; /* descriptors: who tells what was written; the two of userfaultfd */
-  int child_of;
+  int child_of, has_thread, ending;
   pthread_t thread;
-  int has_thread, ending;
 
   kept_string *first[MOST_NODES], **end[MOST_NODES];
   uint32_t many[MOST_NODES], kept; /* so many strings of each peer, and of all */
@@ -76,6 +74,7 @@ struct ivy_mapping {
 #pragma GCC visibility push(hidden)
 
 static inline int ivy_in_map_has(const ivy_mapping *map, uint64_t page) { return page >= ROOT_PAGE && page < map->count; }
+static inline uint64_t ivy_in_map_address(uint32_t page) { return (uint64_t)page * MAP_PAGE; }
 static inline uint8_t *ivy_in_map_at(uint8_t *base, uint32_t page) { return base + (size_t)page * MAP_PAGE; }
 
 /* ---- ivy_map.c: pages go to and fro ------------------------------------------------------------------------------------ */
@@ -91,17 +90,13 @@ void ivy_in_map_keep(ivy_process *p);
 
 /* ---- ivy_map_image.c --------------------------------------------------------------------------------------------------- */
 
-extern const ivy_image ivy_in_map_protection, ivy_in_map_userfaultfd;
-/* Hands faults on to it, and tells of addresses where nothing is. */
+/* Opens the image that is allowed, and hands faults on to it; tells of addresses where nothing is. */
 int ivy_in_map_catch(ivy_process *p);
 void ivy_in_map_close(ivy_mapping *map);
-/* The next pages from one on that were written since they were asked for last; how many, at most so many. 0: no more. */
-typedef struct { uint32_t first, end; } map_stretch;
-uint32_t ivy_in_map_written(ivy_mapping *map, uint32_t *from, uint32_t end, map_stretch *into, uint32_t most);
+/* From now on the kernel says which pages were written, where it can: then a page that is written first takes somewhat longer. */
+void ivy_in_map_watch(ivy_mapping *map);
+/* Tells of each of some pages that was written since that was asked last. */
+void ivy_in_map_written(ivy_process *p, uint32_t first, uint32_t end, void (*tell)(ivy_process *p, uint32_t page));
 
 #pragma GCC visibility pop
-
-#ifdef __cplusplus
-}
-#endif
 #endif

@@ -8,7 +8,8 @@
  *   lone       PAGES of alternating protection, more than the system has stretches
  *   log        a process that writes a log: refused
  *   killed     counts until a peer is dead: ends by status 3, and its callback was called
- *   small      pages of another size: refused */
+ *   small      pages of another size: refused
+ *   image      prints how the memory is shown; any other word: nothing more than a mapping */
 #include "map_test.h"
 #include <errno.h>
 #include <fcntl.h>
@@ -131,6 +132,7 @@ int main(int argc, char **argv) {
   if (!strcmp(what, "log")) return refused(4096, IVY_BAD_ARGUMENT);
   if (!strcmp(what, "small")) return refused(1024, IVY_BAD_CONFIG);
   begin_test_of(64, 0);
+  if (!strcmp(what, "image")) puts(ivy_map_image(ivy));
   volatile uint8_t *base = (volatile uint8_t *)ivy_map_base(ivy);
   ivy_map_barrier(ivy);
   if (me == 0 && !strcmp(what, "past")) base[64 * 4096 + 5] = 1;
