@@ -120,16 +120,28 @@ static void log_string(FILE *log, const uint8_t *bytes, size_t len) {
   fputc('\n', log);
 }
 
-/* Gives a string to the node. Says whether it was the next one of its source. */
-static int deliver(ivy_process *p, const uint8_t *bytes, size_t len) {
-  uint32_t verdict, from = bytes[SOURCE];
-  if (ivy_deliver(&p->node, bytes, len, &verdict) != IVY_DONE) return 0;
+/* Gives a string to the node, with what it says of it. */
+static uint32_t deliver_as(ivy_process *p, const uint8_t *bytes, size_t len, uint32_t *said) {
+  uint32_t verdict, from = bytes[SOURCE], status = ivy_deliver(&p->node, bytes, len, &verdict);
+  if (status != IVY_DONE) return status;
   p->counts.heard++;
   heard_from(p, from);
   p->delivered[from] += verdict == IVY_NEXT;
   if (p->log && verdict != IVY_NOT_MINE) log_string(p->log, bytes, len);
   ivy_in_send_frames(p);
-  return verdict == IVY_NEXT;
+  *said = verdict;
+  return IVY_DONE;
+}
+
+uint32_t ivy_in_deliver(ivy_process *p, const uint8_t *bytes, size_t len) {
+  uint32_t verdict;
+  return deliver_as(p, bytes, len, &verdict);
+}
+
+/* Whether it was the next one of its source. */
+static int deliver(ivy_process *p, const uint8_t *bytes, size_t len) {
+  uint32_t verdict;
+  return deliver_as(p, bytes, len, &verdict) == IVY_DONE && verdict == IVY_NEXT;
 }
 
 /* Whether others are missing before a string; then it is kept, or lost. */
@@ -156,6 +168,10 @@ static string take_due(ivy_process *p, uint32_t from) {
 /* A node holds a string that comes early, and later goes on with it without telling. A log has each delivery in its order,
  * so where there is one, a node is given each string once it is due. */
 void ivy_in_hear_frame(ivy_process *p, const uint8_t *bytes, size_t len) {
+  if (p->map) {
+    ivy_in_map_came(p, bytes, len);
+    return;
+  }
   if (p->log && is_early(p, bytes, len)) return;
   if (!deliver(p, bytes, len) || !p->log) return;
   uint32_t from = bytes[SOURCE];

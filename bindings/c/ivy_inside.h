@@ -96,6 +96,7 @@ struct ivy_process {
   uint32_t served, changes; /* calls looked after their peers so often; so often something changed here */
   int knocks;              /* the thread has a string, and waits for the lock */
   ivy_process *next;       /* another one in this program */
+  struct ivy_mapping *map; /* where its memory is mapped */
 };
 
 static inline void ivy_in_put32(uint8_t *to, uint32_t value) {
@@ -161,6 +162,8 @@ int ivy_in_has_frame(ivy_process *p);
 /* Sends the strings that wait, once the log has what they follow from. */
 void ivy_in_send_frames(ivy_process *p);
 void ivy_in_hear_frame(ivy_process *p, const uint8_t *bytes, size_t len);
+/* Gives a string to the node: IVY_DONE, IVY_WANTED, or another status where it is none. */
+uint32_t ivy_in_deliver(ivy_process *p, const uint8_t *bytes, size_t len);
 /* A pulse to a peer, which is in the log where it says something. */
 void ivy_in_pulse(ivy_process *p, uint32_t to);
 /* The transport's room for the next string. */
@@ -232,6 +235,22 @@ static inline int ivy_in_is_over(const ivy_process *p) { return p->dead || p->er
 
 /* Node 0 allocates the roots, before others are here. */
 void ivy_in_make_roots(ivy_process *p);
+
+/* ---- ivy_map.c and ivy_map_calls.c: where memory is mapped, the lock held ------------------------------------------------- */
+
+/* A string comes, which may have to wait for a page that the program has. */
+void ivy_in_map_came(ivy_process *p, const uint8_t *bytes, size_t len);
+/* Strings that wait are tried again; and so long may be slept until then, of so many microseconds. */
+void ivy_in_map_pump(ivy_process *p);
+long ivy_in_map_patience(const ivy_process *p, long wait_us);
+/* What the runtime's thread does now and then. */
+void ivy_in_map_tick(ivy_process *p);
+/* A call begins: on a page that may be lent by its image, else at the node. */
+uint32_t ivy_in_map_begin(ivy_process *p, const call *c, uint64_t *value);
+/* Words in a row, the lock not held. */
+uint32_t ivy_in_map_row(ivy_process *p, uint32_t kind, uint64_t address, uint8_t *into, const uint8_t *from, size_t len);
+/* Nobody needs it any more; the lock is not held. */
+void ivy_in_map_end(ivy_process *p);
 
 /* ---- ivy_key.c -------------------------------------------------------------------------------------------------------- */
 

@@ -75,8 +75,9 @@ static const uint8_t *wait_for_string(ivy_process *p, size_t *len, long wait_us,
   const ivy_transport *t = &p->transport;
   const uint8_t *bytes = NULL;
   int64_t now, until = p->active;
-  int is_fresh = p->is_fresh, look_us = is_thread ? THREAD_LOOK_US : LOOK_US;
+  int is_fresh = p->is_fresh, look_us = is_thread || p->map ? THREAD_LOOK_US : LOOK_US;
   int is_shared = p->has_thread || p->shared; /* else who takes the lock would wait for this call to end anyway */
+  if (p->map) wait_us = ivy_in_map_patience(p, wait_us);
   if (is_shared) ivy_in_unlock(p);
   do {
     for (int i = 0; i < LOOKS && !bytes; i++) bytes = t->receive(t->state, len, 0);
@@ -112,6 +113,7 @@ static int serve(ivy_process *p, long wait_us, int most, int is_thread) {
     else look_for_dead(p);
     heard += bytes != NULL;
   } while (bytes && heard < most);
+  if (p->map) ivy_in_map_pump(p);
   keep_time(p);
   p->receiving = 0;
   p->changes += heard > 0;
@@ -176,6 +178,7 @@ static void *serve_on(void *argument) {
   uint32_t seen = 0;
   ivy_in_lock(p);
   while (!p->ending) {
+    if (p->map) ivy_in_map_tick(p);
     if (p->receiving || p->waits || p->served != seen) {
       seen = p->served;
       ivy_in_sleep_at(p, &p->ended, is_idle(p) ? IDLE_NAP_US : NAP_US);

@@ -50,6 +50,7 @@ static uint32_t go_on_by_call(ivy_process *p, row *r) {
 /* What is here; or what a page is waited for, in one; or a word, and then, before others take its page again, what is with
  * it. */
 static uint32_t carry_out(ivy_process *p, row r) {
+  if (p->map) return ivy_in_map_row(p, r.kind, r.address, r.into, r.from, r.len);
   uint32_t status = r.len % 8 ? (uint32_t)IVY_BAD_ARGUMENT : (uint32_t)IVY_DONE;
   while (status == IVY_DONE && r.done < r.len) {
     size_t before = r.done;

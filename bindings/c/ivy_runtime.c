@@ -222,6 +222,7 @@ uint32_t ivy_leave(ivy_process *p) {
   ivy_in_unlock(p);
   ivy_in_end_progress(p);
   ivy_in_flush_log(p);
+  if (p->map) ivy_in_map_end(p);
   p->transport.close(p->transport.state);
   tell_dead(p, p->dead & ~p->told);
   uint32_t error = p->error;
@@ -240,6 +241,7 @@ void ivy_in_end_call(ivy_process *p) {
 }
 
 static uint32_t begin(ivy_process *p, const call *c, uint64_t *value) {
+  if (p->map) return ivy_in_map_begin(p, c, value);
   return ivy_begin(&p->node, c->kind, c->width, c->place, c->operand, c->expected, value);
 }
 
@@ -294,7 +296,10 @@ __attribute__((always_inline)) static inline uint32_t make_call(ivy_process *p, 
 uint32_t ivy_call(ivy_process *p, uint32_t kind, uint32_t width, uint64_t place, uint64_t operand, uint64_t expected,
                   uint64_t *value) {
   const call c = { kind, width, place, operand, expected };
-  return make_call(p, &c, value);
+  uint64_t own = 0; /* the program's may be mapped memory, which is not touched while the lock is held */
+  uint32_t status = make_call(p, &c, &own);
+  if (status == IVY_DONE) *value = own;
+  return status;
 }
 
 uint32_t ivy_progress_now(ivy_process *p) {

@@ -2,7 +2,7 @@
  * the run, the exchange of configurations at the start, the end, and the death of a peer. It is plain C, tested and not
  * proved; what it calls in ivy.h is proved.
  *
- * There is no pointer to the shared memory: each word is read and written by a call.
+ * Each word is read and written by a call; ivy_map.h has plain pointers to the same memory.
  *
  * THREADS. Any thread of the program may call any function here: calls of one process wait for each other. A program of which
  * several threads make calls says so by ivy_use_threads. */

@@ -1,4 +1,4 @@
-"""A process of a program that `ivyrun` starts: a coherent shared memory, over libivy.so by ctypes.
+"""A process of a program that `ivyrun` or `mpirun` starts: a coherent shared memory, over libivy.so by ctypes.
 
     with Process() as ivy:
         ivy.fetch_add(1024, 1)
@@ -78,7 +78,17 @@ def _library():
     return lib
 
 
+def _library_of_mpi():
+    """The library over MPI, beside the other one, where mpirun has started this process."""
+    if not {"OMPI_COMM_WORLD_SIZE", "PMI_SIZE", "PMIX_RANK"} & os.environ.keys():
+        return None
+    lib = ctypes.CDLL(os.path.join(os.path.dirname(_lib._name), "libivy_mpi.so"), ctypes.RTLD_GLOBAL)
+    lib.ivy_init_mpi_as.argtypes, lib.ivy_finalize_mpi.argtypes = _lib.ivy_init_as.argtypes, [ctypes.c_void_p]
+    return lib
+
+
 _lib = _library()
+_mpi = _library_of_mpi()
 
 
 class Refused(Exception):
@@ -124,12 +134,12 @@ class Barrier:
 
 
 class Process:
-    """A process that has joined the others, until it leaves, or is alone where ivyrun did not start it."""
+    """A process that has joined the others, until it leaves, or is alone where neither ivyrun nor mpirun started it."""
 
     def __init__(self, pages=0, page_size=1024, manager=1):
         self._at = ctypes.c_void_p()
         config = Config(0, pages, page_size, manager) if pages else None
-        _done(_lib.ivy_init_as(None, None, config, self._at))
+        _done((_mpi.ivy_init_mpi_as if _mpi else _lib.ivy_init_as)(None, None, config, self._at))
         self.me, self.nodes = _lib.ivy_me(self._at), _lib.ivy_nodes(self._at)
 
     def __enter__(self):
@@ -142,7 +152,12 @@ class Process:
     def leave(self):
         """Serves the others until all leave. Nothing is called afterwards."""
         at, self._at = self._at, None
-        _done(_lib.ivy_leave(at))
+        if _mpi is None:
+            _done(_lib.ivy_leave(at))
+            return
+        error = _lib.ivy_error(at)
+        _mpi.ivy_finalize_mpi(at)
+        _done(error)
 
     def use_threads(self):
         _lib.ivy_use_threads(self._at)

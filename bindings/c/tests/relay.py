@@ -1,8 +1,8 @@
 """A node in Rattle among nodes in C: relays between its standard streams and UDP, and speaks the runtime's words for it.
 
-    relay.py NODE NODES PORT MANAGER LOG PROGRAM
+    relay.py NODE NODES PORT MANAGER LOG PROGRAM [PAGES PAGE]
 
-PROGRAM is that of stress/own, which does `sum`; NODE is not 0. One in ten strings is lost either way. It ends with 0 where
+PROGRAM is that of stress/own, which does `sum`; NODE is not 0. There are 4 pages of 256 bytes, or others as it was compiled. One in ten strings is lost either way. It ends with 0 where
 the node gave the sum of all numbers of nodes, and all are done.
 """
 import os
@@ -15,7 +15,7 @@ import sys
 import time
 from functools import reduce
 
-VERSION, PAGES, PAGE = 1, 4, 256
+VERSION = 1
 FRAME, HELLO, RUN, HERE, DONE, DEAD, ALIVE, REFUSED = range(1, 9)
 HEAD, DRAW = 35, 16
 NOTHING = bytes(DRAW)
@@ -32,9 +32,9 @@ def sum_of(draws):
 class Member:
     """A member of a run, which says the runtime's words and hears them."""
 
-    def __init__(self, me, nodes, port, manager):
+    def __init__(self, me, nodes, port, manager, pages, page):
         self.me, self.all, self.port = me, set(range(nodes)), port
-        self.numbers = (VERSION, nodes, PAGES, PAGE, int(manager == "dynamic"), struct.pack("=I", 0x01020304)[0])
+        self.numbers = (VERSION, nodes, pages, page, int(manager == "dynamic"), struct.pack("=I", 0x01020304)[0])
         self.socket = socket.socket(socket.AF_INET, socket.SOCK_DGRAM)
         self.socket.bind(("127.0.0.1", port + me))
         self.draws, self.run = {me: os.urandom(DRAW)}, NOTHING
@@ -170,7 +170,8 @@ class Relay:
 def main():
     me, nodes, port = map(int, sys.argv[1:4])
     manager, log, program = sys.argv[4:7]
-    relay = Relay(Member(me, nodes, port, manager), [program, "sum", str(me), manager, log])
+    pages, page = map(int, sys.argv[7:9] or (4, 256))
+    relay = Relay(Member(me, nodes, port, manager, pages, page), [program, "sum", str(me), manager, log])
     relay.serve()
     told, status = relay.end()
     wanted = f"node {me} gave {nodes * (nodes - 1) // 2}"

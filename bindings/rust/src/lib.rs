@@ -2,8 +2,10 @@
 //! owes. The wrapper is tested and not proved; what it calls is proved.
 use std::fmt;
 
+mod mapped;
 mod process;
 
+pub use mapped::{Held, Locked, Memory};
 pub use process::{Barrier, Counts, Guard, Number, Process};
 
 mod header {

@@ -117,7 +117,7 @@ numbers!(u8, u16, u32, u64, i8, i16, i32, i64, f32, f64);
 
 /// A process that has joined the others, until it leaves; or one alone, where `ivyrun` did not start it.
 pub struct Process {
-    at: *mut c_void,
+    pub(crate) at: *mut c_void,
 }
 
 // The library's calls of one process wait for each other.

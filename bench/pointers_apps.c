@@ -1,0 +1,108 @@
+/* A product of matrices and a relaxation, by plain pointers between the processes of ivyrun, or by as many plain threads of one
+ * process: WORK SIZE threads|nodes PARTS. Prints the milliseconds of the best of some rounds, and what a process asked for. */
+#ifndef _GNU_SOURCE
+#define _GNU_SOURCE
+#endif
+#include "ivy_map.h"
+#include <pthread.h>
+#include <stdlib.h>
+#include <string.h>
+#include <time.h>
+
+enum { ROUNDS = 3, SWEEPS = 20, MOST_PARTS = 8 };
+
+static ivy_process *ivy;
+static uint32_t parts;
+static int size, is_product;
+static double *area;
+static pthread_barrier_t all_here;
+static double best = 1e18;
+
+static double now_ms(void) {
+  struct timespec t;
+  clock_gettime(CLOCK_MONOTONIC, &t);
+  return (double)t.tv_sec * 1e3 + (double)t.tv_nsec / 1e6;
+}
+
+static void meet(void) {
+  if (ivy) ivy_map_barrier(ivy);
+  else pthread_barrier_wait(&all_here);
+}
+
+static void multiply(int first, int last) {
+  const double *a = area, *b = area + (size_t)size * (size_t)size;
+  double *c = area + 2 * (size_t)size * (size_t)size;
+  for (int i = first; i < last; i++) {
+    double *row = c + (size_t)i * (size_t)size;
+    memset(row, 0, (size_t)size * sizeof *row);
+    for (int k = 0; k < size; k++)
+      for (int j = 0; j < size; j++) row[j] += a[(size_t)i * (size_t)size + (size_t)k] * b[(size_t)k * (size_t)size + (size_t)j];
+  }
+}
+
+static void relax(int first, int last) {
+  for (int half = 0; half < 2 * SWEEPS; half++) {
+    for (int i = first > 0 ? first : 1; i < last && i < size - 1; i++) {
+      double *row = area + (size_t)i * (size_t)size;
+      for (int j = 1 + (i + half) % 2; j < size - 1; j += 2)
+        row[j] += 0.4 * (row[j - size] + row[j + size] + row[j - 1] + row[j + 1] - 4 * row[j]);
+    }
+    meet();
+  }
+}
+
+static void *work(void *argument) {
+  int part = (int)(uintptr_t)argument, first = size * part / (int)parts, last = size * (part + 1) / (int)parts;
+  for (int i = first; i < last; i++)
+    for (int j = 0; j < (is_product ? 3 : 1) * size; j++)
+      area[(size_t)i * (size_t)size + (size_t)j % (size_t)size + (size_t)(j / size) * (size_t)size * (size_t)size] = (double)((i * 7 + j) % 13);
+  for (int round = 0; round < ROUNDS; round++) {
+    meet();
+    double begun = now_ms();
+    if (is_product) multiply(first, last);
+    else relax(first, last);
+    meet();
+    if (part == 0 && now_ms() - begun < best) best = now_ms() - begun;
+  }
+  return NULL;
+}
+
+static void by_threads(void) {
+  pthread_t threads[MOST_PARTS];
+  area = (double *)calloc((size_t)(is_product ? 3 : 1) * (size_t)size * (size_t)size, sizeof *area);
+  pthread_barrier_init(&all_here, NULL, parts);
+  for (uint32_t i = 0; i < parts; i++) pthread_create(&threads[i], NULL, work, (void *)(uintptr_t)i);
+  for (uint32_t i = 0; i < parts; i++) pthread_join(threads[i], NULL);
+  printf("%.1f\n", best);
+}
+
+static int by_nodes(int argc, char **argv) {
+  ivy_config config;
+  memset(&config, 0, sizeof config);
+  config.pages = 32768;
+  config.page_size = 4096;
+  config.manager = IVY_DYNAMIC;
+  if (ivy_init_as(&argc, &argv, &config, &ivy) != IVY_DONE || ivy_map(ivy) != IVY_DONE) return 2;
+  ivy_exit_on_error(ivy, 1);
+  size_t bytes = (size_t)(is_product ? 3 : 1) * (size_t)size * (size_t)size * sizeof *area;
+  if (ivy_me(ivy) == 0) *ivy_map_root(ivy) = ivy_map_malloc_pages(ivy, bytes);
+  meet();
+  area = (double *)*ivy_map_root(ivy);
+  parts = ivy_nodes(ivy);
+  work((void *)(uintptr_t)ivy_me(ivy));
+  ivy_map_counts c = ivy_map_counts_of(ivy);
+  if (ivy_me(ivy) == 0)
+    printf("%.1f %llu %llu %llu\n", best, (unsigned long long)c.asked, (unsigned long long)c.gone, (unsigned long long)c.kept);
+  return ivy_finalize(ivy);
+}
+
+int main(int argc, char **argv) {
+  if (argc < 5) return 2;
+  is_product = !strcmp(argv[1], "product");
+  size = atoi(argv[2]);
+  parts = (uint32_t)atoi(argv[4]);
+  if (parts < 1 || parts > MOST_PARTS) return 2;
+  if (strcmp(argv[3], "threads")) return by_nodes(argc, argv);
+  by_threads();
+  return 0;
+}

@@ -1,0 +1,309 @@
+/* Images of mapped memory: by protection, with a signal for a fault, and by userfaultfd. Not proved. */
+#ifndef _GNU_SOURCE
+#define _GNU_SOURCE
+#endif
+#include "ivy_map_inside.h"
+#include <errno.h>
+#include <fcntl.h>
+#include <linux/userfaultfd.h>
+#include <poll.h>
+#include <signal.h>
+#include <stdlib.h>
+#include <string.h>
+#include <sys/ioctl.h>
+#include <sys/mman.h>
+#include <sys/syscall.h>
+#include <ucontext.h>
+#include <unistd.h>
+
+/* The address in all processes, and how much of it nobody else has, whatever the number of pages. */
+#define MAP_BASE ((uintptr_t)0x200000000000u)
+enum { MOST_PAGES = 65536 + 1, WAIT_MS = 100 };
+
+/* What the kernel's headers may not have yet (Linux 6.7): write protection without a message, and who was written since. */
+#define WP_UNPOPULATED (1ull << 13)
+#define WP_ASYNC (1ull << 15)
+#define WP_SHARED (1ull << 12)
+typedef struct { uint64_t start, end, categories; } scan_region;
+typedef struct { uint64_t size, flags, start, end, walk_end, vec, vec_len, max_pages, inverted, mask, anyof, returned; } scan_argument;
+#define SCAN _IOWR('f', 16, scan_argument)
+enum { SCAN_PROTECTS = 1, SCAN_CHECKS = 2, IS_WRITTEN = 2, MOST_REGIONS = 64 };
+
+static size_t size_of(const ivy_mapping *map) { return (size_t)map->count * MAP_PAGE; }
+static uint32_t page_at(uintptr_t at) { return (uint32_t)((at - MAP_BASE) / MAP_PAGE); }
+
+/* A userfaultfd of some bytes, or -1. */
+static int faults_of(void *at, size_t len, int flags, uint64_t features, uint64_t mode) {
+  struct uffdio_api api;
+  struct uffdio_register all;
+  int file = (int)syscall(SYS_userfaultfd, O_CLOEXEC | O_NONBLOCK | flags);
+  memset(&api, 0, sizeof api);
+  memset(&all, 0, sizeof all);
+  api.api = UFFD_API;
+  api.features = features;
+  all.range.start = (uintptr_t)at;
+  all.range.len = len;
+  all.mode = mode;
+  if (file < 0 || (!ioctl(file, UFFDIO_API, &api) && !ioctl(file, UFFDIO_REGISTER, &all))) return file;
+  close(file);
+  return -1;
+}
+
+static void *reserve(void) {
+  void *at = mmap((void *)MAP_BASE, (size_t)MOST_PAGES * MAP_PAGE, PROT_NONE,
+                  MAP_PRIVATE | MAP_ANONYMOUS | MAP_NORESERVE | MAP_FIXED_NOREPLACE, -1, 0);
+  if (at != MAP_FAILED && at != (void *)MAP_BASE) munmap(at, (size_t)MOST_PAGES * MAP_PAGE);
+  return at == (void *)MAP_BASE ? at : NULL;
+}
+
+/* ---- By protection: a file in memory, seen twice; the program's side is protected ------------------------------------------ */
+
+static const int allowed[] = { PROT_NONE, PROT_READ, PROT_READ | PROT_WRITE };
+
+static int protect(ivy_mapping *map, uint32_t page, uint32_t many, uint32_t to) {
+  return !mprotect(ivy_in_map_at(map->base, page), (size_t)many * MAP_PAGE, allowed[to]);
+}
+
+/* Stretches of one protection are limited (vm.max_map_count). Where they are too many all pages are hidden, which makes one
+ * stretch, and come back by faults. */
+static void hide(ivy_mapping *map) {
+  if (mprotect(map->base, size_of(map), PROT_NONE)) abort();
+  for (uint32_t i = 0; i < map->count; i++) map->pages[i].shown = IVY_UNLENT;
+}
+
+static void allow(ivy_mapping *map, uint32_t page, uint32_t many, uint32_t to) {
+  if (protect(map, page, many, to)) return;
+  hide(map);
+  if (!protect(map, page, many, to)) abort();
+}
+
+static void protection_show(ivy_mapping *map, uint32_t page, uint32_t to) { allow(map, page, 1, to); }
+static void protection_raise(ivy_mapping *map, uint32_t page, uint32_t many) { allow(map, page, many, IVY_TO_WRITE); }
+
+static const uint8_t *protection_lower(ivy_mapping *map, uint32_t page, uint32_t many, uint32_t on) {
+  if (!protect(map, page, many, on)) hide(map);
+  return ivy_in_map_at(map->bytes, page);
+}
+
+/* Asks for pages that were written, which are protected again. */
+static long ask_scan(const ivy_mapping *map, uintptr_t from, uintptr_t end, scan_region *found, scan_argument *scan) {
+  memset(scan, 0, sizeof *scan);
+  scan->size = sizeof *scan;
+  scan->flags = SCAN_PROTECTS | SCAN_CHECKS;
+  scan->start = from;
+  scan->end = end;
+  scan->vec = (uintptr_t)found;
+  scan->vec_len = MOST_REGIONS;
+  scan->mask = scan->returned = IS_WRITTEN;
+  return ioctl(map->scanner, SCAN, scan);
+}
+
+void ivy_in_map_written(ivy_process *p, uint32_t first, uint32_t end, void (*tell)(ivy_process *p, uint32_t page)) {
+  const uintptr_t last = (uintptr_t)ivy_in_map_at(p->map->base, end);
+  scan_region found[MOST_REGIONS];
+  scan_argument scan;
+  for (uintptr_t at = (uintptr_t)ivy_in_map_at(p->map->base, first); at < last; at = (uintptr_t)scan.walk_end) {
+    long many = ask_scan(p->map, at, last, found, &scan);
+    if (many < 0) many = 1, found[0].start = at, found[0].end = scan.walk_end = last; /* who knows: all of them */
+    for (long i = 0; i < many; i++)
+      for (uint64_t it = found[i].start; it < found[i].end; it += MAP_PAGE) tell(p, page_at(it));
+  }
+}
+
+void ivy_in_map_watch(ivy_mapping *map) {
+  scan_region found[MOST_REGIONS];
+  scan_argument scan;
+  map->watch = faults_of(map->base, size_of(map), UFFD_USER_MODE_ONLY, WP_ASYNC | WP_UNPOPULATED | WP_SHARED, UFFDIO_REGISTER_MODE_WP);
+  map->scanner = map->watch < 0 ? -1 : open("/proc/self/pagemap", O_RDONLY | O_CLOEXEC);
+  if (map->scanner < 0 || ask_scan(map, MAP_BASE, MAP_BASE + MAP_PAGE, found, &scan) >= 0) return;
+  close(map->scanner);
+  map->scanner = -1;
+}
+
+static int protection_open(ivy_mapping *map) {
+  void *bytes = MAP_FAILED, *base = MAP_FAILED;
+  int file = memfd_create("ivy", MFD_CLOEXEC);
+  if (file >= 0 && !ftruncate(file, (off_t)size_of(map))) {
+    bytes = mmap(NULL, size_of(map), PROT_READ | PROT_WRITE, MAP_SHARED | MAP_NORESERVE, file, 0);
+    base = mmap((void *)MAP_BASE, size_of(map), PROT_NONE, MAP_SHARED | MAP_NORESERVE | MAP_FIXED, file, 0);
+  }
+  if (file >= 0) close(file);
+  if (bytes == MAP_FAILED || base == MAP_FAILED) return 0;
+  map->base = (uint8_t *)base;
+  map->bytes = (uint8_t *)bytes;
+  madvise(bytes, size_of(map), MADV_DONTFORK);
+  return 1;
+}
+
+static const ivy_image by_protection = { "protection",     protection_open,  protection_show,
+                                          protection_raise, protection_lower, NULL };
+
+/* ---- By userfaultfd: pages are put there, and taken away -------------------------------------------------------------------- */
+
+/* A page of the program's own is being moved: again. */
+static void order(ivy_mapping *map, unsigned long what, void *argument) {
+  while (ioctl(map->faults, what, argument))
+    if (errno != EAGAIN && errno != EINTR) abort();
+}
+
+static void write_protect(ivy_mapping *map, uint32_t page, uint32_t many, int is_on) {
+  struct uffdio_writeprotect it;
+  memset(&it, 0, sizeof it);
+  it.range.start = (uintptr_t)ivy_in_map_at(map->base, page);
+  it.range.len = (uint64_t)many * MAP_PAGE;
+  it.mode = is_on ? UFFDIO_WRITEPROTECT_MODE_WP : 0;
+  order(map, UFFDIO_WRITEPROTECT, &it);
+}
+
+static void userfaultfd_show(ivy_mapping *map, uint32_t page, uint32_t to) {
+  struct uffdio_copy it;
+  memset(&it, 0, sizeof it);
+  it.dst = (uintptr_t)ivy_in_map_at(map->base, page);
+  it.src = (uintptr_t)map->room;
+  it.len = MAP_PAGE;
+  it.mode = to == IVY_TO_READ ? UFFDIO_COPY_MODE_WP : 0;
+  order(map, UFFDIO_COPY, &it);
+}
+
+static void userfaultfd_raise(ivy_mapping *map, uint32_t page, uint32_t many) { write_protect(map, page, many, 0); }
+
+static const uint8_t *userfaultfd_lower(ivy_mapping *map, uint32_t page, uint32_t many, uint32_t on) {
+  uint8_t *at = ivy_in_map_at(map->base, page);
+  if (map->pages[page].shown == IVY_TO_WRITE) write_protect(map, page, many, 1);
+  if (on == IVY_TO_READ) return at;
+  memcpy(map->room, at, MAP_PAGE);
+  if (madvise(at, MAP_PAGE, MADV_DONTNEED)) abort();
+  return map->room;
+}
+
+/* Faults of all threads of the program, and of the kernel where it has a pointer of theirs. */
+static void *userfaultfd_wait(void *process) {
+  ivy_process *p = (ivy_process *)process;
+  ivy_mapping *map = p->map;
+  struct uffd_msg said;
+  struct pollfd one = { map->faults, POLLIN, 0 };
+  while (!__atomic_load_n(&map->ending, __ATOMIC_RELAXED)) {
+    if (poll(&one, 1, WAIT_MS) <= 0 || read(map->faults, &said, sizeof said) != sizeof said) continue;
+    if (said.event != UFFD_EVENT_PAGEFAULT) continue;
+    uint64_t how = said.arg.pagefault.flags, at = said.arg.pagefault.address & ~(uint64_t)(MAP_PAGE - 1);
+    struct uffdio_range range = { at, MAP_PAGE };
+    ivy_in_map_fault(p, page_at(at),
+                     how & (UFFD_PAGEFAULT_FLAG_WRITE | UFFD_PAGEFAULT_FLAG_WP) ? IVY_TO_WRITE : IVY_TO_READ,
+                     said.arg.pagefault.feat.ptid);
+    ioctl(map->faults, UFFDIO_WAKE, &range);
+  }
+  return NULL;
+}
+
+static int userfaultfd_open(ivy_mapping *map) {
+  uint8_t *from = ivy_in_map_at((uint8_t *)MAP_BASE, ROOT_PAGE);
+  size_t len = size_of(map) - (size_t)ROOT_PAGE * MAP_PAGE;
+  map->room = (uint8_t *)malloc(MAP_PAGE);
+  map->base = map->bytes = (uint8_t *)MAP_BASE;
+  if (map->room && !mprotect(from, len, PROT_READ | PROT_WRITE) && !madvise(from, len, MADV_NOHUGEPAGE))
+    map->faults = faults_of(from, len, 0, UFFD_FEATURE_PAGEFAULT_FLAG_WP | UFFD_FEATURE_THREAD_ID,
+                            UFFDIO_REGISTER_MODE_MISSING | UFFDIO_REGISTER_MODE_WP);
+  if (map->faults >= 0) return 1;
+  mprotect(from, len, PROT_NONE);
+  free(map->room);
+  map->room = NULL;
+  return 0;
+}
+
+static const ivy_image by_userfaultfd = { "userfaultfd",     userfaultfd_open,  userfaultfd_show,
+                                           userfaultfd_raise, userfaultfd_lower, userfaultfd_wait };
+
+/* ---- Signals ------------------------------------------------------------------------------------------------------------- */
+
+static ivy_process *mapped;
+static struct sigaction before;
+
+/* A fault that is none of a page: whoever had them before, or the system, which ends the program at the instruction. */
+static void hand_on(int number, siginfo_t *info, void *context) {
+  if (before.sa_handler != SIG_DFL && before.sa_handler != SIG_IGN) {
+    if (before.sa_flags & SA_SIGINFO) before.sa_sigaction(number, info, context);
+    else before.sa_handler(number);
+    return;
+  }
+  signal(SIGSEGV, SIG_DFL);
+  if (info->si_code <= 0) raise(SIGSEGV); /* somebody sent it */
+}
+
+/* A register of the instruction that faulted. The library is for x86-64. */
+static uintptr_t register_of(const void *context, int which) { return (uintptr_t)((const ucontext_t *)context)->uc_mcontext.gregs[which]; }
+
+/* Nothing is at an address of the memory: it says so, and the others learn that this process ends. */
+static void tell_nothing(ivy_process *p, uintptr_t at, uintptr_t instruction) {
+  int is_child = getpid() != p->map->child_of;
+  const char *why = is_child                      ? "a child of fork has no mapped memory"
+                    : page_at(at) >= p->map->count ? "the address is past the memory"
+                                                   : "the address is in pages of the runtime";
+  dprintf(2, "ivy: node %u: an access to 0x%llx, %llu of the memory, at instruction 0x%llx: %s\n", p->me, (unsigned long long)at,
+          (unsigned long long)(at - MAP_BASE), (unsigned long long)instruction, why);
+  if (!is_child && ivy_in_try_lock(p)) {
+    for (int i = 0; i < REPEATS; i++) ivy_in_say(p, DEAD, 1u << p->me);
+    ivy_in_unlock(p);
+  }
+  signal(SIGSEGV, SIG_DFL);
+}
+
+static void on_fault(int number, siginfo_t *info, void *context) {
+  int kept = errno;
+  ivy_process *p = mapped;
+  uintptr_t at = (uintptr_t)info->si_addr;
+  if (!p || info->si_code <= 0 || at < MAP_BASE || at >= MAP_BASE + (uintptr_t)MOST_PAGES * MAP_PAGE) {
+    hand_on(number, info, context);
+  } else {
+    uint32_t page = page_at(at);
+    if (getpid() != p->map->child_of || p->map->image->wait || !ivy_in_map_has(p->map, page))
+      tell_nothing(p, at, register_of(context, REG_RIP));
+    else
+      ivy_in_map_fault(p, page, register_of(context, REG_ERR) & 2 ? IVY_TO_WRITE : IVY_TO_READ, (uint32_t)gettid());
+  }
+  errno = kept;
+}
+
+/* No handler of the program runs while a fault is served. What ends the program ends it then too. */
+static void block_handlers(sigset_t *signals) {
+  struct sigaction its;
+  sigfillset(signals);
+  for (int i = 1; i < SIGRTMIN; i++)
+    if (!sigaction(i, NULL, &its) && !(its.sa_flags & SA_SIGINFO) && its.sa_handler == SIG_DFL) sigdelset(signals, i);
+}
+
+int ivy_in_map_catch(ivy_process *p) {
+  static const ivy_image *const images[] = { &by_userfaultfd, &by_protection };
+  struct sigaction own;
+  memset(&own, 0, sizeof own);
+  own.sa_sigaction = on_fault;
+  own.sa_flags = SA_SIGINFO | SA_RESTART;
+  block_handlers(&own.sa_mask);
+  ivy_mapping *map = p->map;
+  map->scanner = map->watch = map->faults = -1;
+  map->child_of = (int)getpid();
+  if (mapped || !reserve()) return 0;
+  const char *said = getenv("IVY_IMAGE");
+  int is_there = 0;
+  for (uint32_t i = 0; i < 2 && !is_there; i++) {
+    map->image = images[i];
+    is_there = (!said || !*said || !strcmp(said, images[i]->name)) && images[i]->open(map);
+  }
+  madvise((void *)MAP_BASE, (size_t)MOST_PAGES * MAP_PAGE, MADV_DONTFORK);
+  mapped = p;
+  if (is_there && !sigaction(SIGSEGV, &own, &before)) return 1;
+  ivy_in_map_close(map);
+  return 0;
+}
+
+void ivy_in_map_close(ivy_mapping *map) {
+  if (mapped && mapped->map == map) {
+    sigaction(SIGSEGV, &before, NULL);
+    mapped = NULL;
+    munmap((void *)MAP_BASE, (size_t)MOST_PAGES * MAP_PAGE);
+    if (map->bytes && map->bytes != map->base) munmap(map->bytes, size_of(map));
+  }
+  if (map->scanner >= 0) close(map->scanner);
+  if (map->watch >= 0) close(map->watch);
+  if (map->faults >= 0) close(map->faults);
+  free(map->room);
+}

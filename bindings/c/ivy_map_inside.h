@@ -1,0 +1,102 @@
+/* ivy_map_inside.h: what the files of mapped memory share. No program includes it. */
+#ifndef IVY_MAP_INSIDE_H
+#define IVY_MAP_INSIDE_H
+#include "ivy_inside.h"
+#include "ivy_map.h"
+enum { MAP_PAGE = 4096, MAP_LEAST = 16 };
+
+/* Pages of the runtime, from 1 on, which are the first block of the heap. All but the root's are used by calls alone. */
+enum { TOKEN_PAGE = 1, COUNT_PAGE, ROUND_PAGE, LOCK_PAGES, LOCK_PAIRS = 2, ROOT_PAGE = LOCK_PAGES + 2 * LOCK_PAIRS, MAP_OWN = ROOT_PAGE };
+
+typedef struct ivy_mapping ivy_mapping;
+
+/* An image of the memory: how a page of it is shown to the program. Each function is called with the lock of the process. */
+typedef struct {
+  const char *name;
+  /* Opens it, at its address. Whether it is there. */
+  int (*open)(ivy_mapping *map);
+  /* A page whose bytes are in its room may be loaded, or stored too. */
+  void (*show)(ivy_mapping *map, uint32_t page, uint32_t to);
+  /* So many pages that may be loaded may be stored too. */
+  void (*raise)(ivy_mapping *map, uint32_t page, uint32_t many);
+  /* They may no more, on any processor, than be loaded; or it is one, not even that. Then gives where its bytes stand, until
+   * another call. */
+  const uint8_t *(*lower)(ivy_mapping *map, uint32_t page, uint32_t many, uint32_t on);
+  /* Waits for faults and serves them, until it ends; null where a signal tells of them. */
+  void *(*wait)(void *process);
+} ivy_image;
+
+/* A page: until when it is kept; what the node lends of it, what the image shows of it; and whether it is open: it may have been
+ * written since the node had its bytes. Then, where it is in the list of these. */
+typedef struct { int64_t until; uint32_t place; uint8_t lent, shown, is_open; } map_page;
+
+/* A thread that faults: the pages that it had last for what it does, how often they were gone before it could go on, and what
+ * time of a processor it had taken when it got the last one. */
+enum { MAP_THREADS = 64, MAP_LAST = 4 };
+typedef struct { uint32_t thread, many, failed, last[MAP_LAST]; int64_t ran; } map_thread;
+
+/* A string that is kept back, with all that came later from its peer. */
+typedef struct kept_string { struct kept_string *next; size_t len; uint8_t bytes[1]; } kept_string;
+
+struct ivy_mapping {
+  ivy_process *process;
+  const ivy_image *image;
+  uint8_t *base;  /* what the program sees */
+  uint8_t *bytes; /* the same bytes, for the runtime */
+  uint8_t *room;  /* where a page is loaded to before it is shown, if that is not in `bytes` */
+  uint32_t count;
+  map_page *pages;
+  uint32_t *open, opens; /* the pages that are open */
+  uint32_t next, row;    /* the page behind those that were opened last in a row, and how many these were to be at most */
+  uint32_t scattered;    /* so often they were much and not in rows, before a call */
+  int scanner, watch, faults; /* descriptors: who tells what was written; the two of userfaultfd */
+  int child_of, has_thread, ending;
+  pthread_t thread;
+
+  kept_string *first[MOST_NODES], **end[MOST_NODES];
+  uint32_t many[MOST_NODES], kept; /* so many strings of each peer, and of all */
+  uint32_t held;                   /* peers of which the node holds a string that is due */
+  int gave;                        /* a page was given back, and nobody went on since */
+  int64_t due;                     /* when the first of them may take its page */
+
+  int asking;           /* a page is asked for, which is lent once it comes: */
+  uint32_t page, to, answer;
+  map_thread *waiting;  /* who waits for it, if that is an instruction */
+  int waits;
+  map_thread threads[MAP_THREADS];
+  int is_hidden;
+  int has_token, lowers; /* it has the token; pages are lowered before a call, since the program goes on meanwhile */
+  map_thread *holder;
+  int64_t shown_at;     /* when it was given its last page */
+  ivy_map_counts counts;
+};
+
+#pragma GCC visibility push(hidden)
+
+static inline int ivy_in_map_has(const ivy_mapping *map, uint64_t page) { return page >= ROOT_PAGE && page < map->count; }
+static inline uint64_t ivy_in_map_address(uint32_t page) { return (uint64_t)page * MAP_PAGE; }
+static inline uint8_t *ivy_in_map_at(uint8_t *base, uint32_t page) { return base + (size_t)page * MAP_PAGE; }
+
+/* ---- ivy_map.c: pages go to and fro ------------------------------------------------------------------------------------ */
+
+/* A page is lent to be read or to be written, and shown so: the lock is held, and no call is in progress. */
+uint32_t ivy_in_map_acquire(ivy_process *p, uint32_t page, uint32_t to, map_thread *who);
+/* An instruction of a thread needs a page: it has it after this. */
+void ivy_in_map_fault(ivy_process *p, uint32_t page, uint32_t to, uint32_t thread);
+/* Gives the token back, if it is here. */
+void ivy_in_map_end_token(ivy_process *p);
+/* What was written is kept, since a call begins. */
+void ivy_in_map_keep(ivy_process *p);
+
+/* ---- ivy_map_image.c --------------------------------------------------------------------------------------------------- */
+
+/* Opens the image that is allowed, and hands faults on to it; tells of addresses where nothing is. */
+int ivy_in_map_catch(ivy_process *p);
+void ivy_in_map_close(ivy_mapping *map);
+/* From now on the kernel says which pages were written, where it can: then a page that is written first takes somewhat longer. */
+void ivy_in_map_watch(ivy_mapping *map);
+/* Tells of each of some pages that was written since that was asked last. */
+void ivy_in_map_written(ivy_process *p, uint32_t first, uint32_t end, void (*tell)(ivy_process *p, uint32_t page));
+
+#pragma GCC visibility pop
+#endif
