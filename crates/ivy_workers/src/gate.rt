@@ -5,7 +5,8 @@
 pub enum Role {
     /// One of its program.
     Program,
-    /// One on the wire: a frame is put or taken. Where the program waits its worker makes it, else the wire worker.
+    /// One on the wire: a frame is put or taken. Where the program waits, or makes way, its worker makes it, else the wire
+    /// worker.
     Wire,
 }
 

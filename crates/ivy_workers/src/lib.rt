@@ -1,7 +1,7 @@
 //! The two workers of each node: when they make turns, sleep, wake one another and retransmit.
 //!
-//! One makes the turns of the node's program, and while that waits those on the wire too, which else the other one
-//! makes.
+//! One makes the turns of the node's program, and those on the wire too while that waits, or where it held off who is to
+//! make them. Else the other one makes these.
 //!
 //! What a turn does is known to a node's place alone ([`Seat`]). No contract above speaks of workers: what is promised
 //! of a session holds whoever makes the turns, and in whatever order.
