@@ -2,3 +2,4 @@ pub mod Sent
 pub mod Tallies
 pub mod Heard
 pub mod Noted
+pub mod Heads

@@ -1,9 +1,11 @@
 //! A run as a picture: a line for each node, from top to bottom, and an arrow for each string.
 
-use crate::access::{Access, Accesses, is_seen};
+use crate::access::{Access, Accesses};
 use crate::head::RunHead;
+use crate::labels::Labels;
 use crate::log::{Happening, RunLog};
 use crate::marks::{Marks, Spot, Way, between, lane, row};
+use crate::part::{Drawn, Part};
 use ivy_link::Verdict;
 use ivy_model::Record;
 use ivy_texts::{CallText, MoveText, ReplyText, kind_name};
@@ -17,6 +19,8 @@ pub struct Chart {
     pub nodes: u64,
     /// The page whose access the lines show.
     pub page: u32,
+    /// Which moves are drawn.
+    pub part: Part,
 }
 
 /// How many letters a line of the legend has at most.
@@ -78,23 +82,30 @@ fn begin_text<W: Write>(look: &str, at: Spot, out: &mut W) -> io::Result<()> {
     write!(out, "<text class=\"{look}\" x=\"{x}\" y=\"{y}\">")
 }
 
-/// Draws the name of a string beside its way.
-fn draw_name<W: Write>(way: &Way, head: &RunHead, out: &mut W) -> io::Result<()> {
-    let look = if look_of(way) == "again" { "old" } else { "" };
-    let spot = between(way.from, way.to, 38);
-    let at = Spot {
-        x: spot.x.saturating_sub(28),
-        y: spot.y.saturating_sub(3),
-    };
-    begin_text(look, at, out)?;
+/// The name of a string: its kind, its page, and whether it was sent again.
+fn name_of(alloc: Global, way: &Way, head: &RunHead) -> Result<String, AllocError> {
     let (kind, note) = (
         kind_name(head.kind),
         if way.is_again { " again" } else { "" },
     );
     match head.page() {
-        Some(page) => writeln!(out, "{kind} {page}{note}</text>"),
-        None => writeln!(out, "{kind}{note}</text>"),
+        Some(page) => format!(in alloc; "{kind} {page}{note}"),
+        None => format!(in alloc; "{kind}{note}"),
     }
+}
+
+/// The name of a string, and where it stands.
+#[derive(Drop)]
+struct Label {
+    at: Spot,
+    name: String,
+}
+
+/// Draws the name of a string beside its way.
+fn draw_name<W: Write>(way: &Way, label: &Label, out: &mut W) -> io::Result<()> {
+    let look = if look_of(way) == "again" { "old" } else { "" };
+    begin_text(look, label.at, out)?;
+    writeln!(out, "{}</text>", label.name.as_str())
 }
 
 /// Draws the way of a string that is lost: a line that ends in a cross.
@@ -110,7 +121,7 @@ fn draw_lost<W: Write>(way: &Way, out: &mut W) -> io::Result<()> {
 }
 
 /// Draws the way of a string: an arrow, where it is not lost.
-fn draw_way<W: Write>(way: &Way, head: &RunHead, out: &mut W) -> io::Result<()> {
+fn draw_way<W: Write>(way: &Way, out: &mut W) -> io::Result<()> {
     if way.heard.is_some() {
         draw_line(
             look_of(way),
@@ -118,18 +129,19 @@ fn draw_way<W: Write>(way: &Way, head: &RunHead, out: &mut W) -> io::Result<()> 
             way.to,
             " marker-end=\"url(#tip)\"",
             out,
-        )?;
+        )
     } else {
-        draw_lost(way, out)?;
+        draw_lost(way, out)
     }
-    draw_name(way, head, out)
 }
 
-fn draw_ways<W: Write>(log: &RunLog, marks: &Marks, out: &mut W) -> io::Result<()> {
+/// Draws all ways, and above them their names.
+fn draw_ways<W: Write>(marks: &Marks, labels: &[Label], out: &mut W) -> io::Result<()> {
     for way in marks.ways.iter() {
-        if let Some(head) = log.strings.get(way.string) {
-            draw_way(way, head, out)?;
-        }
+        draw_way(way, out)?;
+    }
+    for (way, label) in marks.ways.iter().zip(labels) {
+        draw_name(way, label, out)?;
     }
     Ok(())
 }
@@ -239,12 +251,17 @@ fn draw_move<W: Write>(number: u64, happening: &Happening, y: u64, out: &mut W) 
     }
 }
 
+/// How low a text stands beside a move.
+fn text_height(marks: &Marks, place: usize) -> u64 {
+    row(marks.row_of(place)).saturating_add(4)
+}
+
 /// Draws the moves of which something is to be seen.
 fn draw_texts<W: Write>(log: &RunLog, marks: &Marks, out: &mut W) -> io::Result<()> {
     for place in 0..log.happenings.len() {
         let happening = &log.happenings[place];
-        if is_seen(happening) {
-            let y = row(marks.row_of(place)).saturating_add(4);
+        if marks.is_drawn(place) {
+            let y = text_height(marks, place);
             draw_move((place as u64).saturating_add(1), happening, y, out)?;
         }
     }
@@ -257,17 +274,91 @@ fn letters_of(alloc: Global, record: Record) -> Result<u64, AllocError> {
     Ok(format!(in alloc; "{call} = {reply}")?.len() as u64)
 }
 
-/// Where the picture ends at the right: behind the last line, the legend and what stands beside the lines.
-fn width_of(alloc: Global, chart: Chart, log: &RunLog) -> Result<u64, AllocError> {
-    let mut width = lane(chart.nodes).max(LEGEND * LETTER + MARGIN);
-    for happening in log.happenings.iter() {
-        if let Some(record) = happening.record {
-            let long = letters_of(alloc, record)?.saturating_mul(LETTER);
-            let end = lane(happening.node).saturating_add(long);
-            width = width.max(end.saturating_add(MARGIN));
+/// How many letters a move stands in, about.
+const MOVE: u64 = 16;
+
+/// A reply that is drawn: where it stands, and how many letters it has.
+#[derive(Clone, Copy)]
+struct Beside {
+    at: Spot,
+    letters: u64,
+}
+
+/// The reply that is drawn beside a move, where there is one.
+fn reply_at(
+    alloc: Global,
+    marks: &Marks,
+    place: usize,
+    happening: &Happening,
+) -> Result<Option<Beside>, AllocError> {
+    match happening.record {
+        Some(record) if marks.is_drawn(place) => Ok(Some(Beside {
+            at: Spot {
+                x: lane(happening.node).saturating_add(8),
+                y: text_height(marks, place),
+            },
+            letters: letters_of(alloc, record)?,
+        })),
+        _ => Ok(None),
+    }
+}
+
+/// The replies that are drawn.
+fn replies_of(alloc: Global, marks: &Marks, log: &RunLog) -> Result<Vec<Beside>, AllocError> {
+    let mut replies = Vec::new(alloc);
+    for place in 0..log.happenings.len() {
+        if let Some(reply) = reply_at(alloc, marks, place, &log.happenings[place])? {
+            replies.push(reply)?;
         }
     }
-    Ok(width)
+    Ok(replies)
+}
+
+/// Where the picture ends at the right: behind the last line, the legend and what stands beside the lines.
+fn width_of(chart: Chart, replies: &[Beside]) -> u64 {
+    let mut width = lane(chart.nodes).max(LEGEND * LETTER + MARGIN);
+    for reply in replies {
+        let end = reply
+            .at
+            .x
+            .saturating_add(reply.letters.saturating_mul(LETTER));
+        width = width.max(end.saturating_add(MARGIN));
+    }
+    width
+}
+
+/// Where no name may stand: at moves and replies.
+fn taken_of(alloc: Global, marks: &Marks, replies: &[Beside]) -> Result<Labels, AllocError> {
+    let mut taken = Labels::new(alloc);
+    for number in 1..marks.height.saturating_add(1) {
+        let y = row(number).saturating_add(4);
+        taken.put(Spot { x: 8, y }, MOVE)?;
+    }
+    for reply in replies {
+        // bold letters are wider
+        taken.put(reply.at, reply.letters.saturating_add(reply.letters / 6))?;
+    }
+    Ok(taken)
+}
+
+/// The names of all strings, and where they stand.
+fn labels_of(
+    alloc: Global,
+    marks: &Marks,
+    replies: &[Beside],
+    log: &RunLog,
+) -> Result<Vec<Label>, AllocError> {
+    let mut taken = taken_of(alloc, marks, replies)?;
+    let mut labels = Vec::new(alloc);
+    for way in marks.ways.iter() {
+        let name = match log.strings.get(way.string) {
+            Some(head) => name_of(alloc, way, head)?,
+            None => String::new(alloc),
+        };
+        let at = taken.place(way, name.len() as u64)?;
+        labels.push(Label { at, name })?;
+    }
+    Ok(labels)
 }
 
 /// Begins the picture: its size, and what the lines mean.
@@ -302,14 +393,18 @@ pub struct Picture {
     /// The corner at the right, below.
     size: Spot,
     marks: Marks,
+    labels: Vec<Label>,
     lanes: Lanes,
 }
 
 impl Picture {
     /// What is to be drawn of what was seen of a run.
     pub fn of(alloc: Global, chart: Chart, log: &RunLog) -> Result<Picture, AllocError> {
-        let width = width_of(alloc, chart, log)?;
-        let marks = Marks::of(alloc, log)?;
+        let drawn = Drawn::of(alloc, chart.part, log)?;
+        let marks = Marks::of(alloc, log, &drawn)?;
+        let replies = replies_of(alloc, &marks, log)?;
+        let labels = labels_of(alloc, &marks, &replies, log)?;
+        let width = width_of(chart, &replies);
         let lanes = Lanes::of(alloc, chart)?;
         let size = Spot {
             x: width,
@@ -319,8 +414,14 @@ impl Picture {
             chart,
             size,
             marks,
+            labels,
             lanes,
         })
+    }
+
+    /// How high the picture is, in pixels.
+    pub fn height(&self) -> u64 {
+        self.size.y
     }
 
     /// Draws what was seen of the run, as SVG: lines first, so that what is read stands above them.
@@ -332,7 +433,7 @@ impl Picture {
         begin(self.chart, self.size, out)?;
         draw_nodes(self.chart.nodes, out)?;
         draw_lanes(&mut self.lanes, log, &self.marks, out)?;
-        draw_ways(log, &self.marks, out)?;
+        draw_ways(&self.marks, &self.labels, out)?;
         draw_texts(log, &self.marks, out)?;
         out.write_all(b"</svg>\n")
     }

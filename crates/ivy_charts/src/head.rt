@@ -1,4 +1,10 @@
 //! What the frame of a string says.
+ghost use Rattle.std.specs.Prelude.{◌≡◌, IfOk, IsOkAnd, length};
+ghost use Rattle.ivy_model.specs.stated.Config.{IsConfig};
+ghost use Rattle.ivy_wire.specs.Lent.{owned_content, owned_message};
+ghost use Rattle.ivy_wire.specs.stated.Data.{Frame as StringFrame};
+ghost use Rattle.ivy_wire.specs.stated.Spelling.{Spells};
+ghost use Rattle.ivy_charts.specs.Heads.{IsHeadOf, about_in, head_in, page_in};
 
 use ivy_model::{Config, Fault};
 use ivy_wire::{Content, FrameKind, Message, read_frame};
@@ -31,7 +37,9 @@ pub struct RunHead {
 }
 
 /// The page that a message is about, where it is about one.
-fn page_of(content: &Content<&[u8]>) -> Option<u32> {
+fn page_of(content: &Content<&[u8]>) -> Option<u32>
+    ensures { result ≡ page_in (owned_content content.now) }
+{
     match content {
         Content::ReadReq { page }
         | Content::WriteReq { page }
@@ -43,7 +51,9 @@ fn page_of(content: &Content<&[u8]>) -> Option<u32> {
     }
 }
 
-fn about_of(message: &Message<&[u8]>) -> About {
+fn about_of(message: &Message<&[u8]>) -> About
+    ensures { result ≡ about_in (owned_message message.now) }
+{
     About {
         origin: message.origin,
         call: message.call,
@@ -53,16 +63,24 @@ fn about_of(message: &Message<&[u8]>) -> About {
 
 impl RunHead {
     /// What the frame of a string says [2, 11 to 16].
-    pub fn read(config: &Config, bytes: &[u8]) -> Result<RunHead, Fault> {
+    pub fn read(config: &Config, bytes: &[u8]) -> Result<RunHead, Fault>
+        ensures head { IfOk result (λ head. IsHeadOf config.now bytes.now head) }
+        // Where the string spells a frame, the head of that one is given.
+        ensures only { IsConfig config.now → (frame : StringFrame) → Spells config.now frame bytes.now → IsOkAnd result (λ head. head ≡ head_in frame (length bytes.now)) }
+    {
         config.check_wide()?;
         let frame = read_frame(config, bytes)?;
+        let about = match &frame.body {
+            Some(message) => Some(about_of(message)),
+            None => None,
+        };
         Ok(RunHead {
             kind: frame.kind(),
             source: frame.source,
             dest: frame.dest,
             number: frame.number,
             len: bytes.len(),
-            about: frame.body.as_ref().map(about_of),
+            about,
         })
     }
 

@@ -1,7 +1,7 @@
 //! Where everything stands in a picture.
 
-use crate::access::is_seen;
 use crate::log::{Happening, RunLog};
+use crate::part::{Drawn, tells};
 use ivy_link::Verdict;
 use ivy_moves::Move;
 use std::alloc::{AllocError, Global};
@@ -65,12 +65,24 @@ pub(crate) struct Way {
     pub(crate) is_again: bool,
 }
 
+/// The move that sent a string: its row, whether it was a pulse, and whether it is drawn.
+#[derive(Clone, Copy)]
+struct Sender {
+    row: u64,
+    is_again: bool,
+    is_drawn: bool,
+}
+
 /// The row of each move, and the move that sent each string.
 #[derive(Drop)]
 pub(crate) struct Marks {
     pub(crate) rows: Vec<u64>,
-    /// Of each string, the row of the move that sent it, and whether that was a pulse.
-    pub(crate) senders: Vec<(u64, bool)>,
+    /// Of each string, the move that sent it.
+    senders: Vec<Sender>,
+    /// Which moves are drawn.
+    drawn: Vec<bool>,
+    /// Of each string, whether it came, in a move that is drawn or not.
+    came: Vec<bool>,
     pub(crate) ways: Vec<Way>,
     /// How many rows there are.
     pub(crate) height: u64,
@@ -78,20 +90,30 @@ pub(crate) struct Marks {
 
 impl Marks {
     /// Whether something is to be seen of a move, and which strings it sent.
-    fn pass(&mut self, log: &RunLog, happening: &Happening) -> Result<(), AllocError> {
-        if is_seen(happening) {
+    fn pass(
+        &mut self,
+        log: &RunLog,
+        happening: &Happening,
+        is_drawn: bool,
+    ) -> Result<(), AllocError> {
+        if is_drawn {
             self.height = self.height.saturating_add(1);
         }
         self.rows.push(self.height)?;
-        let is_again = matches!(happening.step, Move::Pulse { .. });
-        let sender = (self.height, is_again);
+        self.drawn.push(is_drawn)?;
+        let sender = Sender {
+            row: self.height,
+            is_again: matches!(happening.step, Move::Pulse { .. }),
+            is_drawn,
+        };
         self.send(log.sent_by(happening).len(), sender)
     }
 
     /// So many strings are sent.
-    fn send(&mut self, count: usize, sender: (u64, bool)) -> Result<(), AllocError> {
+    fn send(&mut self, count: usize, sender: Sender) -> Result<(), AllocError> {
         for _ in 0..count {
             self.senders.push(sender)?;
+            self.came.push(false)?;
         }
         Ok(())
     }
@@ -101,15 +123,38 @@ impl Marks {
         self.rows.get(place).copied().unwrap_or(0)
     }
 
-    /// Where a string leaves.
-    fn start(&self, log: &RunLog, string: usize) -> Option<(Spot, bool)> {
+    /// Whether a move is drawn, by its place among all.
+    pub(crate) fn is_drawn(&self, place: usize) -> bool {
+        self.drawn.get(place).copied().unwrap_or(false)
+    }
+
+    /// Where a string leaves, and what sent it.
+    fn start(&self, log: &RunLog, string: usize) -> Option<(Spot, Sender)> {
         let head = log.strings.get(string)?;
-        let (at, is_again) = self.senders.get(string).copied()?;
+        let sender = self.senders.get(string).copied()?;
         let spot = Spot {
             x: lane(u64::from(head.source)),
-            y: row(at),
+            y: row(sender.row),
         };
-        Some((spot, is_again))
+        Some((spot, sender))
+    }
+
+    /// Where a string comes in a move, where something of its way is drawn: below all rows where the move itself is not.
+    fn end(&self, place: usize, string: usize, to: u64) -> Option<Spot> {
+        let is_sent = self.senders.get(string).copied()?.is_drawn;
+        let y = match (self.is_drawn(place), is_sent) {
+            (true, _) => row(self.row_of(place)),
+            (false, true) => row(self.height.saturating_add(1)),
+            (false, false) => return None,
+        };
+        Some(Spot { x: lane(to), y })
+    }
+
+    /// Notes that a string came.
+    fn note_came(&mut self, string: usize) {
+        if let Some(came) = self.came.get_mut(string) {
+            *came = true;
+        }
     }
 
     /// Adds the ways of the strings that came.
@@ -117,11 +162,12 @@ impl Marks {
         for place in 0..log.happenings.len() {
             let happening = &log.happenings[place];
             if let Move::Deliver { index, to } = happening.step {
-                let end = Spot {
-                    x: lane(to),
-                    y: row(self.row_of(place)),
-                };
-                self.add(log, index as usize, end, happening.heard)?;
+                let string = index as usize;
+                self.note_came(string);
+                let is_shown = self.is_drawn(place) || tells(happening);
+                if let (true, Some(end)) = (is_shown, self.end(place, string, to)) {
+                    self.add(log, string, end, happening.heard)?;
+                }
             }
         }
         Ok(())
@@ -135,32 +181,25 @@ impl Marks {
         to: Spot,
         heard: Option<Verdict>,
     ) -> Result<(), AllocError> {
-        if let Some((from, is_again)) = self.start(log, string) {
+        if let Some((from, sender)) = self.start(log, string) {
             self.ways.push(Way {
                 string,
                 from,
                 to,
                 heard,
-                is_again,
+                is_again: sender.is_again,
             })?;
         }
         Ok(())
     }
 
-    /// Whether a string came.
-    fn has_way(&self, string: usize) -> bool {
-        for way in self.ways.iter() {
-            if way.string == string {
-                return true;
-            }
-        }
-        false
-    }
-
-    /// Where the way of a lost string ends: below the row of the move that sent it.
-    fn end_of_lost(&self, log: &RunLog, string: usize) -> Option<Spot> {
+    /// Where the way of a lost string ends: below the row of the move that sent it. None where that is not drawn.
+    fn end_of_lost(&self, log: &RunLog, drawn: &Drawn, string: usize) -> Option<Spot> {
         let head = log.strings.get(string)?;
-        let (from, _is_again) = self.start(log, string)?;
+        let (from, sender) = self.start(log, string)?;
+        if !sender.is_drawn || !drawn.has_lost(sender.is_again) {
+            return None;
+        }
         Some(Spot {
             x: lane(u64::from(head.dest)),
             y: from.y.saturating_add(ROW),
@@ -168,37 +207,41 @@ impl Marks {
     }
 
     /// Adds the ways of the strings that never came.
-    fn lose(&mut self, log: &RunLog) -> Result<(), AllocError> {
+    fn lose(&mut self, log: &RunLog, drawn: &Drawn) -> Result<(), AllocError> {
         for string in 0..log.strings.len() {
-            if !self.has_way(string) {
-                if let Some(to) = self.end_of_lost(log, string) {
-                    self.add(log, string, to, None)?;
-                }
+            if self.came.get(string) != Some(&false) {
+                continue;
+            }
+            if let Some(to) = self.end_of_lost(log, drawn, string) {
+                self.add(log, string, to, None)?;
             }
         }
         Ok(())
     }
 
     /// Where everything stands in the picture of a run.
-    pub(crate) fn of(alloc: Global, log: &RunLog) -> Result<Marks, AllocError> {
+    pub(crate) fn of(alloc: Global, log: &RunLog, drawn: &Drawn) -> Result<Marks, AllocError> {
         let mut marks = Marks {
             rows: Vec::new(alloc),
             senders: Vec::new(alloc),
+            drawn: Vec::new(alloc),
+            came: Vec::new(alloc),
             ways: Vec::new(alloc),
             height: 0,
         };
-        match marks.read(log) {
+        match marks.read(log, drawn) {
             Ok(()) => Ok(marks),
             Err(error) => Err(error),
         }
     }
 
     /// Goes through what was seen of a run.
-    fn read(&mut self, log: &RunLog) -> Result<(), AllocError> {
-        for happening in log.happenings.iter() {
-            self.pass(log, happening)?;
+    fn read(&mut self, log: &RunLog, drawn: &Drawn) -> Result<(), AllocError> {
+        for place in 0..log.happenings.len() {
+            let happening = &log.happenings[place];
+            self.pass(log, happening, drawn.has(place, happening))?;
         }
         self.come(log)?;
-        self.lose(log)
+        self.lose(log, drawn)
     }
 }
