@@ -177,15 +177,57 @@ uint32_t ivy_word_barrier_wait(ivy_process *process, ivy_word_barrier *barrier) 
 /* So many nodes are below each one of a tree. */
 enum { WIDTH = 4 };
 
+/* The first node below this one, and the one after the last that can be. */
+static uint64_t first_below(uint32_t me) { return WIDTH * (uint64_t)me + 1; }
+
+static uint64_t end_below(const ivy_tree_barrier *tree, uint32_t me) {
+  uint64_t end = first_below(me) + WIDTH;
+  return end < tree->nodes ? end : tree->nodes;
+}
+
+static void gather(ivy_process *process, const ivy_tree_barrier *tree, uint32_t me, uint64_t phase) {
+  for (uint64_t below = first_below(me); below < end_below(tree, me); below++)
+    look_until(process, tree->raised + tree->apart * below, phase);
+}
+
+static void await_parent(ivy_process *process, const ivy_tree_barrier *tree, uint32_t me, uint64_t phase) {
+  if (me > 0) look_until(process, tree->opened + tree->apart * ((me - 1) / WIDTH), phase);
+}
+
 uint32_t ivy_tree_barrier_wait(ivy_process *process, ivy_tree_barrier *barrier, uint32_t me) {
   uint64_t phase = barrier->passed + 1, own = barrier->apart * me;
-  for (uint64_t below = WIDTH * (uint64_t)me + 1; below <= WIDTH * (uint64_t)me + WIDTH && below < barrier->nodes; below++)
-    look_until(process, barrier->raised + barrier->apart * below, phase);
+  gather(process, barrier, me, phase);
   ivy_store(process, WORD, barrier->raised + own, phase);
-  if (me > 0) look_until(process, barrier->opened + barrier->apart * ((me - 1) / WIDTH), phase);
+  await_parent(process, barrier, me, phase);
   ivy_store(process, WORD, barrier->opened + own, phase);
   barrier->passed = phase;
   return ivy_error(process);
+}
+
+uint64_t ivy_tree_reduction_fold(ivy_process *process, ivy_tree_reduction *reduction, uint32_t me, uint64_t value,
+                                 uint64_t (*fold)(uint64_t so_far, uint64_t one)) {
+  ivy_tree_barrier *tree = &reduction->tree;
+  uint64_t phase = tree->passed + 1, at = tree->apart * me;
+  gather(process, tree, me, phase);
+  for (uint64_t below = first_below(me); below < end_below(tree, me); below++)
+    value = fold(value, ivy_load(process, WORD, reduction->part + tree->apart * below));
+  ivy_store(process, WORD, reduction->part + at, value);
+  ivy_store(process, WORD, tree->raised + at, phase);
+  await_parent(process, tree, me, phase);
+  if (me > 0) value = ivy_load(process, WORD, reduction->given + tree->apart * ((me - 1) / WIDTH));
+  ivy_store(process, WORD, reduction->given + at, value);
+  ivy_store(process, WORD, tree->opened + at, phase);
+  tree->passed = phase;
+  return value;
+}
+
+static uint64_t own(uint64_t so_far, uint64_t one) {
+  (void)one;
+  return so_far;
+}
+
+uint64_t ivy_tree_reduction_share(ivy_process *process, ivy_tree_reduction *reduction, uint32_t me, uint64_t value) {
+  return ivy_tree_reduction_fold(process, reduction, me, value, own);
 }
 
 uint32_t ivy_touch(ivy_process *process, uint64_t address, uint64_t pages, uint64_t apart) {

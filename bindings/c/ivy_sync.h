@@ -131,6 +131,23 @@ uint64_t ivy_sum(uint64_t so_far, uint64_t one);
 uint64_t ivy_least(uint64_t so_far, uint64_t one);
 uint64_t ivy_greatest(uint64_t so_far, uint64_t one);
 
+/* ---- The same by a tree: each node looks at words of five others at most, and all have met -----------------------------
+ *
+ * Beside the words of a barrier by a tree each node has one for its part and one for what all get, as far apart, best on the
+ * pages of those two. Here the words may be used again at once. */
+
+typedef struct {
+  ivy_tree_barrier tree;
+  uint64_t part, given;
+} ivy_tree_reduction;
+
+/* What the numbers of all nodes come to by an operation to which neither order nor grouping matters. */
+uint64_t ivy_tree_reduction_fold(ivy_process *process, ivy_tree_reduction *reduction, uint32_t me, uint64_t value,
+                                 uint64_t (*fold)(uint64_t so_far, uint64_t one));
+
+/* The number of node 0, which reaches all so: each node calls it. */
+uint64_t ivy_tree_reduction_share(ivy_process *process, ivy_tree_reduction *reduction, uint32_t me, uint64_t value);
+
 /* ---- Bytes of each node, which all get: so many for each at the address, in the form of ivy_native.h -------------------- */
 
 /* Gives the bytes of node `me`, waits for the others, and gets those of all, from node 0 on. Before they are given again all

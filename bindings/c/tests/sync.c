@@ -144,6 +144,8 @@ static void go_on(example *e) {
 static void meet_otherwise(example *e) {
   ivy_word_barrier words = { APART, APART + PAGE, e->nodes, 0 };
   ivy_tree_barrier tree = { APART + 2 * PAGE, APART + 2 * PAGE + 8, PAGE, e->nodes, 0 };
+  ivy_tree_reduction both = { { APART + 2 * PAGE + 16, APART + 2 * PAGE + 24, PAGE, e->nodes, 0 },
+                              APART + 2 * PAGE + 32, APART + 2 * PAGE + 40 };
   const ivy_array_lock lock = { APART + 8 * PAGE, APART + 9 * PAGE, PAGE, e->nodes };
   uint64_t own = FIRST + PAGE + 64 + 8 * (uint64_t)e->me, sum = FIRST + 48;
   for (uint64_t i = 1; i <= EACH; i++) {
@@ -152,6 +154,9 @@ static void meet_otherwise(example *e) {
     for (uint64_t k = 0; k < e->nodes; k++)
       expect(e, "what all stored", ivy_load(e->ivy, 8, FIRST + PAGE + 64 + 8 * k), i);
     expect(e, "a barrier by a tree", ivy_tree_barrier_wait(e->ivy, &tree, e->me), IVY_DONE);
+    expect(e, "a sum by a tree", ivy_tree_reduction_fold(e->ivy, &both, e->me, i + e->me, ivy_sum),
+           e->nodes * i + (uint64_t)e->nodes * (e->nodes - 1) / 2);
+    expect(e, "what node 0 shares", ivy_tree_reduction_share(e->ivy, &both, e->me, i + 7 * e->me), i);
     uint64_t ticket = ivy_array_lock_acquire(e->ivy, lock);
     ivy_store(e->ivy, 8, sum, ivy_load(e->ivy, 8, sum) + 1);
     expect(e, "what is left", ivy_array_lock_release(e->ivy, lock, ticket), IVY_DONE);

@@ -8,8 +8,9 @@ use ivy_calls::{CallError, SharedMemory, load, store};
 /// A number of each node, which all nodes put together by a tree, over and over: each node has a value of its own.
 ///
 /// Node `i` waits for its children, puts their parts to its own number, and leaves that, its part, in a word of its own for
-/// its parent. On the way down each node gets what node 0's part is, and leaves it for its children. So a node reads no
-/// more than five words of others, and all have met. Nobody else may write in these words.
+/// its parent. On the way down each node gets what node 0's part is, and leaves it for its children. So a node looks
+/// at words of five others at most, and all have met. Nobody else may write in these words, nor a node beside the calls of
+/// its value.
 #[derive(Clone, Copy, Debug, PartialEq, Eq)]
 pub struct TreeReduction {
     /// By which the nodes wait for each other. The words of two nodes lie `apart` bytes apart here too.

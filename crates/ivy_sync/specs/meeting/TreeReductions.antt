@@ -1,6 +1,6 @@
 -- A reduction of all nodes by a tree: node i puts the parts of its children, 4i+1 to 4i+4, to its own number, and
 -- leaves what that comes to, its part, for its parent. On the way down all get node 0's part.
-use Rattle.std.specs.Prelude.{◌≡◌, ◌≢◌, ℕ, zero, suc, ◌+◌, ◌-◌, ◌*◌, ◌/◌, ◌^◌, ◌<◌, List, [], ◌∷◌, ◌++◌}
+use Rattle.std.specs.Prelude.{◌≡◌, ◌≢◌, ℕ, zero, suc, ◌+◌, ◌-◌, ◌*◌, ◌/◌, ◌^◌, ◌<◌, ◌≤◌, ◌⊎◌, List, [], ◌∷◌, ◌++◌}
 use Rattle.std.specs.Prelude.{length, slice_get, Some}
 use Rattle.std.specs.List.{FoldsTo}
 use Rattle.ivy_model.specs.declared.config.Config.{Config}
@@ -49,8 +49,19 @@ pub record Descends (at : Role → ℕ → ℕ) (phase i part all : ℕ) (descen
   pub whole : descent
       ≡ (waited ++ fetched) ++ (stores (at Given i) all ∷ stores (at Opened i) phase ∷ [])
 
--- A history of node i with such a reduction: what was before it, and after it. Before it the node leaves all words that
--- are raised or opened below the phase.
+-- Node i writes in its own words no more, or not before it has seen its children come to the next phase.
+pub record GoesOn (at : Role → ℕ → ℕ) (nodes phase i : ℕ) (after : List Answer) : Type 0 where
+  pub quiet : List Answer
+  pub later : List Answer
+  pub whole : after ≡ quiet ++ later
+  pub still : (role : Role) → NoWrite (at role i) quiet
+  pub next : (later ≡ [])
+      ⊎ ((gathered : List Answer) × (rest : List Answer)
+      × Gathered (at Raised) (phase + 1) (4 * i + 1) (children nodes i) gathered
+      × (later ≡ gathered ++ rest))
+
+-- A history of node i with such a reduction: what was before it, and after it. It writes in no other one's words, and
+-- before it leaves its own two that are raised or opened below the phase.
 pub record ReducesByTree (at : Role → ℕ → ℕ) (nodes phase i part all : ℕ) (values : List ℕ)
     (history : List Answer) : Type 0 where
   pub before : List Answer
@@ -60,10 +71,11 @@ pub record ReducesByTree (at : Role → ℕ → ℕ) (nodes phase i part all : �
   pub rises : Rises at nodes phase i part values rise
   pub descends : Descends at phase i part all descent
   pub whole : history ≡ (before ++ rise) ++ (descent ++ after)
-  pub raised_low : (n : ℕ) → n < nodes → KeepsBelow (at Raised n) phase before
-  pub open_low : (n : ℕ) → n < nodes → KeepsBelow (at Opened n) phase before
-  pub others : (n : ℕ) → n < nodes → n ≢ i → NoWrite (at Part n) before × NoWrite (at Given n) before
-  pub left : (role : Role) (n : ℕ) → n < nodes → NoWrite (at role n) after
+  pub low : (least : ℕ) → phase ≤ least
+      → KeepsBelow (at Raised i) least before × KeepsBelow (at Opened i) least before
+  pub others : (role : Role) (n : ℕ) → n < nodes → n ≢ i
+      → NoWrite (at role n) before × NoWrite (at role n) after
+  pub goes_on : GoesOn at nodes phase i after
 
 -- words of the heap, each another one; those that are raised or opened are below the phase
 pub record IsFoldPlace (c : Config) (m : Memory) (at : Role → ℕ → ℕ) (phase : ℕ) : Type 0 where
