@@ -1,5 +1,5 @@
 -- Lines at fault, and the entries before them.
-use Rattle.std.proofs.Common.{◌≡◌, ◌≢◌, ◌∙◌, ℕ, zero, suc, ◌+◌, ◌<◌, ◌≤◌, Bor, List, [], ◌∷◌, Option, Some, None, IfNone, codes, length, map, take, get_or, slice_get, option_map, refl, sym, ap, subst, zero-add, arith}
+use Rattle.std.proofs.Common.{◌≡◌, ◌≢◌, ◌∙◌, ℕ, zero, suc, ◌+◌, ◌<◌, ◌≤◌, Bor, List, [], ◌∷◌, Option, Some, None, IfNone, codes, length, map, take, get_or, slice_get, option_map, refl, ap, subst, zero-add, arith}
 use Rattle.std.specs.List.{AllZip, enumerate_from, filter}
 use Rattle.std.proofs.lemmas.List.FromFn.{get_or-enumerate_from, length-enumerate_from}
 use Rattle.std.proofs.lemmas.Option.{slice_get-map, slice_get_read}
@@ -21,7 +21,7 @@ use Rattle.ivy_logs.specs.declared.log.LogKind.{LogKind}
 use Rattle.ivy_logs.specs.declared.log.LogKind.TheVariants.{OfProgram, OfOwnCode}
 use Rattle.ivy_logs.specs.Entries.{LogEntry, SpellsAnswered, SpellsEntry, SpellsIn}
 use Rattle.ivy_logs.specs.Faults.{IsAtFault, IsFirstAtFault, SpellsNone}
-use Rattle.ivy_logs.specs.Spelled.{IsHexOf, SpellsEvent, SpellsNode}
+use Rattle.ivy_logs.specs.Spelled.{IsHexOf, SpellsEvent, SpellsNode, SpellsSum}
 
 -- how many words there are
 counted : {X : Type 0} (R : List ℕ → X → Type 0) (keyword : List ℕ) (xs : List X) (words : List (List ℕ))
@@ -63,14 +63,21 @@ in_counted OfProgram words (Answered answer) h = absurd h
 pub too_many : (kind : LogKind) (words : List (List ℕ)) → 7 < length words → SpellsNone kind words
 too_many kind words many e is h = absurd (omega (arith, many, in_counted kind words e h))
 
-pub node_counted : (words : List (List ℕ)) (h : LogHead) → SpellsNode words h → length words ≤ 5
-node_counted [] h s = absurd s
-node_counted (u ∷ []) h s = absurd s
-node_counted (u ∷ v ∷ []) h s = absurd s
-node_counted (u ∷ v ∷ w ∷ []) h s = absurd s
-node_counted (u ∷ v ∷ w ∷ x ∷ []) h s = absurd s
-node_counted (u ∷ v ∷ w ∷ x ∷ y ∷ []) h s = omega arith
-node_counted (u ∷ v ∷ w ∷ x ∷ y ∷ z ∷ more) h s = absurd s
+sum_counted : (words : List (List ℕ)) (sum : Option ℕ) → SpellsSum words sum → length words ≤ 1
+sum_counted [] sum s = omega arith
+sum_counted (w ∷ []) sum s = omega arith
+sum_counted (w ∷ v ∷ more) sum s = absurd s
+
+pub node_counted : (words : List (List ℕ)) (h : LogHead) (sum : Option ℕ) → SpellsNode words h sum
+    → (5 ≤ length words) × (length words ≤ 6)
+node_counted [] h sum s = absurd s
+node_counted (u ∷ []) h sum s = absurd s
+node_counted (u ∷ v ∷ []) h sum s = absurd s
+node_counted (u ∷ v ∷ w ∷ []) h sum s = absurd s
+node_counted (u ∷ v ∷ w ∷ x ∷ []) h sum s = absurd s
+node_counted (u ∷ v ∷ w ∷ x ∷ y ∷ rest) h sum s =
+    let few : length rest ≤ 1 = sum_counted rest sum s.2 in
+    (omega arith, omega (arith, few))
 
 positive : (ws : List (List ℕ)) → ws ≢ [] → 0 < length ws
 positive [] some = absurd (some refl)
@@ -80,6 +87,10 @@ positive (w ∷ ws) some = omega arith
 pub none-of : {T : Type 0} (o : Option T) (P : Type 0) → o ≡ None → IfNone o P → P
 none-of None P is h = h
 none-of (Some x) P is h = absurd (cc is)
+
+pub none-else : {T : Type 0} (o : Option T) (P Q : Type 0) → (P → Q) → IfNone o P → IfNone o Q
+none-else None P Q more is = more is
+none-else (Some x) P Q more is = tt
 
 -- each line with words says an entry
 module _ {X : Type 0} (S : List (List ℕ) → X → Type 0) where

@@ -8,3 +8,4 @@ pub mod Written
 pub mod ReadBack
 pub mod SpelledOnce
 pub mod Faulty
+pub mod Sums

@@ -1,5 +1,5 @@
 -- What is written of a log is read as that log.
-use Rattle.std.proofs.Common.{◌≡◌, ◌∙◌, ℕ, ◌<◌, ◌≤◌, ◌^◌, List, [], ◌∷◌, ◌++◌, All, length, map, codes, decimal, refl, sym, ap, subst, arith, rules, append_assoc, inl, inr, true, Ok}
+use Rattle.std.proofs.Common.{◌≡◌, ◌∙◌, ℕ, ◌<◌, ◌^◌, List, [], ◌∷◌, ◌++◌, All, length, map, codes, decimal, refl, sym, ap, subst, arith, append_assoc, inl, inr, Ok, IfSome, Option, Some, None}
 use Rattle.std.specs.List.{AllZip}
 use Rattle.std.specs.Str.Lines.{lines}
 use Rattle.std.proofs.lemmas.Fmt.{decimal_is_IsNumeral, decimal_nonempty, length-decimal-le}
@@ -13,8 +13,6 @@ use Rattle.ivy_model.specs.declared.Kind.{Kind}
 use Rattle.ivy_model.specs.declared.Kind.TheVariants.{Fixed, Dynamic}
 use Rattle.ivy_model.specs.declared.Reply.{Reply}
 use Rattle.ivy_model.specs.declared.Reply.TheVariants.{Value, Done, Refused}
-use Rattle.ivy_calls.specs.declared.Answer.{Answer}
-use Rattle.ivy_moves.specs.Events.{Event}
 use Rattle.ivy_moves.specs.declared.Event.TheVariants.{Turns, Delivered, Pulsed}
 use Rattle.ivy_program.specs.texts.Lines.{IsNumberWord}
 use Rattle.ivy_program.specs.texts.TextWords.{words_of}
@@ -24,9 +22,9 @@ use Rattle.ivy_logs.specs.declared.entry.LogEntry.TheVariants.{Did, Asked, Answe
 use Rattle.ivy_logs.specs.declared.log.LogHead.{LogHead}
 use Rattle.ivy_logs.specs.declared.log.LogKind.{LogKind}
 use Rattle.ivy_logs.specs.declared.log.LogKind.TheVariants.{OfProgram, OfOwnCode}
-use Rattle.ivy_logs.specs.Entries.{LogEntry, SpellsEntry, SpellsIn, SpellsLog, entry_line, entry_lines}
-use Rattle.ivy_logs.specs.Printed.{head_line}
-use Rattle.ivy_logs.specs.Spelled.{HasWholeLines, SpellsHead, is_end, kind_word, log_word}
+use Rattle.ivy_logs.specs.Entries.{HasSum, LogEntry, SpellsEntry, SpellsIn, SpellsLog, entry_line, entry_lines}
+use Rattle.ivy_logs.specs.Printed.{first_line, sum_end}
+use Rattle.ivy_logs.specs.Spelled.{HasWholeLines, SpellsFirst, SpellsSum, is_end, kind_word, log_word}
 use Rattle.ivy_logs.specs.ReadBack.{FitsEntry, FitsHead, FitsIn, IsWide, IsWideReply, LogsReadBack, numbers_of}
 use Rattle.ivy_logs.proofs.Frames.{digits_large, number_large}
 use Rattle.ivy_logs.proofs.Written.{IsWord, Line, after-end, before-end, joined_text, joined-whole, line_text, line_words, lines_text, literal, no-end, spaced, worded-joined, words-spaced}
@@ -330,95 +328,122 @@ flat a b c d e f g =
     ∙ append_assoc (a ++ b) c (d ++ (e ++ (f ++ g)))
     ∙ append_assoc a b (c ++ (d ++ (e ++ (f ++ g))))
 
--- the first line
-module _ (kind : LogKind) (h : LogHead) (fits : FitsHead h) where
-  abbrev numbers : List ℕ
-  numbers = h.me ∷ h.config.nodes ∷ h.config.pages ∷ h.config.page_size ∷ []
+-- the word of a sum, where there is one
+abbrev sum_words : Option ℕ → List (List ℕ)
+sum_words None = []
+sum_words (Some sum) = decimal sum ∷ []
 
-  wide : All IsWide numbers
-  wide =
-      All-cons IsWide h.me (h.config.nodes ∷ h.config.pages ∷ h.config.page_size ∷ []) fits.me
-      (All-cons IsWide h.config.nodes (h.config.pages ∷ h.config.page_size ∷ []) fits.nodes
-      (All-cons IsWide h.config.pages (h.config.page_size ∷ []) fits.pages
-      (All-cons IsWide h.config.page_size [] fits.page_size (All-nil IsWide))))
+sum-are : (sum : Option ℕ) → IfSome sum IsWide → All IsWord (sum_words sum)
+sum-are None wide = All-nil IsWord
+sum-are (Some sum) wide = one-word (decimal sum) (is-number sum wide)
+
+sum-spelled : (sum : Option ℕ) → IfSome sum IsWide → SpellsSum (sum_words sum) sum
+sum-spelled None wide = tt
+sum-spelled (Some sum) wide = number-word sum wide
+
+-- the last words of the first line, to its end
+last-words : (word : List ℕ) (sum : Option ℕ) → word ++ sum_end sum ≡ spaced_to word (sum_words sum) (10 ∷ [])
+last-words word None = refl
+last-words word (Some sum) = refl
+
+-- the first line
+module _ (kind : LogKind) (h : LogHead) (sum : Option ℕ) (fits : FitsHead kind h sum) where
+  abbrev manager : List ℕ
+  manager = kind_word h.config.manager
+
+  abbrev said : List (List ℕ)
+  said =
+      decimal h.me ∷ decimal h.config.nodes ∷ decimal h.config.pages ∷ decimal h.config.page_size ∷ manager
+      ∷ sum_words sum
 
   abbrev head-of : Line
   head-of = record {
     word = codes "ivy";
-    more = log_word kind ∷ decimal h.me ∷ decimal h.config.nodes ∷ decimal h.config.pages
-        ∷ decimal h.config.page_size ∷ kind_word h.config.manager ∷ [];
+    more = log_word kind ∷ said;
     is = literal (codes "ivy") refl (omega arith);
-    all = All-cons IsWord (log_word kind)
-        (decimal h.me ∷ decimal h.config.nodes ∷ decimal h.config.pages ∷ decimal h.config.page_size
-        ∷ kind_word h.config.manager ∷ [])
-        (kind-word kind)
+    all = All-cons IsWord (log_word kind) said (kind-word kind)
         (All-cons IsWord (decimal h.me)
-        (decimal h.config.nodes ∷ decimal h.config.pages ∷ decimal h.config.page_size
-        ∷ kind_word h.config.manager ∷ [])
+        (decimal h.config.nodes ∷ decimal h.config.pages ∷ decimal h.config.page_size ∷ manager ∷ sum_words sum)
         (is-number h.me fits.me)
         (All-cons IsWord (decimal h.config.nodes)
-        (decimal h.config.pages ∷ decimal h.config.page_size ∷ kind_word h.config.manager ∷ [])
+        (decimal h.config.pages ∷ decimal h.config.page_size ∷ manager ∷ sum_words sum)
         (is-number h.config.nodes fits.nodes)
-        (All-cons IsWord (decimal h.config.pages) (decimal h.config.page_size ∷ kind_word h.config.manager ∷ [])
+        (All-cons IsWord (decimal h.config.pages) (decimal h.config.page_size ∷ manager ∷ sum_words sum)
         (is-number h.config.pages fits.pages)
-        (All-cons IsWord (decimal h.config.page_size) (kind_word h.config.manager ∷ [])
+        (All-cons IsWord (decimal h.config.page_size) (manager ∷ sum_words sum)
         (is-number h.config.page_size fits.page_size)
-        (one-word (kind_word h.config.manager) (manager-word h.config.manager))))));
+        (All-cons IsWord manager (sum_words sum) (manager-word h.config.manager) (sum-are sum fits.wide))))));
   }
 
-  node-text : (((((decimal h.me ++ then_number h.config.nodes) ++ then_number h.config.pages)
-      ++ then_number h.config.page_size) ++ 32 ∷ []) ++ kind_word h.config.manager) ++ 10 ∷ []
-      ≡ spaced_to (decimal h.me)
-      (decimal h.config.nodes ∷ decimal h.config.pages ∷ decimal h.config.page_size
-      ∷ kind_word h.config.manager ∷ []) (10 ∷ [])
-  node-text =
+  -- the numbers, and what stands behind them
+  numbered : (rest : List ℕ) → (((((decimal h.me ++ then_number h.config.nodes) ++ then_number h.config.pages)
+      ++ then_number h.config.page_size) ++ 32 ∷ []) ++ manager) ++ rest
+      ≡ decimal h.me ++ (then_number h.config.nodes ++ (then_number h.config.pages
+      ++ (then_number h.config.page_size ++ (32 ∷ [] ++ (manager ++ rest)))))
+  numbered rest =
       flat (decimal h.me) (then_number h.config.nodes) (then_number h.config.pages)
-      (then_number h.config.page_size) (32 ∷ []) (kind_word h.config.manager) (10 ∷ [])
+      (then_number h.config.page_size) (32 ∷ []) manager rest
 
-  as-written : (k : LogKind) → head_line k h
-      ≡ spaced_to (codes "ivy")
-      (log_word k ∷ decimal h.me ∷ decimal h.config.nodes ∷ decimal h.config.pages
-      ∷ decimal h.config.page_size ∷ kind_word h.config.manager ∷ []) (10 ∷ [])
+  abbrev front : List ℕ
+  front = ((((decimal h.me ++ then_number h.config.nodes) ++ then_number h.config.pages)
+      ++ then_number h.config.page_size) ++ 32 ∷ []) ++ manager
+
+  node-text : front ++ sum_end sum
+      ≡ spaced_to (decimal h.me)
+      (decimal h.config.nodes ∷ decimal h.config.pages ∷ decimal h.config.page_size ∷ manager ∷ sum_words sum)
+      (10 ∷ [])
+  node-text =
+      numbered (sum_end sum)
+      ∙ ap (λ t. decimal h.me ++ (then_number h.config.nodes ++ (then_number h.config.pages
+      ++ (then_number h.config.page_size ++ (32 ∷ t))))) (last-words manager sum)
+
+  as-written : (k : LogKind) → first_line k h sum ≡ spaced_to (codes "ivy") (log_word k ∷ said) (10 ∷ [])
   as-written OfProgram = ap (λ t. codes "ivy log " ++ t) node-text
   as-written OfOwnCode = ap (λ t. codes "ivy own " ++ t) node-text
 
-  head-written : head_line kind h ≡ line_text head-of ++ 10 ∷ []
-  head-written =
-      as-written kind
-      ∙ sym (spaced-to (codes "ivy")
-      (log_word kind ∷ decimal h.me ∷ decimal h.config.nodes ∷ decimal h.config.pages
-      ∷ decimal h.config.page_size ∷ kind_word h.config.manager ∷ []) (10 ∷ []))
+  head-written : first_line kind h sum ≡ line_text head-of ++ 10 ∷ []
+  head-written = as-written kind ∙ sym (spaced-to (codes "ivy") (log_word kind ∷ said) (10 ∷ []))
 
-  head-spelled : SpellsHead kind (line_words head-of) h
+  head-spelled : SpellsFirst kind (line_words head-of) h sum
   head-spelled = (
-    refl,
+    fits.may,
     (
       refl,
       (
-        number-word h.me fits.me,
-        number-word h.config.nodes fits.nodes,
-        number-word h.config.pages fits.pages,
-        number-word h.config.page_size fits.page_size,
         refl,
+        (
+          number-word h.me fits.me,
+          (
+            number-word h.config.nodes fits.nodes,
+            number-word h.config.pages fits.pages,
+            number-word h.config.page_size fits.page_size,
+            refl,
+          ),
+          sum-spelled sum fits.wide,
+        ),
       ),
     ),
   )
 
 pub logs-read-back : LogsReadBack
-logs-read-back kind head entries fits all =
-    let l : Line = head-of kind head fits in
+logs-read-back kind head sum entries fits all =
+    let l : Line = head-of kind head sum fits in
     let rest : List ℕ = entry_lines entries in
-    let split : head_line kind head ++ rest ≡ line_text l ++ 10 ∷ rest =
-    ap (λ t. t ++ rest) (head-written kind head fits) ∙ append_assoc (line_text l) (10 ∷ []) rest in
+    let split : first_line kind head sum ++ rest ≡ line_text l ++ 10 ∷ rest =
+    ap (λ t. t ++ rest) (head-written kind head sum fits) ∙ append_assoc (line_text l) (10 ∷ []) rest in
     let none = no-end l.word l.more l.is l.all in
     let cut : IsCut kind (lines-of kind entries all) (lines_text (lines-of kind entries all)) =
     cut-lines kind (lines-of kind entries all) in
-    subst (λ t. SpellsLog kind t head entries) (sym split) (record {
-      first = subst (λ ws. SpellsHead kind ws head)
-          (sym (ap words_of (before-end (line_text l) rest none) ∙ words-spaced l.word l.more l.is l.all))
-          (head-spelled kind head fits);
-      whole = cut.whole;
-      cut = subst (λ t. HasWholeLines t cut.whole)
-          (sym (after-end (line_text l) rest none ∙ lines-written kind entries all)) cut.cut;
-      each = subst (λ ws. AllZip (SpellsIn kind) ws entries) (sym cut.words) (lines-spelled kind entries all);
-    })
+    let first : HasSum kind (line_text l ++ 10 ∷ rest) head sum =
+    subst (λ ws. SpellsFirst kind ws head sum)
+    (sym (ap words_of (before-end (line_text l) rest none) ∙ words-spaced l.word l.more l.is l.all))
+    (head-spelled kind head sum fits) in (
+      subst (λ t. SpellsLog kind t head entries) (sym split) (record {
+        first = (sum, first);
+        whole = cut.whole;
+        cut = subst (λ t. HasWholeLines t cut.whole)
+            (sym (after-end (line_text l) rest none ∙ lines-written kind entries all)) cut.cut;
+        each = subst (λ ws. AllZip (SpellsIn kind) ws entries) (sym cut.words) (lines-spelled kind entries all);
+      }),
+      subst (λ t. HasSum kind t head sum) (sym split) first,
+    )

@@ -1,5 +1,5 @@
 -- A text is that of one log at most.
-use Rattle.std.proofs.Common.{◌≡◌, ◌≢◌, ◌∙◌, ℕ, ◌+◌, ◌*◌, ◌<◌, ◌==◌, ◌⊎◌, inl, inr, List, [], ◌∷◌, ◌++◌, length, drop, get_or, slice_index, codes, refl, sym, ap, subst, arith, rules, if◌then◌else◌, Ok}
+use Rattle.std.proofs.Common.{◌≡◌, ◌≢◌, ◌∙◌, ℕ, ◌+◌, ◌*◌, ◌<◌, ◌==◌, ◌⊎◌, inl, inr, List, [], ◌∷◌, ◌++◌, length, drop, get_or, slice_index, codes, refl, sym, ap, subst, arith, if◌then◌else◌, Option}
 use Rattle.std.specs.List.{AllZip, after_first, before_first}
 use Rattle.std.specs.Str.{NoCharPasses}
 use Rattle.std.specs.Str.Lines.{lines}
@@ -14,7 +14,6 @@ use Rattle.ivy_model.specs.declared.Kind.{Kind}
 use Rattle.ivy_model.specs.declared.Kind.TheVariants.{Fixed, Dynamic}
 use Rattle.ivy_model.specs.declared.Reply.{Reply}
 use Rattle.ivy_model.specs.declared.Reply.TheVariants.{Value, Done, Refused}
-use Rattle.ivy_calls.specs.declared.Answer.{Answer}
 use Rattle.ivy_moves.specs.Events.{Event}
 use Rattle.ivy_moves.specs.declared.Event.TheVariants.{Turns, Delivered, Pulsed}
 use Rattle.ivy_program.specs.texts.Lines.{IsNumberWord}
@@ -24,8 +23,8 @@ use Rattle.ivy_logs.specs.declared.entry.LogEntry.TheVariants.{Did, Asked, Answe
 use Rattle.ivy_logs.specs.declared.log.LogHead.{LogHead}
 use Rattle.ivy_logs.specs.declared.log.LogKind.{LogKind}
 use Rattle.ivy_logs.specs.declared.log.LogKind.TheVariants.{OfProgram, OfOwnCode}
-use Rattle.ivy_logs.specs.Entries.{LogEntry, Numbered, SpellsAnswered, SpellsEntry, SpellsIn, SpellsLog}
-use Rattle.ivy_logs.specs.Spelled.{HasWholeLines, IsHexOf, SpellsEvent, SpellsHead, SpellsNode, is_end, kind_word, log_word}
+use Rattle.ivy_logs.specs.Entries.{LogEntry, Numbered, SpellsAnswered, SpellsEntry, SpellsIn}
+use Rattle.ivy_logs.specs.Spelled.{HasWholeLines, IsHexOf, SpellsConfig, SpellsEvent, SpellsHead, SpellsNode, is_end, kind_word, log_word}
 use Rattle.ivy_logs.specs.ReadBack.{LogsSpellOne, numbers_of}
 use Rattle.ivy_logs.proofs.ReadBack.{keyword_of}
 
@@ -312,35 +311,49 @@ kind-once word Dynamic Fixed a b =
     differ (codes "dynamic") (codes "fixed") 0 100 102 (sym a ∙ b) refl refl
     (λ s. omega (arith, s))
 
-same-head : (g h : LogHead) → g.me ≡ h.me → g.config.nodes ≡ h.config.nodes → g.config.pages ≡ h.config.pages
-    → g.config.page_size ≡ h.config.page_size → g.config.manager ≡ h.config.manager → g ≡ h
-same-head g h me nodes pages size manager =
-    let made : ℕ → ℕ → ℕ → ℕ → Kind → LogHead = λ i n p s k.
-    record { me = i; config = record { nodes = n; pages = p; page_size = s; manager = k } } in
-    ap (λ i. made i g.config.nodes g.config.pages g.config.page_size g.config.manager) me
-    ∙ ap (λ n. made h.me n g.config.pages g.config.page_size g.config.manager) nodes
-    ∙ ap (λ p. made h.me h.config.nodes p g.config.page_size g.config.manager) pages
-    ∙ ap (λ s. made h.me h.config.nodes h.config.pages s g.config.manager) size
-    ∙ ap (λ k. made h.me h.config.nodes h.config.pages h.config.page_size k) manager
+config-once : (w x y z : List ℕ) (b c : Config) → SpellsConfig w x y z b → SpellsConfig w x y z c → b ≡ c
+config-once w x y z b c s t =
+    let made : ℕ → ℕ → ℕ → Kind → Config = λ n p s k.
+    record { nodes = n; pages = p; page_size = s; manager = k } in
+    ap (λ n. made n b.pages b.page_size b.manager) (number-once w b.nodes c.nodes s.0 t.0)
+    ∙ ap (λ p. made c.nodes p b.page_size b.manager) (number-once x b.pages c.pages s.1 t.1)
+    ∙ ap (λ s. made c.nodes c.pages s b.manager) (number-once y b.page_size c.page_size s.2 t.2)
+    ∙ ap (λ k. made c.nodes c.pages c.page_size k) (kind-once z b.manager c.manager s.3 t.3)
 
-node-once : (words : List (List ℕ)) (g h : LogHead) → SpellsNode words g → SpellsNode words h → g ≡ h
-node-once [] g h a b = absurd a
-node-once (v ∷ []) g h a b = absurd a
-node-once (v ∷ w ∷ []) g h a b = absurd a
-node-once (v ∷ w ∷ x ∷ []) g h a b = absurd a
-node-once (v ∷ w ∷ x ∷ y ∷ []) g h a b = absurd a
-node-once (v ∷ w ∷ x ∷ y ∷ z ∷ u ∷ more) g h a b = absurd a
-node-once (v ∷ w ∷ x ∷ y ∷ z ∷ []) g h a b =
-    same-head g h (number-once v g.me h.me a.0 b.0) (number-once w g.config.nodes h.config.nodes a.1 b.1)
-    (number-once x g.config.pages h.config.pages a.2 b.2)
-    (number-once y g.config.page_size h.config.page_size a.3 b.3)
-    (kind-once z g.config.manager h.config.manager a.4 b.4)
+-- what a first line says, and its sum
+record First : Type 0 where
+  head : LogHead
+  sum : Option ℕ
+
+abbrev SpellsNodeFirst : First → List (List ℕ) → Type 0
+SpellsNodeFirst f words = SpellsNode words f.head f.sum
+
+node-once : (words : List (List ℕ)) (f f' : First) → SpellsNodeFirst f words → SpellsNodeFirst f' words
+    → f.head ≡ f'.head
+node-once [] f f' a b = absurd a
+node-once (v ∷ []) f f' a b = absurd a
+node-once (v ∷ w ∷ []) f f' a b = absurd a
+node-once (v ∷ w ∷ x ∷ []) f f' a b = absurd a
+node-once (v ∷ w ∷ x ∷ y ∷ []) f f' a b = absurd a
+node-once (v ∷ w ∷ x ∷ y ∷ z ∷ rest) f f' a b =
+    let made : ℕ → Config → LogHead = λ i c. record { me = i; config = c } in
+    ap (λ i. made i f.head.config) (number-once v f.head.me f'.head.me a.0 b.0)
+    ∙ ap (λ c. made f'.head.me c) (config-once w x y z f.head.config f'.head.config a.1 b.1)
+
+-- what stands after a word, of which the head is told
+head-after : (keyword : List ℕ) (P : First → List (List ℕ) → Type 0)
+    → ((words : List (List ℕ)) (f f' : First) → P f words → P f' words → f.head ≡ f'.head)
+    → (words : List (List ℕ)) (f f' : First) → BeginsWith keyword (P f) words → BeginsWith keyword (P f') words
+    → f.head ≡ f'.head
+head-after keyword P once [] f f' a b = absurd a
+head-after keyword P once (w ∷ ws) f f' a b = once ws f f' a.1 b.1
 
 head-once : (kind : LogKind) (words : List (List ℕ)) (g h : LogHead) → SpellsHead kind words g
     → SpellsHead kind words h → g ≡ h
 head-once kind words g h a b =
-    after-once (λ k ws. BeginsWith (log_word kind) (λ rest. SpellsNode rest k) ws)
-    (after-once (λ k rest. SpellsNode rest k) node-once (log_word kind)) (codes "ivy") words g h a b
+    let f : First = record { head = g; sum = a.0 } in let f' : First = record { head = h; sum = b.0 } in
+    head-after (codes "ivy") (λ k ws. BeginsWith (log_word kind) (SpellsNodeFirst k) ws)
+    (head-after (log_word kind) SpellsNodeFirst node-once) words f f' a.1.1 b.1.1
 
 -- the whole lines
 abbrev HasNoEnd : List ℕ → Type 0

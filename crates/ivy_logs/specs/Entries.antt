@@ -1,5 +1,5 @@
 -- What the lines of logs say, and how they are written.
-use Rattle.std.specs.Prelude.{ℕ, List, [], ◌∷◌, ◌++◌, codes, flat_map}
+use Rattle.std.specs.Prelude.{ℕ, List, [], ◌∷◌, ◌++◌, codes, flat_map, Option}
 use Rattle.std.specs.List.{AllZip, before_first, after_first}
 use Rattle.std.specs.Str.Lines.{lines}
 use Rattle.ivy_model.specs.declared.Call.{Call}
@@ -17,7 +17,7 @@ use Rattle.ivy_logs.specs.declared.log.LogKind.TheVariants.{OfProgram, OfOwnCode
 use Rattle.ivy_logs.specs.declared.entry.LogEntry as entry
 use Rattle.ivy_logs.specs.declared.entry.LogEntry.TheVariants.{Did, Asked, Answered}
 use Rattle.ivy_logs.specs.Printed.{event_line}
-use Rattle.ivy_logs.specs.Spelled.{is_end, HasWholeLines, SpellsEvent, SpellsHead}
+use Rattle.ivy_logs.specs.Spelled.{is_end, HasWholeLines, SpellsEvent, SpellsFirst, SpellsHead}
 
 -- an entry, with each string as the list of its bytes
 abbrev pub LogEntry : Type 0
@@ -86,6 +86,10 @@ pub record SpellsLog (kind : LogKind) (text : List ℕ) (head : LogHead) (entrie
   pub whole : List ℕ
   pub cut : HasWholeLines (after_first is_end text) whole
   pub each : AllZip (SpellsIn kind) (worded (lines whole)) entries
+
+-- the first line of the text names this sum, or none
+abbrev pub HasSum : LogKind → List ℕ → LogHead → Option ℕ → Type 0
+HasSum kind text head sum = SpellsFirst kind (words_of (before_first is_end text)) head sum
 
 -- the line of an entry
 abbrev pub entry_line : LogEntry → List ℕ

@@ -4,3 +4,4 @@ pub mod Entries
 pub mod Digits
 pub mod ReadBack
 pub mod Faults
+pub mod Sums

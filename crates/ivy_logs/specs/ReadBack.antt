@@ -1,5 +1,5 @@
 -- The text of a log, read again.
-use Rattle.std.specs.Prelude.{◌≡◌, ℕ, ◌<◌, ◌^◌, List, [], ◌∷◌, ◌++◌, All, length}
+use Rattle.std.specs.Prelude.{◌≡◌, ℕ, ◌<◌, ◌^◌, List, [], ◌∷◌, ◌++◌, All, length, IfSome, Option}
 use Rattle.hex.specs.Hex.{IsBytes}
 use Rattle.ivy_model.specs.declared.Call.{Call}
 use Rattle.ivy_model.specs.declared.Call.TheVariants.{Load, Store, Swap, Cas, FetchAdd, Count, Advance, Await, Alloc, Free}
@@ -11,8 +11,9 @@ use Rattle.ivy_logs.specs.declared.log.LogHead.{LogHead}
 use Rattle.ivy_logs.specs.declared.log.LogKind.{LogKind}
 use Rattle.ivy_logs.specs.declared.log.LogKind.TheVariants.{OfProgram, OfOwnCode}
 use Rattle.ivy_logs.specs.declared.entry.LogEntry.TheVariants.{Did, Asked, Answered}
-use Rattle.ivy_logs.specs.Entries.{LogEntry, SpellsLog, entry_lines}
-use Rattle.ivy_logs.specs.Printed.{head_line}
+use Rattle.ivy_logs.specs.Entries.{HasSum, LogEntry, SpellsLog, entry_lines}
+use Rattle.ivy_logs.specs.Printed.{first_line}
+use Rattle.ivy_logs.specs.Spelled.{MayHaveSum}
 
 -- a number of 64 bits
 abbrev pub IsWide : ℕ → Type 0
@@ -58,16 +59,20 @@ abbrev pub FitsIn : LogKind → LogEntry → Type 0
 FitsIn OfProgram = FitsDid
 FitsIn OfOwnCode = FitsEntry
 
-pub record FitsHead (h : LogHead) : Type 0 where
+pub record FitsHead (kind : LogKind) (h : LogHead) (sum : Option ℕ) : Type 0 where
   pub me : IsWide h.me
   pub nodes : IsWide h.config.nodes
   pub pages : IsWide h.config.pages
   pub page_size : IsWide h.config.page_size
+  pub wide : IfSome sum IsWide
+  pub may : MayHaveSum kind sum
 
 -- what is written of a node and its entries is the text of a log of them
 abbrev pub LogsReadBack : Type 0
-LogsReadBack = (kind : LogKind) (head : LogHead) (entries : List LogEntry) → FitsHead head
-    → All (FitsIn kind) entries → SpellsLog kind (head_line kind head ++ entry_lines entries) head entries
+LogsReadBack = (kind : LogKind) (head : LogHead) (sum : Option ℕ) (entries : List LogEntry)
+    → FitsHead kind head sum → All (FitsIn kind) entries
+    → SpellsLog kind (first_line kind head sum ++ entry_lines entries) head entries
+    × HasSum kind (first_line kind head sum ++ entry_lines entries) head sum
 
 -- a text is that of one log at most
 abbrev pub LogsSpellOne : Type 0

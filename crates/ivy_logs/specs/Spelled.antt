@@ -1,14 +1,16 @@
 -- What the lines of frames and of logs say.
-use Rattle.std.specs.Prelude.{◌≡◌, ◌⊎◌, ◌==◌, ℕ, Bool, List, [], ◌∷◌, ◌++◌, codes, Ok}
+use Rattle.std.specs.Prelude.{◌≡◌, ◌⊎◌, ◌==◌, ℕ, Bool, List, [], ◌∷◌, ◌++◌, codes, Ok, Option, Some, None}
 use Rattle.std.specs.List.{AllZip}
 use Rattle.std.specs.Str.{NoCharPasses}
 use Rattle.hex.specs.Hex.{decode_of}
+use Rattle.ivy_model.specs.declared.Config.{Config}
 use Rattle.ivy_model.specs.declared.Kind.{Kind}
 use Rattle.ivy_model.specs.declared.Kind.TheVariants.{Fixed, Dynamic}
 use Rattle.ivy_moves.specs.Events.{Event}
 use Rattle.ivy_moves.specs.declared.Event.TheVariants.{Turns, Delivered, Pulsed}
 use Rattle.ivy_program.specs.texts.Lines.{IsNumberWord}
 use Rattle.ivy_texts.specs.Spelled.{BeginsWith, Names}
+use Rattle.ivy_logs.specs.declared.sum_line.SumLine.{SumLine}
 use Rattle.ivy_logs.specs.declared.log.LogHead.{LogHead}
 use Rattle.ivy_logs.specs.declared.log.LogKind.{LogKind}
 use Rattle.ivy_logs.specs.declared.log.LogKind.TheVariants.{OfProgram, OfOwnCode}
@@ -26,27 +28,52 @@ abbrev pub SpellsFrame : List (List ℕ) → ℕ → List ℕ → Type 0
 SpellsFrame (number ∷ digits ∷ []) to bytes = IsNumberWord number to × IsHexOf digits bytes
 SpellsFrame _ to bytes = ⊥
 
+-- the words of a line by which a node tells another one the sum of its run
+abbrev pub SpellsSumLine : List (List ℕ) → SumLine → Type 0
+SpellsSumLine (to ∷ word ∷ from ∷ sum ∷ []) s = IsNumberWord to s.to × (word ≡ codes "sum")
+    × IsNumberWord from s.from × IsNumberWord sum s.sum
+SpellsSumLine _ s = ⊥
+
 -- the word of a kind of manager
 abbrev pub kind_word : Kind → List ℕ
 kind_word Fixed = codes "fixed"
 kind_word Dynamic = codes "dynamic"
 
--- the words of a node's number and of a configuration
-abbrev pub SpellsNode : List (List ℕ) → LogHead → Type 0
-SpellsNode (me ∷ nodes ∷ pages ∷ page_size ∷ manager ∷ []) h = IsNumberWord me h.me
-    × IsNumberWord nodes h.config.nodes × IsNumberWord pages h.config.pages
-    × IsNumberWord page_size h.config.page_size × (manager ≡ kind_word h.config.manager)
-SpellsNode _ h = ⊥
+-- the word of a sum, or none
+abbrev pub SpellsSum : List (List ℕ) → Option ℕ → Type 0
+SpellsSum [] None = Unit {0}
+SpellsSum (word ∷ []) (Some sum) = IsNumberWord word sum
+SpellsSum _ sum = ⊥
+
+-- the words of a configuration
+abbrev pub SpellsConfig : List ℕ → List ℕ → List ℕ → List ℕ → Config → Type 0
+SpellsConfig nodes pages page_size manager c = IsNumberWord nodes c.nodes × IsNumberWord pages c.pages
+    × IsNumberWord page_size c.page_size × (manager ≡ kind_word c.manager)
+
+-- the words of a node's number and of a configuration, and of a sum where there is one
+abbrev pub SpellsNode : List (List ℕ) → LogHead → Option ℕ → Type 0
+SpellsNode (me ∷ nodes ∷ pages ∷ page_size ∷ manager ∷ rest) h sum = IsNumberWord me h.me
+    × SpellsConfig nodes pages page_size manager h.config × SpellsSum rest sum
+SpellsNode _ h sum = ⊥
 
 -- the word of a log's first line that says whose log it is
 abbrev pub log_word : LogKind → List ℕ
 log_word OfProgram = codes "log"
 log_word OfOwnCode = codes "own"
 
+-- own code is no program, so that its logs have no sum
+abbrev pub MayHaveSum : LogKind → Option ℕ → Type 0
+MayHaveSum OfProgram sum = Unit {0}
+MayHaveSum OfOwnCode sum = sum ≡ None
+
+-- the words of a log's first line, which names this sum, or none
+abbrev pub SpellsFirst : LogKind → List (List ℕ) → LogHead → Option ℕ → Type 0
+SpellsFirst kind words h sum = MayHaveSum kind sum
+    × BeginsWith (codes "ivy") (BeginsWith (log_word kind) (λ rest. SpellsNode rest h sum)) words
+
 -- the words of a log's first line
 abbrev pub SpellsHead : LogKind → List (List ℕ) → LogHead → Type 0
-SpellsHead kind words h =
-    BeginsWith (codes "ivy") (BeginsWith (log_word kind) (λ rest. SpellsNode rest h)) words
+SpellsHead kind words h = (sum : Option ℕ) × SpellsFirst kind words h sum
 
 -- the words of an event
 abbrev pub SpellsEvent : List (List ℕ) → Event → Type 0

@@ -1,8 +1,9 @@
 //! The lines of a node in a process: frames in hexadecimal digits, and its log.
 //!
 //! A frame's line is `TO HEX`: the node that it is for, and its string of bytes. A log is a line `ivy log I N P S
-//! fixed` or `dynamic` of node I, and then the node's events: `turns N`, `took HEX` and `pulse J`. Every line ends in
-//! LF. What stands behind a log's last LF is no line yet: the node was killed while it wrote.
+//! fixed` or `dynamic` of node I, where it is told with the sum of its run behind it, and then the node's events:
+//! `turns N`, `took HEX` and `pulse J`. Every line ends in LF. What stands behind a log's last LF is no line yet: the
+//! node was killed while it wrote. By a line `TO sum I SUM` node I tells another one that sum.
 //!
 //! A log of own code begins with `ivy own` in place of `ivy log`, and has besides what the node's code called and was
 //! answered: `call CALL`, and then `done CALL`, `value X CALL` or `refused C CALL`.
@@ -22,12 +23,18 @@ mod laws;
 mod log;
 mod print;
 mod read;
+mod sum;
+mod sum_line;
 mod write;
 
 pub use entry::{LogEntry, count_answers};
 pub use frame::{FrameLine, parse_frame};
 pub use laws::logs_read_back;
 pub use log::{Log, LogHead, LogKind, parse_log};
-pub use print::{push_entry, push_event, push_frame, push_head, push_log};
+pub use print::{
+    push_entry, push_event, push_frame, push_head, push_head_of_run, push_log, push_log_of_run,
+};
 pub use read::bytes_of;
+pub use sum::sum_of_run;
+pub use sum_line::{SumLine, parse_sum_line, push_sum_line};
 pub use write::push_digits;

@@ -1,15 +1,15 @@
 //! Logs: what a node in a process of its own did, one entry a line.
-ghost use Rattle.std.specs.Prelude.{◌≡◌, ◌<◌, ◌^◌, ℕ, [], ◌∷◌, IfOk, IfErr, IfNone, IfSome, map};
+ghost use Rattle.std.specs.Prelude.{◌≡◌, ◌<◌, ◌^◌, ℕ, Option, [], ◌∷◌, IfOk, IfErr, IfNone, IfSome, map};
 ghost use Rattle.std.specs.List.{AllZip};
 ghost use Rattle.std.specs.Str.Lines.{lines};
 ghost use Rattle.ivy_program.specs.texts.Lines.{IsNumberWord};
 ghost use Rattle.ivy_program.specs.texts.TextWords.{words_of};
 ghost use Rattle.ivy_texts.specs.Spelled.{worded, BeginsWith};
-ghost use Rattle.ivy_logs.specs.Entries.{SpellsIn, SpellsLog};
+ghost use Rattle.ivy_logs.specs.Entries.{HasSum, SpellsIn, SpellsLog};
 ghost use Rattle.ivy_logs.specs.Faults.{IsFaultAmong, IsFaultOfLog, IsHead};
 ghost use Rattle.ivy_logs.specs.declared.log.LogHead.{LogHead};
 ghost use Rattle.ivy_model.specs.declared.Kind.{Kind};
-ghost use Rattle.ivy_logs.specs.Spelled.{kind_word, log_word, HasWholeLines, SpellsHead, SpellsNode};
+ghost use Rattle.ivy_logs.specs.Spelled.{kind_word, log_word, HasWholeLines, MayHaveSum, SpellsConfig, SpellsFirst, SpellsHead, SpellsNode};
 
 use crate::entry::{LogEntry, parse_entry};
 use ivy_model::{Config, Fault, Kind};
@@ -19,7 +19,7 @@ use ivy_wire::Bytes;
 use std::alloc::Allocator;
 
 /// The most words that a line of a log can have.
-const MOST_WORDS: usize = 7;
+const MOST_WORDS: usize = 8;
 
 /// Whose log it is.
 #[derive(Clone, Copy, Debug, PartialEq, Eq)]
@@ -55,6 +55,8 @@ pub struct LogHead {
 #[derive(Drop)]
 pub struct Log<A: Allocator> {
     pub head: LogHead,
+    /// The sum of its run, as [`sum_of_run`](crate::sum_of_run) makes it, where the first line names one.
+    pub sum: Option<u64>,
     /// What the node did, called and was answered, in order.
     pub entries: Vec<LogEntry<Bytes<A>>, A>,
     /// The line of each entry, from 1.
@@ -83,8 +85,8 @@ fn parse_kind(word: &str) -> Option<Kind>
 
 /// What these words say, of a node's number and of a configuration.
 fn node_of(me: &str, nodes: &str, pages: &str, page_size: &str, manager: &str) -> Option<LogHead>
-    ensures spelled { IfSome result (SpellsNode (me.now ∷ nodes.now ∷ pages.now ∷ page_size.now ∷ manager.now ∷ [])) }
-    ensures none { IfNone result ((h : LogHead) → IsHead h → ¬ SpellsNode (me.now ∷ nodes.now ∷ pages.now ∷ page_size.now ∷ manager.now ∷ []) h) }
+    ensures spelled { IfSome result (λ h. IsNumberWord me.now h.me × SpellsConfig nodes.now pages.now page_size.now manager.now h.config) }
+    ensures none { IfNone result ((h : LogHead) → IsHead h → ¬ (IsNumberWord me.now h.me × SpellsConfig nodes.now pages.now page_size.now manager.now h.config)) }
 {
     Some(LogHead {
         me: parse_byte(me)?,
@@ -97,32 +99,54 @@ fn node_of(me: &str, nodes: &str, pages: &str, page_size: &str, manager: &str) -
     })
 }
 
-/// What words say of a node's number and of a configuration.
-fn parse_node(words: &[&str]) -> Option<LogHead>
-    ensures spelled { IfSome result (SpellsNode (map (λ w. w.now) words.now)) }
-    ensures none { IfNone result ((h : LogHead) → IsHead h → ¬ SpellsNode (map (λ w. w.now) words.now) h) }
+/// What a first line says.
+#[derive(Clone, Copy)]
+struct FirstLine {
+    head: LogHead,
+    sum: Option<u64>,
+}
+
+/// What words say of a node's number, of a configuration and of a sum.
+fn parse_node(words: &[&str]) -> Option<FirstLine>
+    ensures spelled { IfSome result (λ f. SpellsNode (map (λ w. w.now) words.now) f.head f.sum) }
+    ensures none { IfNone result ((h : LogHead) (sum : Option ℕ) → IsHead h → ¬ SpellsNode (map (λ w. w.now) words.now) h sum) }
 {
     match *words {
-        [me, nodes, pages, page_size, manager] => node_of(me, nodes, pages, page_size, manager),
+        [me, nodes, pages, page_size, manager] => {
+            let head = node_of(me, nodes, pages, page_size, manager)?;
+            Some(FirstLine { head, sum: None })
+        }
+        [me, nodes, pages, page_size, manager, sum] => {
+            let head = node_of(me, nodes, pages, page_size, manager)?;
+            let sum = parse_number(sum)?;
+            Some(FirstLine {
+                head,
+                sum: Some(sum),
+            })
+        }
         _ => None,
     }
 }
 
-/// What words say, where the first is the one of this kind and the others are a node's.
-fn parse_named(kind: LogKind, words: &[&str]) -> Option<LogHead>
-    ensures spelled { IfSome result (λ h. BeginsWith (log_word kind) (λ rest. SpellsNode rest h) (map (λ w. w.now) words.now)) }
-    ensures none { IfNone result ((h : LogHead) → IsHead h → ¬ BeginsWith (log_word kind) (λ rest. SpellsNode rest h) (map (λ w. w.now) words.now)) }
+/// What words say, where the first is the one of this kind and the others are a node's. Own code has no sum.
+fn parse_named(kind: LogKind, words: &[&str]) -> Option<FirstLine>
+    ensures spelled { IfSome result (λ f. MayHaveSum kind f.sum × BeginsWith (log_word kind) (λ rest. SpellsNode rest f.head f.sum) (map (λ w. w.now) words.now)) }
+    ensures none { IfNone result ((h : LogHead) (sum : Option ℕ) → IsHead h → MayHaveSum kind sum → ¬ BeginsWith (log_word kind) (λ rest. SpellsNode rest h sum) (map (λ w. w.now) words.now)) }
 {
     let (word, rest) = words.split_first()?;
     if *word != kind.word() {
         return None;
     }
-    parse_node(rest)
+    let first = parse_node(rest)?;
+    match kind {
+        LogKind::OfOwnCode if first.sum.is_some() => None,
+        _ => Some(first),
+    }
 }
 
 /// What the words of a first line say, where they are one of a log of this kind.
-fn parse_head(kind: LogKind, words: &[&str]) -> Option<LogHead>
-    ensures spelled { IfSome result (SpellsHead kind (map (λ w. w.now) words.now)) }
+fn parse_head(kind: LogKind, words: &[&str]) -> Option<FirstLine>
+    ensures spelled { IfSome result (λ f. SpellsFirst kind (map (λ w. w.now) words.now) f.head f.sum) }
     ensures none { IfNone result ((h : LogHead) → IsHead h → ¬ SpellsHead kind (map (λ w. w.now) words.now) h) }
 {
     match words.split_first() {
@@ -132,8 +156,8 @@ fn parse_head(kind: LogKind, words: &[&str]) -> Option<LogHead>
 }
 
 /// What the first line of a log of this kind says, or none where it is no such line.
-fn head_of(kind: LogKind, line: &str) -> Option<LogHead>
-    ensures spelled { IfSome result (SpellsHead kind (words_of line.now)) }
+fn head_of(kind: LogKind, line: &str) -> Option<FirstLine>
+    ensures spelled { IfSome result (λ f. SpellsFirst kind (words_of line.now) f.head f.sum) }
     ensures none { IfNone result ((h : LogHead) → IsHead h → ¬ SpellsHead kind (words_of line.now) h) }
 {
     let mut places = [""; MOST_WORDS];
@@ -186,17 +210,19 @@ fn parse_entries<A: Allocator + Copy>(
 /// 1 where a growth was refused, and 20 with the first line that is none of such a log, counted from 1.
 pub fn parse_log<A: Allocator + Copy>(alloc: A, kind: LogKind, text: &str) -> Result<Log<A>, Fault>
     ensures log { IfOk result (λ log. SpellsLog kind text.now log.head log.entries.items) }
+    ensures sum { IfOk result (λ log. HasSum kind text.now log.head log.sum) }
     ensures refused { IfErr result (IsFaultOfLog kind text.now) }
 {
     let Some((first, rest)) = text.split_once('\n') else {
         return Err(Fault::ProgramFault(1));
     };
-    let Some(head) = head_of(kind, first) else {
+    let Some(said) = head_of(kind, first) else {
         return Err(Fault::ProgramFault(1));
     };
     let (entries, lines) = parse_entries(alloc, kind, whole_lines(rest))?;
     Ok(Log {
-        head,
+        head: said.head,
+        sum: said.sum,
         entries,
         lines,
     })

@@ -1,7 +1,7 @@
 //! What is written of frames and of logs.
-ghost use Rattle.std.specs.Prelude.{◌≡◌, ◌++◌, OnOk, string_bytes};
+ghost use Rattle.std.specs.Prelude.{◌≡◌, ◌++◌, OnOk, flat_map, string_bytes};
 ghost use Rattle.ivy_logs.specs.Entries.{entry_line};
-ghost use Rattle.ivy_logs.specs.Printed.{event_line, frame_line, head_line, log_text, node_line};
+ghost use Rattle.ivy_logs.specs.Printed.{event_line, first_line, frame_line, head_line, head_line_of_run, log_text, log_text_of_run, node_text, sum_end};
 ghost use Rattle.ivy_logs.specs.Spelled.{kind_word};
 
 use crate::entry::LogEntry;
@@ -38,10 +38,9 @@ fn manager_word(kind: Kind) -> &'static str
     }
 }
 
-/// Writes the words of a node and its configuration behind a text, and ends the line. Err only where the allocator has no
-/// memory.
+/// Writes the words of a node and its configuration behind a text. Err only where the allocator has no memory.
 fn push_node<A: Allocator>(text: &mut String<A>, head: &LogHead) -> Result<(), AllocError>
-    ensures { OnOk result (string_bytes text.new ≡ string_bytes text.old ++ node_line head.now) }
+    ensures { OnOk result (string_bytes text.new ≡ string_bytes text.old ++ node_text head.now) }
 {
     let (me, nodes) = (
         Decimal(u64::from(head.me)),
@@ -50,10 +49,36 @@ fn push_node<A: Allocator>(text: &mut String<A>, head: &LogHead) -> Result<(), A
     let pages = Decimal(u64::from(head.config.pages));
     let page_size = Decimal(u64::from(head.config.page_size));
     let manager = manager_word(head.config.manager);
-    writeln!(text, " {me} {nodes} {pages} {page_size} {manager}")
+    write!(text, " {me} {nodes} {pages} {page_size} {manager}")
 }
 
-/// Writes the first line of a log of this kind behind a text. Err only where the allocator has no memory.
+/// Writes a sum behind a text, where there is one, and ends the line. Err only where the allocator has no memory.
+fn push_sum<A: Allocator>(text: &mut String<A>, sum: Option<u64>) -> Result<(), AllocError>
+    ensures { OnOk result (string_bytes text.new ≡ string_bytes text.old ++ sum_end sum) }
+{
+    match sum {
+        Some(sum) => writeln!(text, " {}", Decimal(sum)),
+        None => text.push_str("\n"),
+    }
+}
+
+/// Writes the first line of a log of this kind behind a text, which names this sum, or none.
+fn push_first<A: Allocator>(
+    text: &mut String<A>,
+    kind: LogKind,
+    head: &LogHead,
+    sum: Option<u64>,
+) -> Result<(), AllocError>
+    ensures { OnOk result (string_bytes text.new ≡ string_bytes text.old ++ first_line kind head.now sum) }
+{
+    text.push_str("ivy ")?;
+    text.push_str(kind.word())?;
+    push_node(text, head)?;
+    push_sum(text, sum)
+}
+
+/// Writes the first line of a log of this kind behind a text, which names no sum. Err only where the allocator has no
+/// memory.
 pub fn push_head<A: Allocator>(
     text: &mut String<A>,
     kind: LogKind,
@@ -61,9 +86,19 @@ pub fn push_head<A: Allocator>(
 ) -> Result<(), AllocError>
     ensures { OnOk result (string_bytes text.new ≡ string_bytes text.old ++ head_line kind head.now) }
 {
-    text.push_str("ivy ")?;
-    text.push_str(kind.word())?;
-    push_node(text, head)
+    push_first(text, kind, head, None)
+}
+
+/// Writes the first line of the log of a program behind a text, with the sum of its run. Err only where the allocator has
+/// no memory.
+pub fn push_head_of_run<A: Allocator>(
+    text: &mut String<A>,
+    head: &LogHead,
+    sum: u64,
+) -> Result<(), AllocError>
+    ensures { OnOk result (string_bytes text.new ≡ string_bytes text.old ++ head_line_of_run head.now sum) }
+{
+    push_first(text, LogKind::OfProgram, head, Some(sum))
 }
 
 /// Writes the line of an event behind a text. Err only where the allocator has no memory.
@@ -105,6 +140,20 @@ pub fn push_entry<A: Allocator + Copy>(
     }
 }
 
+/// Writes the lines of events behind a text.
+fn push_events<A: Allocator + Copy>(
+    alloc: A,
+    text: &mut String<A>,
+    events: &[Event<Bytes<A>>],
+) -> Result<(), AllocError>
+    ensures { OnOk result (string_bytes text.new ≡ string_bytes text.old ++ flat_map event_line events.now) }
+{
+    for event in events {
+        push_event(alloc, text, event)?;
+    }
+    Ok(())
+}
+
 /// Writes a whole log of a program behind a text. Err only where the allocator has no memory.
 pub fn push_log<A: Allocator + Copy>(
     alloc: A,
@@ -115,8 +164,19 @@ pub fn push_log<A: Allocator + Copy>(
     ensures { OnOk result (string_bytes text.new ≡ string_bytes text.old ++ log_text head.now events.now) }
 {
     push_head(text, LogKind::OfProgram, head)?;
-    for event in events {
-        push_event(alloc, text, event)?;
-    }
-    Ok(())
+    push_events(alloc, text, events)
+}
+
+/// Writes a whole log of a program behind a text, with the sum of its run. Err only where the allocator has no memory.
+pub fn push_log_of_run<A: Allocator + Copy>(
+    alloc: A,
+    text: &mut String<A>,
+    head: &LogHead,
+    sum: u64,
+    events: &[Event<Bytes<A>>],
+) -> Result<(), AllocError>
+    ensures { OnOk result (string_bytes text.new ≡ string_bytes text.old ++ log_text_of_run head.now sum events.now) }
+{
+    push_head_of_run(text, head, sum)?;
+    push_events(alloc, text, events)
 }

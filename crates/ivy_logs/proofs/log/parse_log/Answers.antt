@@ -15,8 +15,8 @@ returns-clause-log g c =
     let first : c.in-Some.first.now ≡ before_first is_end c.args.text.now = search rules in
     let rest : c.in-Some.rest.now ≡ after_first is_end c.args.text.now = search rules in
     log-spelled c.args.kind c.args.text.now c.in-Some.first.now c.in-Some.rest.now c.whole_lines.result.now
-    c.in-Some-head_of.head c.in_ok-entries.entries.items first rest c.in-Some-head_of.ensures.spelled
-    c.whole_lines.ensures c.in_ok-entries.ensures.entries
+    c.in-Some-head_of.said.head c.in_ok-entries.entries.items first rest
+    (c.in-Some-head_of.said.sum, c.in-Some-head_of.ensures.spelled) c.whole_lines.ensures c.in_ok-entries.ensures.entries
 
 pub returns-in_err-entries-clause-refused : goal.returns-in_err-entries-clause-refused
 returns-in_err-entries-clause-refused g c =

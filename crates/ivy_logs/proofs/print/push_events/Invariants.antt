@@ -2,7 +2,7 @@
 use Rattle.std.proofs.Common.{◌≡◌, ◌++◌, take, flat_map}
 use Rattle.std.specs.Prelude.{string_bytes}
 use Rattle.ivy_logs.specs.Printed.{event_line}
-use Rattle.ivy_logs.proofs.print.push_log.Given as goal
+use Rattle.ivy_logs.proofs.print.push_events.Given as goal
 
 abbrev pub invariant-loop-event : goal.invariant-loop-event
 invariant-loop-event g l =
