@@ -53,6 +53,12 @@ static void close_page(ivy_mapping *map, uint32_t page) {
   it->is_open = 0;
 }
 
+static void give_back(ivy_process *p, uint32_t page, uint32_t on) {
+  p->map->pages[page].lent = (uint8_t)on;
+  ivy_give_back(&p->node, page, on);
+  p->map->gave = 1;
+}
+
 /* Takes a page from the program, but for what it may be lent for then: first from its eyes, then its bytes, then the mark. */
 static void take(ivy_process *p, uint32_t page, uint32_t on) {
   ivy_mapping *map = p->map;
@@ -62,9 +68,7 @@ static void take(ivy_process *p, uint32_t page, uint32_t on) {
   if (it->is_open) keep_page(p, page, bytes);
   close_page(map, page);
   if (it->shown > on) it->shown = (uint8_t)on;
-  it->lent = (uint8_t)on;
-  ivy_give_back(&p->node, page, on);
-  map->gave = 1;
+  give_back(p, page, on);
   map->counts.taken++;
 }
 
@@ -162,6 +166,11 @@ static uint32_t lend(ivy_process *p, uint32_t page, uint32_t to) {
     uint8_t *room = map->room ? map->room : ivy_in_map_at(map->bytes, page);
     ivy_load_block(&p->node, ivy_in_map_address(page), room, MAP_PAGE, &words);
     if (words * 8 != MAP_PAGE) return IVY_NO_PAGE;
+    if (it->shown && map->room && memcmp(room, ivy_in_map_at(map->bytes, page), MAP_PAGE)) { /* other bytes stand there still */
+      map->image->lower(map, page, 1, IVY_UNLENT);
+      it->shown = IVY_UNLENT;
+      ivy_load_block(&p->node, ivy_in_map_address(page), room, MAP_PAGE, &words);
+    }
   }
   uint32_t status = ivy_lend(&p->node, page, to);
   if (status != IVY_DONE) return status;
@@ -274,8 +283,7 @@ void ivy_in_map_pump(ivy_process *p) {
 }
 
 long ivy_in_map_patience(const ivy_process *p, long wait_us) {
-  if (!p->map->due) return wait_us;
-  int64_t left = p->map->due - ivy_in_now();
+  int64_t left = p->map->due ? p->map->due - ivy_in_now() : wait_us;
   return left < 1 ? 1 : left < wait_us ? (long)left : wait_us;
 }
 
@@ -386,7 +394,8 @@ uint32_t ivy_in_map_acquire(ivy_process *p, uint32_t page, uint32_t to, map_thre
       show(map, page, to);
       return IVY_DONE;
     }
-    if (map->pages[page].lent) take(p, page, IVY_UNLENT);
+    if (map->pages[page].lent && who && !p->shared) give_back(p, page, IVY_UNLENT); /* who could see it waits here */
+    else if (map->pages[page].lent) take(p, page, IVY_UNLENT);
     ivy_in_map_keep(p);
     map->waiting = who;
     map->waits++;

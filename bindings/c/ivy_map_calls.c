@@ -140,10 +140,7 @@ static uint32_t claim(ivy_process *p) {
 
 static void end_mapping(ivy_mapping *map) {
   for (uint32_t i = 0; i < MOST_NODES; i++)
-    for (kept_string *it = map->first[i], *next; it; it = next) {
-      next = it->next;
-      free(it);
-    }
+    for (kept_string *it; (it = map->first[i]); free(it)) map->first[i] = it->next;
   free(map->pages);
   free(map->open);
   free(map);
@@ -214,13 +211,10 @@ static void *allocate(ivy_process *p, size_t bytes, size_t alignment) {
 void *ivy_map_malloc(ivy_process *p, size_t bytes) { return allocate(p, bytes ? bytes : 1, 16); }
 
 void *ivy_map_malloc_pages(ivy_process *p, size_t bytes) {
-  size_t pages = bytes ? (bytes + MAP_PAGE - 1) / MAP_PAGE : 1;
-  return allocate(p, pages * MAP_PAGE, MAP_PAGE);
+  return allocate(p, (bytes ? (bytes + MAP_PAGE - 1) / MAP_PAGE : 1) * MAP_PAGE, MAP_PAGE);
 }
 
-void ivy_map_free(ivy_process *p, void *block) {
-  if (block) ivy_free(p, ((uint64_t *)block)[-1]);
-}
+void ivy_map_free(ivy_process *p, void *block) { if (block) ivy_free(p, ((uint64_t *)block)[-1]); }
 
 void **ivy_map_root(ivy_process *p) { return (void **)(void *)(p->map->base + ivy_in_map_address(ROOT_PAGE)); }
 

@@ -49,11 +49,9 @@ static int faults_of(void *at, size_t len, int flags, uint64_t features, uint64_
   return -1;
 }
 
-static void *reserve(void) {
-  void *at = mmap((void *)MAP_BASE, (size_t)MOST_PAGES * MAP_PAGE, PROT_NONE,
-                  MAP_PRIVATE | MAP_ANONYMOUS | MAP_NORESERVE | MAP_FIXED_NOREPLACE, -1, 0);
-  if (at != MAP_FAILED && at != (void *)MAP_BASE) munmap(at, (size_t)MOST_PAGES * MAP_PAGE);
-  return at == (void *)MAP_BASE ? at : NULL;
+static int reserve(void) {
+  return mmap((void *)MAP_BASE, (size_t)MOST_PAGES * MAP_PAGE, PROT_NONE,
+              MAP_PRIVATE | MAP_ANONYMOUS | MAP_NORESERVE | MAP_FIXED_NOREPLACE, -1, 0) == (void *)MAP_BASE;
 }
 
 /* ---- By protection: a file in memory, seen twice; the program's side is protected ------------------------------------------ */

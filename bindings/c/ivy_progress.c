@@ -9,8 +9,9 @@
 enum { TICK_US = 1000, PULSE_US = 2000, MOST_GAP_US = 64000, SPEAK_US = 20000 };
 
 /* Who waits looks so long after the last frame without a rest, since a sleep takes longer than an answer, so often before a
- * look at the clock; the thread looks for less, since the program computes. Nothing has come for so long: rests are longer. */
-enum { LOOK_US = 200, THREAD_LOOK_US = 20, LOOKS = 16, IDLE_US = 100000 };
+ * look at the clock; the thread looks for less, since the program computes, and who waits for pages that are mapped, since many
+ * threads do then. Nothing has come for so long: rests are longer. */
+enum { LOOK_US = 200, MAP_LOOK_US = 60, THREAD_LOOK_US = 20, LOOKS = 16, IDLE_US = 100000 };
 enum { LISTEN_US = 500, IDLE_LISTEN_US = 10000, NAP_US = 200, IDLE_NAP_US = 2000 };
 
 /* Calls that do not wait serve at each 64th, but no sooner after the last look at the clock. */
@@ -75,7 +76,7 @@ static const uint8_t *wait_for_string(ivy_process *p, size_t *len, long wait_us,
   const ivy_transport *t = &p->transport;
   const uint8_t *bytes = NULL;
   int64_t now, until = p->active;
-  int is_fresh = p->is_fresh, look_us = is_thread || p->map ? THREAD_LOOK_US : LOOK_US;
+  int is_fresh = p->is_fresh, look_us = is_thread ? THREAD_LOOK_US : p->map ? MAP_LOOK_US : LOOK_US;
   int is_shared = p->has_thread || p->shared; /* else who takes the lock would wait for this call to end anyway */
   if (p->map) wait_us = ivy_in_map_patience(p, wait_us);
   if (is_shared) ivy_in_unlock(p);

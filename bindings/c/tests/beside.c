@@ -3,7 +3,7 @@
 #include "../examples/example.h"
 #include "ivy_sync.h"
 
-enum { PAGES = 4, PAGE = 256, LOCK = PAGE, SUM = 2 * PAGE, MET = 0 };
+enum { PAGES = 64, PAGE = 4096, LOCK = 20 * PAGE, SUM = 21 * PAGE, MET = 0 };
 
 int main(int argc, char **argv) {
   const ivy_lock lock = { LOCK };

@@ -79,17 +79,30 @@ static int kernel(void) {
   return ivy_finalize(ivy);
 }
 
-/* Each second page may be written, and the others not even be read. */
+/* So many mappings the system allows. */
+static unsigned long most_mappings(void) {
+  unsigned long most = 0;
+  FILE *file = fopen("/proc/sys/vm/max_map_count", "r");
+  if (file && fscanf(file, "%lu", &most) != 1) most = 0;
+  if (file) fclose(file);
+  return most;
+}
+
+/* Each second page may be written, and the others not even be read: under protection two mappings, and where there are too many all
+ * pages are hidden, and come back by faults. */
 static int lone(void) {
-  uint32_t pages = 65536;
+  uint32_t pages = 65536, used = pages - 16;
   uint64_t sum = 0;
   begin_test_of(pages, 0);
-  volatile uint8_t *base = (volatile uint8_t *)ivy_map_malloc_pages(ivy, (size_t)(pages - 100) * 4096);
+  volatile uint8_t *base = (volatile uint8_t *)ivy_map_malloc_pages(ivy, (size_t)used * 4096);
   must("a block of nearly all", base != NULL, 1);
-  for (uint32_t i = 0; i < pages - 100; i += 2) base[(size_t)i * 4096] = (uint8_t)(i / 2);
-  for (uint32_t i = 0; i < pages - 100; i += 2) sum += base[(size_t)i * 4096] == (uint8_t)(i / 2);
-  must("pages that are right", sum, (pages - 100) / 2);
+  for (uint32_t i = 0; i < used; i += 2) base[(size_t)i * 4096] = (uint8_t)(i / 2);
+  uint64_t faults = ivy_map_counts_of(ivy).faults;
+  for (uint32_t i = 0; i < used; i += 2) sum += base[(size_t)i * 4096] == (uint8_t)(i / 2);
+  must("pages that are right", sum, used / 2);
   tell_counts("lone", sum);
+  faults = ivy_map_counts_of(ivy).faults - faults;
+  if (!strcmp(ivy_map_image(ivy), "protection") && most_mappings() <= used) must("pages that came back", faults > used / 4, 1);
   return ivy_finalize(ivy);
 }
 

@@ -1,8 +1,8 @@
 """A node in Rattle among nodes in C: relays between its standard streams and UDP, and speaks the runtime's words for it.
 
-    relay.py NODE NODES PORT MANAGER LOG PROGRAM [PAGES PAGE]
+    relay.py NODE NODES PORT MANAGER LOG PROGRAM PAGES PAGE
 
-PROGRAM is that of stress/own, which does `sum`; NODE is not 0. There are 4 pages of 256 bytes, or others as it was compiled. One in ten strings is lost either way. It ends with 0 where
+PROGRAM is that of stress/own, which does `sum`, with so many pages of so many bytes; NODE is not 0. One in ten strings is lost either way. It ends with 0 where
 the node gave the sum of all numbers of nodes, and all are done.
 """
 import os
@@ -20,7 +20,7 @@ FRAME, HELLO, RUN, HERE, DONE, DEAD, ALIVE, REFUSED = range(1, 9)
 HEAD, DRAW = 35, 16
 NOTHING = bytes(DRAW)
 WORD = ">QI6I"  # its number, a set of nodes, and the version, the configuration and the order of bytes
-SPEAK, PATIENCE, REPEATS = 0.02, 60, 5
+SPEAK, PATIENCE, REPEATS = 0.02, 100, 5
 LOST = 10
 
 
@@ -170,7 +170,7 @@ class Relay:
 def main():
     me, nodes, port = map(int, sys.argv[1:4])
     manager, log, program = sys.argv[4:7]
-    pages, page = map(int, sys.argv[7:9] or (4, 256))
+    pages, page = map(int, sys.argv[7:9])
     relay = Relay(Member(me, nodes, port, manager, pages, page), [program, "sum", str(me), manager, log])
     relay.serve()
     told, status = relay.end()
