@@ -42,11 +42,15 @@ impl<A: Allocator + Copy> Site<A> {
         ensures { MatchOption result ((l : Leaving) → Leaves self.now bytes.now l → ⊥) (Leaves self.now bytes.now) }
     {
         let config = self.outbox.config();
-        let frame = read_frame(&config, bytes).ok()?;
+        let Ok(frame) = read_frame(&config, bytes) else {
+            return None;
+        };
         if self.outbox.offer(&frame) != Verdict::Next {
             return None;
         }
-        let message = frame.body?;
+        let Some(message) = frame.body else {
+            return None;
+        };
         self.host.memory.leaves(frame.source, message)
     }
 
