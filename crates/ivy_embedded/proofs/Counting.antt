@@ -13,8 +13,9 @@ use Rattle.ivy_moves.specs.Marks.{Mark, Turn, Delivery, Pulse}
 use Rattle.ivy_moves.specs.stated.Nodes.{pulsing}
 use Rattle.ivy_moves.specs.Parts.{pulse_marks}
 use Rattle.ivy_site.specs.Calls.{AreAnswered, AreTaken, BeginsRow}
+use Rattle.ivy_site.specs.Inside.{Holds, Receives}
 use Rattle.ivy_site.specs.SiteView.{SiteView, after_pulse_to}
-use Rattle.ivy_site.specs.Sites.{SiteTurns, SiteDelivers, SiteGoesOn, FollowsDelivery, AfterDelivery}
+use Rattle.ivy_site.specs.Sites.{SiteTurns, SiteDelivers, GoesOnOnce, SiteGoesOn, FollowsDelivery, AfterDelivery}
 use Rattle.ivy_embedded.specs.Turns.{turns_in, CountsTurns}
 
 one_more : (events : List Mark) → turns_in (events ++ Turn ∷ []) ≡ turns_in events + 1
@@ -164,3 +165,25 @@ pub counted_pulse : (to : ℕ) (old new : SiteView) → new ≡ after_pulse_to o
 counted_pulse to old new same count counts =
     counts ∙ ap (λ n. n % 2 ^ 64) (sym (ap (λ (s : SiteView). turns_in s.events) same
     ∙ pulsed_to to (pulsing old.node to).sent old.events))
+
+held_events : (v : Verdict) (f : Frame) (bytes : List ℕ) (mid new : SiteView) → Holds v f bytes mid new
+    → turns_in new.events ≡ turns_in mid.events
+held_events verdict.NotMine f bytes mid new same = ap (λ (s : SiteView). turns_in s.events) same
+held_events verdict.Next f bytes mid new same = ap (λ (s : SiteView). turns_in s.events) same
+held_events verdict.Repeat f bytes mid new same = ap (λ (s : SiteView). turns_in s.events) same
+held_events verdict.Ahead f bytes mid new same = ap (λ (s : SiteView). turns_in s.events) same
+
+-- nor is a string that is received
+pub counted_received : (bytes : List ℕ) (v : Verdict) (from : ℕ) (old new : SiteView)
+    → Receives bytes v from old new → (count : ℕ) → CountsTurns count old.events
+    → CountsTurns count new.events
+counted_received bytes v from old new r count counts =
+    counts ∙ ap (λ n. n % 2 ^ 64) (sym (held_events v r.first.frame bytes r.mid new r.holds
+    ∙ delivers bytes v old r.mid r.first))
+
+-- nor one that was held
+pub counted_once : (from : ℕ) (bytes : List ℕ) (old new : SiteView) → GoesOnOnce from bytes old new
+    → (count : ℕ) → CountsTurns count old.events → CountsTurns count new.events
+counted_once from bytes old new g count counts =
+    counts ∙ ap (λ n. n % 2 ^ 64)
+    (sym (ap (λ (s : SiteView). turns_in s.events) g.next.after ∙ heard bytes old.events))

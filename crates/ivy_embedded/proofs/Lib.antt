@@ -11,3 +11,7 @@ pub mod RowCalls
 pub mod LentPages
 pub mod Lenders
 pub mod Onward
+pub mod Unlent
+pub mod Kept
+pub mod Wanting
+pub mod Strings

@@ -64,3 +64,14 @@ went_delivery bytes verdict.Next from old mid new more next r on = record {
         (subst (λ i. SiteGoesOn i more mid new) (sym r.from) on),
   );
 }
+
+-- a string that was received, after which nothing goes on
+pub rests_delivery : (bytes : List ℕ) (v : Verdict) (from : ℕ) (old new : SiteView)
+    → v ≢ verdict.Next → Receives bytes v from old new → AfterDelivery bytes v old new
+rests_delivery bytes verdict.NotMine from old new other r =
+    record { mid = r.mid; first = r.first; follows = r.holds }
+rests_delivery bytes verdict.Next from old new other r = absurd (other refl)
+rests_delivery bytes verdict.Repeat from old new other r =
+    record { mid = r.mid; first = r.first; follows = r.holds }
+rests_delivery bytes verdict.Ahead from old new other r =
+    record { mid = r.mid; first = r.first; follows = r.holds }

@@ -1,6 +1,5 @@
 -- What the functions that lend pages do, and why they do not.
 use Rattle.std.specs.Prelude.{◌≡◌, ◌⊎◌, ℕ, ◌<◌, ◌≤◌, true, false, List, [], ◌∷◌, length, slice_set, Result, Ok, Err, Some, None}
-use Rattle.ivy_model.specs.declared.Call.{Call}
 use Rattle.ivy_model.specs.declared.Fault.TheVariants.{Memory}
 use Rattle.ivy_model.specs.declared.Row.{Row}
 use Rattle.ivy_model.specs.Rows.{calls_of, numbers_in, row}
@@ -15,9 +14,9 @@ use Rattle.ivy_embedded.specs.declared.embedded.Declined.{Declined}
 use Rattle.ivy_embedded.specs.declared.embedded.Declined.TheVariants as why
 use Rattle.ivy_embedded.specs.declared.lending.Lending.{Lending}
 use Rattle.ivy_embedded.specs.declared.lending.Lending.TheVariants.{Unlent, ToWrite}
-use Rattle.ivy_embedded.specs.Lending.{IsWanted, WaitsFor, access_to, is_had, is_more, lending_at, may_call, row_lending}
+use Rattle.ivy_embedded.specs.Lending.{IsWanted, WaitsFor, access_to, is_had, is_more, lending_at, row_lending}
 use Rattle.ivy_embedded.specs.Nodes.{Embedded}
-use Rattle.ivy_embedded.specs.Exports.{HasNoCall, IsBeginFault, OfSite}
+use Rattle.ivy_embedded.specs.Exports.{HasNoCall, OfSite}
 
 -- the page is lent for this from now on, and nothing else changes
 abbrev pub with_lending : Embedded → ℕ → Lending → Embedded
@@ -47,14 +46,6 @@ RefusesLending why.NotHere page to s = IsNotHere s page to
 RefusesLending why.NoSuchLending page to s = CanBeLent s page to → ⊥
 RefusesLending why.Lent page to s = ⊥
 RefusesLending (why.Wanted want) page to s = ⊥
-
--- why a call is not begun
-abbrev pub IsBeginRefusal : Declined → Call → Embedded → Type 0
-IsBeginRefusal (why.Fault fault) call s = IsBeginFault fault s.site
-IsBeginRefusal why.Lent call s = HasNoCall s.site × (may_call s call ≡ false)
-IsBeginRefusal why.NotHere call s = ⊥
-IsBeginRefusal why.NoSuchLending call s = ⊥
-IsBeginRefusal (why.Wanted want) call s = ⊥
 
 -- why calls in a row are not begun: their page is lent, or memory or numbers ran out
 abbrev pub IsRowRefusal : Declined → Row → ℕ → ℕ → List ℕ → Embedded → Type 0

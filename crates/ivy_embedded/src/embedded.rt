@@ -1,5 +1,5 @@
 //! A node with own code, and the string that its owner looked at and has not taken.
-ghost use Rattle.std.specs.Prelude.{◌≡◌, ◌≢◌, ◌↔◌, ◌≤◌, ◌⊎◌, ◌-◌, ◌*◌, ◌∷◌, [], ◌<◌, None, Some, Ok, Err, true, false, take, length, slice_get, OnOk, OnErr, IfOk, IfErr, IsTrue, IsFalse, MatchOption, MatchResult, IsOkUnless};
+ghost use Rattle.std.specs.Prelude.{◌≡◌, ◌≢◌, ◌↔◌, ◌≤◌, ◌⊎◌, ◌-◌, ◌*◌, ◌/◌, ◌∷◌, [], ◌<◌, None, Some, Ok, Err, true, false, take, length, slice_get, OnOk, OnErr, IfOk, IfErr, IsTrue, IsFalse, MatchOption, MatchResult, IsOkUnless};
 ghost use Rattle.ivy_model.specs.stated.Config.{IsConfig};
 ghost use Rattle.ivy_model.specs.stated.Legal.{HasWidth};
 ghost use Rattle.ivy_model.specs.Rows.{calls_of, numbers_in, row};
@@ -16,13 +16,14 @@ ghost use Rattle.ivy_site.specs.Sites.{AfterDelivery, IsSpentTurn};
 ghost use Rattle.ivy_wire.specs.stated.DecodeErrors.{checked};
 ghost use Rattle.ivy_embedded.specs.Taking.{IsTaken};
 ghost use Rattle.ivy_embedded.specs.Nodes.{first_embedded, waiting_in};
+ghost use Rattle.ivy_embedded.specs.Calls.{first_number};
 ghost use Rattle.ivy_embedded.specs.Exports.{AfterCall, AfterBegin, ChangesWaiting, IsBeginFault, OfSite};
 ghost use Rattle.ivy_embedded.specs.Turns.{CountsTurns};
 ghost use Rattle.ivy_embedded.specs.Peers.{AreThose, KeepsFor, OwesTo};
 ghost use Rattle.ivy_embedded.specs.Lending.{IsWanted, LendsSoundly, WaitsFor, access_to, is_had, is_more, lending_at, may_call, page_asked, row_lending};
-ghost use Rattle.ivy_embedded.specs.Lends.{GoesOnBy, IsBeginRefusal, IsDeliveryRefusal, IsRowRefusal, MayLend, RefusesLending, StopsAt, WentOn, with_lending};
+ghost use Rattle.ivy_embedded.specs.Lends.{GoesOnBy, IsDeliveryRefusal, IsRowRefusal, MayLend, RefusesLending, StopsAt, WentOn, with_lending};
 ghost use Rattle.ivy_embedded.specs.declared.lending.Want.{Want};
-ghost use Rattle.ivy_embedded.specs.declared.lending.Lending.TheVariants.{Unlent, ToRead};
+ghost use Rattle.ivy_embedded.specs.declared.lending.Lending.TheVariants.{Unlent, ToRead, ToWrite};
 ghost use Rattle.ivy_link.specs.Holding.{ready_of};
 ghost use Rattle.ivy_memory.specs.stated.Asking.{asked_of};
 ghost use Rattle.ivy_site.specs.SiteView.{holding_at};
@@ -153,6 +154,43 @@ fn page_asked(asked: Asked) -> u32
     }
 }
 
+/// The page of which a call is a word at this site; else the first one.
+fn page_called(site: &Site<Global>, call: Call) -> u32
+    requires { HasWidth call }
+    ensures { result ≡ page_asked (asked_of site.now.config call) }
+{
+    page_asked(asked_of(&site.config(), call))
+}
+
+/// The number that a call names first: of an access its address.
+#[inline(always)]
+fn first_number(call: Call) -> u64
+    ensures { result ≡ first_number call }
+{
+    match call {
+        Call::Load { addr, .. }
+        | Call::Store { addr, .. }
+        | Call::Swap { addr, .. }
+        | Call::Cas { addr, .. }
+        | Call::FetchAdd { addr, .. }
+        | Call::Free { addr } => addr,
+        Call::Count { k } | Call::Advance { k } | Call::Await { k, .. } => k,
+        Call::Alloc { size } => size,
+    }
+}
+
+/// Makes a page that is to be lent to be written, so that keeping what was written takes no memory [1].
+fn make_for(site: &mut Site<Global>, page: u32, to: Lending) -> Result<(), Fault>
+    requires { page < site.old.config.pages }
+    ensures same { site.new ≡ site.old }
+    ensures memory { IfErr result (λ fault. (fault ≡ Fault.Memory) × (to ≡ ToWrite)) }
+{
+    if to != Lending::ToWrite {
+        return Ok(());
+    }
+    site.make_page(page)
+}
+
 /// Writes a string to the head of a buffer, where it fits, and says whether it does.
 fn write_out(string: &[u8], buffer: &mut [u8]) -> bool
     ensures fits { IsTrue result → take (length string.now) buffer.new ≡ string.now }
@@ -213,6 +251,25 @@ impl Embedded {
         }
     }
 
+    /// Whether a call may be a word of a page that is lent. It is none where no page is lent, or not the one of the number
+    /// that it names first: a hit asks no more.
+    #[tactic(auto, using(crate::proofs::Unlent::none_may, crate::proofs::Unlent::other_may))]
+    #[inline(always)]
+    fn may_be_lent(&self, call: Call) -> bool
+        ensures { IsFalse result → may_call self.now call ≡ true }
+    {
+        !self.lendings.is_none() && self.lendings.has(self.page_of(first_number(call)))
+    }
+
+    /// The page of an address. Pages have a power of two of bytes, so it takes no division.
+    #[tactic(auto, using(crate::proofs::Unlent::page_by_shift))]
+    #[inline(always)]
+    fn page_of(&self, addr: u64) -> u64
+        ensures { result ≡ addr / self.now.site.config.page_size }
+    {
+        addr >> self.site.config().page_size.trailing_zeros()
+    }
+
     /// What the page is lent for at which a row of words of 8 bytes begins, if a word of the heap is at the address.
     fn row_lending(&self, addr: u64) -> Lending
         ensures { result ≡ row_lending self.now addr }
@@ -223,25 +280,31 @@ impl Embedded {
         }
     }
 
-    /// Hands in a call, and begins it, as [`begin`] says [1, 18], where it may be made on a page so lent.
-    pub fn begin(&mut self, call: Call) -> Result<Option<Reply>, Declined>
+    /// Whether a call may not be made, as its page is lent, where each before has its reply.
+    pub fn is_lent(&self, call: Call) -> bool
         requires width { HasWidth call }
+        ensures yes { IsTrue result → IsFree self.now.site.node.core.process × (may_call self.now call ≡ false) }
+        ensures no { IsFalse result → IsFree self.now.site.node.core.process → may_call self.now call ≡ true }
+    {
+        self.may_be_lent(call) && self.site.is_free() && !self.may_call(call)
+    }
+
+    /// Hands in a call, and begins it, as [`begin`] says [1, 18]. Its page is not lent, or so that it may be made.
+    pub fn begin(&mut self, call: Call) -> Result<Option<Reply>, Fault>
+        requires width { HasWidth call }
+        requires may { IsFree self.old.site.node.core.process → may_call self.old call ≡ true }
         ensures done { MatchResult result (λ progress. OfSite (AfterBegin call progress) self.old self.new) (λ _. self.new ≡ self.old) }
         ensures free { IfOk result (λ _. IsFree self.old.site.node.core.process) }
-        ensures may { IfOk result (λ _. may_call self.old call ≡ true) }
-        ensures refused { IfErr result (λ why. IsBeginRefusal why call self.old) }
+        ensures refused { IfErr result (λ fault. IsBeginFault fault self.old.site) }
     {
-        if !self.lendings.is_none() && self.site.is_free() && !self.may_call(call) {
-            return Err(Declined::Lent);
-        }
         self.site.sound();
         match begin(&mut self.site, &mut self.turns, call) {
             Ok(Some(reply)) => Ok(Some(reply)),
             Ok(None) => {
-                self.waits_at = page_asked(self.asked(call));
+                self.waits_at = page_called(&self.site, call);
                 Ok(None)
             }
-            Err(fault) => Err(Declined::Fault(fault)),
+            Err(fault) => Err(fault),
         }
     }
 
@@ -253,7 +316,6 @@ impl Embedded {
     }
 
     /// Asks the call in progress for its reply [1, 17].
-    #[tactic(auto, using(crate::proofs::Lenders::polled_lender, crate::proofs::Lenders::known))]
     pub fn poll(&mut self) -> Result<Option<Reply>, Fault>
         ensures done { MatchResult result (λ progress. OfSite (AfterCall progress) self.old self.new) (λ _. self.new ≡ self.old) }
         ensures want { IfErr result RanOut }
@@ -265,7 +327,6 @@ impl Embedded {
     /// Loads words of 8 bytes in a row from an address on into the head of the buffer, each in a turn of its own, and says
     /// how many: as many as the buffer has room for, as lie in the page of the address, and as can be read here at once.
     /// Where it loads none nothing was done, and [`Embedded::begin`] loads the first word or says what is wrong with it.
-    #[tactic(auto, using(crate::proofs::Counting::counted_row, crate::proofs::Lenders::answered_lender, crate::proofs::Lenders::known))]
     pub fn load_row(&mut self, addr: u64, into: &mut [u8]) -> usize
         ensures many { MayCallInRow self.old.site addr (length into.old) → result ≡ row_at_hand self.old.site.node.core.memory Loads addr (length into.old) }
         ensures loads { OfSite (AreAnswered (row Loads self.old.site.me addr (numbers_in result into.new))) self.old self.new }
@@ -285,7 +346,6 @@ impl Embedded {
     /// Stores the words of 8 bytes of the buffer in a row from an address on, each in a turn of its own, and says how many,
     /// as [`Embedded::load_row`] does: as many as can be written here at once. Where the page of the address is lent to be
     /// read, nothing was done.
-    #[tactic(auto, using(crate::proofs::Counting::counted_row, crate::proofs::Lenders::answered_lender, crate::proofs::Lenders::known))]
     pub fn store_row(&mut self, addr: u64, from: &[u8]) -> Result<usize, Declined>
         ensures many { MayCallInRow self.old.site addr (length from.now) → IfOk result (IsStored self.old.site.node.core.memory addr (length from.now)) }
         ensures stores { MatchResult result (λ n. OfSite (AreAnswered (row Stores self.old.site.me addr (numbers_in n from.now))) self.old self.new) (λ _. self.new ≡ self.old) }
@@ -311,7 +371,6 @@ impl Embedded {
     /// Where that is none nothing was done, as where the first need not wait. A refused row was not made; so it is where the
     /// page of the address is lent.
     /// [`Embedded::take_loads`] and [`Embedded::take_stores`] take the replies at once, [`Embedded::poll`] one after another.
-    #[tactic(auto, using(crate::proofs::Counting::counted_together, crate::proofs::Counting::counted_none))]
     pub fn call_row(
         &mut self,
         kind: Row,
@@ -338,7 +397,7 @@ impl Embedded {
             Ok(begun) => {
                 if begun > 0 {
                     self.turns = self.turns.wrapping_add(1);
-                    self.waits_at = page_asked(self.asked(Call::Load { width: 8, addr }));
+                    self.waits_at = page_called(&self.site, Call::Load { width: 8, addr });
                 }
                 Ok(begun)
             }
@@ -349,7 +408,6 @@ impl Embedded {
     /// Takes the replies to loads in a row from an address on, which are in progress, made together or one alone, each in a
     /// turn of its own, and writes their words to the head of the buffer: all of them, where they are there and the buffer
     /// has room, and it says how many. Else it takes none, and nothing was done.
-    #[tactic(auto, using(crate::proofs::Counting::counted_taken, crate::proofs::Lenders::taken_lender, crate::proofs::Lenders::known))]
     pub fn take_loads(&mut self, addr: u64, into: &mut [u8]) -> usize
         ensures many { MayTakeRow Loads addr into.old self.old.site → result ≡ left_in self.old.site.node.core.memory }
         ensures taken { OfSite (AreTaken (row Loads self.old.site.me addr (numbers_in result into.new))) self.old self.new }
@@ -365,7 +423,6 @@ impl Embedded {
     }
 
     /// Takes the replies to stores of the words of the buffer in a row from an address on, as [`Embedded::take_loads`] does.
-    #[tactic(auto, using(crate::proofs::Counting::counted_taken, crate::proofs::Lenders::taken_lender, crate::proofs::Lenders::known))]
     pub fn take_stores(&mut self, addr: u64, from: &[u8]) -> usize
         ensures many { MayTakeRow Stores addr from.now self.old.site → result ≡ left_in self.old.site.node.core.memory }
         ensures taken { OfSite (AreTaken (row Stores self.old.site.me addr (numbers_in result from.now))) self.old self.new }
@@ -395,15 +452,20 @@ impl Embedded {
         if self.lendings.is_none() {
             return None;
         }
-        let left = self.site.leaves(bytes)?;
-        let on = left_for(left.access);
-        if !is_more(self.lendings.at(left.page), on) {
-            return None;
+        self.site.sound();
+        match self.site.leaves(bytes) {
+            Some(left) => {
+                let on = left_for(left.access);
+                if !is_more(self.lendings.at(left.page), on) {
+                    return None;
+                }
+                Some(Want {
+                    page: left.page,
+                    on,
+                })
+            }
+            None => None,
         }
-        Some(Want {
-            page: left.page,
-            on,
-        })
     }
 
     /// Goes on with the string that is held of the next number from a node, unless it would take a page that is lent [1, 17].
@@ -413,17 +475,20 @@ impl Embedded {
         ensures done { MatchResult result (λ went. IsTrue went → GoesOnBy from self.old self.new) (λ _. self.new ≡ self.old) }
         ensures none { result ≡ Ok false → (self.new ≡ self.old) × (ready_of (holding_at self.old.site) from ≡ None) }
         ensures refused { IfErr result (λ why. StopsAt why from self.old) }
+        ensures config { self.new.site.config ≡ self.old.site.config }
     {
         let Some(string) = self.site.ready(from) else {
             return Ok(false);
         };
-        if let Some(want) = self.wanted(string.bytes()) {
-            return Err(Declined::Wanted(want));
-        }
-        self.site.sound();
-        match self.site.go_on_with(from) {
-            Ok(string) => Ok(string.is_some()),
-            Err(fault) => Err(Declined::Fault(fault)),
+        match self.wanted(string.bytes()) {
+            Some(want) => Err(Declined::Wanted(want)),
+            None => {
+                self.site.sound();
+                match self.site.go_on_with(from) {
+                    Ok(string) => Ok(string.is_some()),
+                    Err(fault) => Err(Declined::Fault(fault)),
+                }
+            }
         }
     }
 
@@ -434,8 +499,13 @@ impl Embedded {
         ensures done { WentOn from result self.old self.new }
     {
         for _ in 0..MOST_AHEAD {
-            if !self.go_on_once(from)? {
-                return Ok(());
+            match self.go_on_once(from) {
+                Ok(went) => {
+                    if !went {
+                        return Ok(());
+                    }
+                }
+                Err(refusal) => return Err(refusal),
             }
         }
         Ok(())
@@ -449,23 +519,23 @@ impl Embedded {
     {
         self.site.sound();
         let (verdict, from) = self.site.deliver_once(bytes)?;
-        if verdict == Verdict::Next {
-            let _ = self.go_on(from);
+        if verdict != Verdict::Next {
+            return Ok(verdict);
         }
+        let _ = self.go_on(from);
         Ok(verdict)
     }
 
     /// A string comes, any bytes at all [1, 11 to 17]. One that would take a page that is lent is refused, and changes
     /// nothing. After the next one of its source the node goes on, as [`Embedded::go_on`] does.
-    #[tactic(auto, using(crate::proofs::Counting::counted_delivery))]
     pub fn deliver(&mut self, bytes: &[u8]) -> Result<Verdict, Declined>
         ensures done { MatchResult result (λ verdict. OfSite (AfterDelivery bytes.now verdict) self.old self.new) (λ _. self.new ≡ self.old) }
         ensures wanted { (want : Want) → IsWanted self.old bytes.now want → result ≡ Err (Declined.Wanted want) }
         ensures refused { IfErr result (λ why. IsDeliveryRefusal why bytes.now self.old) }
         ensures fault { IfErr (checked self.old.site.config bytes.now) (λ fault. result ≡ Err (Declined.Fault fault)) }
     {
+        self.site.sound();
         if self.lendings.is_none() {
-            self.site.sound();
             return told(self.site.deliver(bytes));
         }
         match self.wanted(bytes) {
@@ -505,10 +575,8 @@ impl Embedded {
         if !self.is_here(page, to) {
             return Err(Declined::NotHere);
         }
-        if to == Lending::ToWrite {
-            if let Err(fault) = self.site.make_page(page) {
-                return Err(Declined::Fault(fault));
-            }
+        if let Err(fault) = make_for(&mut self.site, page, to) {
+            return Err(Declined::Fault(fault));
         }
         self.lendings.set(page, to);
         Ok(())
@@ -545,7 +613,6 @@ impl Embedded {
     }
 
     /// A pulse to another node [1].
-    #[tactic(auto, using(crate::proofs::Counting::counted_pulse))]
     pub fn pulse(&mut self, to: u8) -> Result<(), Fault>
         requires to { to < self.old.site.config.nodes }
         requires other { to ≢ self.old.site.me }

@@ -1,5 +1,5 @@
 //! What pages are lent for to the program of a node.
-ghost use Rattle.std.specs.Prelude.{◌≡◌, ◌≢◌, ◌<◌, length, replicate, set, IfOk, IsTrue};
+ghost use Rattle.std.specs.Prelude.{◌≡◌, ◌≢◌, ◌<◌, ℕ, length, replicate, set, IfOk, IsFalse, IsTrue};
 ghost use Rattle.ivy_embedded.specs.Lending.{is_more, left_for, lending_in, permits, permits_row, suffices_for};
 
 use ivy_model::Row;
@@ -89,7 +89,7 @@ pub(crate) struct Lendings {
 }
 
 impl Model for Lendings {
-    ghost use Rattle.std.specs.Prelude.{◌≡◌, List, sum_by};
+    ghost use Rattle.std.specs.Prelude.{◌≡◌, ◌<◌, ◌^◌, List, length, sum_by};
     ghost use Rattle.ivy_embedded.specs.declared.lending.Lending as lending;
     ghost use Rattle.ivy_embedded.specs.Lending.{one_if_lent};
 
@@ -97,7 +97,7 @@ impl Model for Lendings {
 
     ghost view = { λ l. l.each.items };
 
-    ghost invariant = { λ l. l.lent ≡ sum_by one_if_lent l.each.items };
+    ghost invariant = { λ l. (l.lent ≡ sum_by one_if_lent l.each.items) × (length l.each.items < 2 ^ 32) };
 }
 
 impl Lendings {
@@ -117,6 +117,17 @@ impl Lendings {
         ensures { IsTrue result → (page : ℕ) → lending_in self.now page ≡ Lending.Unlent }
     {
         self.lent == 0
+    }
+
+    /// Whether the page of this number is lent, if there is one.
+    #[inline(always)]
+    pub(crate) fn has(&self, page: u64) -> bool
+        ensures { IsFalse result → lending_in self.now page ≡ Lending.Unlent }
+    {
+        match self.each.get(page as usize) {
+            Some(lending) => *lending != Lending::Unlent,
+            None => false,
+        }
     }
 
     /// What a page is lent for.

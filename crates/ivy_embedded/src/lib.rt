@@ -8,7 +8,7 @@ mod lending;
 mod peers;
 mod status;
 
-pub use embedded::{Embedded, Declined, TakenString};
+pub use embedded::{Declined, Embedded, TakenString};
 pub use lending::{Lending, Want};
 pub use status::{
     ADVANCE, ALLOCATE, AWAIT, BAD_ARGUMENT, BAD_CONFIG, BUSY, CLOSED, COMPARE_AND_SWAP, COUNT,
