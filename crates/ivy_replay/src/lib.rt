@@ -3,8 +3,11 @@
 //! In a comment, numbers in brackets as [1, 17] are the fault numbers that a call may answer.
 #![tactic(auto)]
 
+mod by_pasts;
 mod draws;
 mod explanation;
+mod exploring;
+mod image;
 mod named;
 mod order;
 mod play;
@@ -13,6 +16,7 @@ mod searches;
 mod shorter;
 mod states;
 mod text;
+mod ways;
 mod world;
 
 pub use draws::drawn_moves;

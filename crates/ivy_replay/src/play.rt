@@ -1,4 +1,6 @@
 //! A world that is played move by move, and what was seen of it.
+ghost use Rattle.std.specs.Prelude.{◌≡◌, length, OnOk};
+ghost use Rattle.ivy_replay.specs.Seen.{NotesHeads, NotesMove, NotesSome, SeesMove, happenings_in, heads_in, sent_in};
 
 use crate::progress::Progress;
 use crate::text::Text;
@@ -6,6 +8,7 @@ use crate::world::{call_in_progress, history_of, node_of};
 use ivy_charts::{Happening, Receivers, RunHead, RunLog, Verdict};
 use ivy_model::{Call, Config, Fault};
 use ivy_moves::Move;
+use ivy_wire::Bytes;
 use ivy_world::World;
 use std::alloc::{AllocError, Global};
 
@@ -29,6 +32,20 @@ struct Before {
     sent: usize,
     records: usize,
     asked: Option<Call>,
+}
+
+/// Reads the strings whose heads are not noted yet.
+fn read_heads(
+    config: &Config,
+    sent: &[Bytes<Global>],
+    heads: &mut Vec<RunHead>,
+) -> Result<(), Fault>
+    ensures { OnOk result (NotesHeads config.now sent.now heads.old.items heads.new.items) }
+{
+    for index in heads.len()..sent.len() {
+        heads.push(RunHead::read(config, sent[index].bytes())?)?;
+    }
+    Ok(())
 }
 
 impl Play {
@@ -64,17 +81,20 @@ impl Play {
     }
 
     /// Reads the strings that were sent since.
-    fn read_strings(&mut self) -> Result<(), Fault> {
-        let sent = self.world.sent();
-        for index in self.log.strings.len()..sent.len() {
-            let head = RunHead::read(&self.config, sent[index].bytes())?;
-            self.log.strings.push(head)?;
-        }
-        Ok(())
+    fn read_strings(&mut self) -> Result<(), Fault>
+        ensures config { self.new.config ≡ self.old.config }
+        ensures world { self.new.world ≡ self.old.world }
+        ensures happenings { happenings_in self.new ≡ happenings_in self.old }
+        ensures heads { OnOk result (NotesHeads self.old.config (sent_in self.old) (heads_in self.old) (heads_in self.new)) }
+    {
+        read_heads(&self.config, self.world.sent(), &mut self.log.strings)
     }
 
     /// What the string of a move is to its node, and which messages are served then.
-    fn hear(&mut self, step: Move, served: &mut Vec<usize>) -> Result<Option<Verdict>, AllocError> {
+    fn hear(&mut self, step: Move, served: &mut Vec<usize>) -> Result<Option<Verdict>, AllocError>
+        ensures world { self.new.world ≡ self.old.world }
+        ensures log { self.new.log ≡ self.old.log }
+    {
         let Move::Deliver { index, to } = step else {
             return Ok(None);
         };
@@ -86,7 +106,10 @@ impl Play {
     }
 
     /// What is to be noted of a move before it is made.
-    fn before(&self, step: Move) -> Before {
+    fn before(&self, step: Move) -> Before
+        ensures step { result.step ≡ step }
+        ensures sent { result.sent ≡ length (sent_in self.now) }
+    {
         let node = node_of(step);
         Before {
             step,
@@ -103,7 +126,11 @@ impl Play {
         before: &Before,
         heard: Option<Verdict>,
         served: Vec<usize>,
-    ) -> Result<(), AllocError> {
+    ) -> Result<(), AllocError>
+        ensures world { self.new.world ≡ self.old.world }
+        ensures heads { heads_in self.new ≡ heads_in self.old }
+        ensures noted { OnOk result (NotesMove before.now heard served.items self.old self.new) }
+    {
         let node = before.node;
         self.log.happenings.push(Happening {
             step: before.step,
@@ -120,7 +147,11 @@ impl Play {
     }
 
     /// Notes what a move did, and which messages its node served.
-    fn note_served(&mut self, before: &Before) -> Result<(), AllocError> {
+    fn note_served(&mut self, before: &Before) -> Result<(), AllocError>
+        ensures world { self.new.world ≡ self.old.world }
+        ensures heads { heads_in self.new ≡ heads_in self.old }
+        ensures noted { OnOk result (NotesSome before.now self.old self.new) }
+    {
         let mut served = Vec::new(self.alloc);
         match self.hear(before.step, &mut served) {
             Ok(heard) => self.note(before, heard, served),
@@ -129,7 +160,9 @@ impl Play {
     }
 
     /// Makes a move, and notes what it did [1, 17, 19].
-    pub fn make(&mut self, step: Move) -> Result<(), Fault> {
+    pub fn make(&mut self, step: Move) -> Result<(), Fault>
+        ensures seen { OnOk result (SeesMove step self.old self.new) }
+    {
         let before = self.before(step);
         if let Err((_place, fault)) = self.world.run(&[step]) {
             return Err(fault);
