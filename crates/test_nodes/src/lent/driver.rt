@@ -189,13 +189,11 @@ impl Drive {
         let call = call_of(kind, width, place, operand, 0).expect(rt, "a call");
         let driven = self.nodes.get_mut(node).expect(rt, "a node");
         driven.keep_all(rt);
-        match driven.node.begin(call) {
-            Ok(Some(reply)) => return Some(reply),
-            Ok(None) => {}
-            Err(refusal) => {
-                assert!(rt; refusal == Declined::Lent);
-                return None;
-            }
+        if driven.node.is_lent(call) {
+            return None;
+        }
+        if let Some(reply) = driven.node.begin(call).expect(rt, "a call begins") {
+            return Some(reply);
         }
         for _ in 0..10_000 {
             self.step(rt, alloc);
