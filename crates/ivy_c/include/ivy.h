@@ -278,8 +278,9 @@ uint32_t ivy_pulse(ivy_node *node, uint8_t peer);
  *      IVY_DONE; after its WANTED once the page was given back. The strings that wait are taken as after any call.
  *
  * Then the calls of all nodes, and all accesses to images, are of one flat memory. Without d nodes may stand still, and no
- * answer is wrong. A page is given back also while a call is in progress, but blocks do nothing then: so a driver keeps
- * what was written before it begins a call that may wait, and lets no program write until it is over.
+ * answer is wrong. A string that answered WANTED was not delivered: until it is, whoever waits for it waits on. A page is
+ * given back also while a call is in progress, but blocks do nothing then: so a driver keeps what was written before it
+ * begins a call that may wait, and lets no program write until it is over.
  *
  * None of these has a turn. No string waits after ivy_lend, ivy_give_back and ivy_wanted that did not wait before, and of
  * these ivy_lend alone may take memory. A driver that keeps a log with a line for each call does not lend. */

@@ -22,8 +22,8 @@ mod handle;
 pub use handle::{Handle, Held};
 use handle::{end, held};
 use ivy_embedded::{
-    BAD_ARGUMENT, BAD_CONFIG, CLOSED, DONE, Embedded, MEMORY, NO_CALL, NO_FRAME, OPEN, PENDING,
-    Declined, SHORT_BUFFER, TakenString, WANTED, Want, call_of, config_of, lending_number,
+    BAD_ARGUMENT, BAD_CONFIG, CLOSED, DONE, Declined, Embedded, LENT, MEMORY, NO_CALL, NO_FRAME,
+    OPEN, PENDING, SHORT_BUFFER, TakenString, WANTED, Want, call_of, config_of, lending_number,
     lending_of, manager_of, refusal_status, status_of, tell, verdict_number,
 };
 use ivy_model::Row;
@@ -137,11 +137,15 @@ pub extern "C" fn ivy_begin(
         put(alloc, handle, node);
         return BAD_ARGUMENT;
     };
+    if node.is_lent(call) {
+        put(alloc, handle, node);
+        return LENT;
+    }
     let begun = node.begin(call);
     put(alloc, handle, node);
     match begun {
         Ok(progress) => tell(progress, value),
-        Err(refusal) => refusal_status(refusal),
+        Err(fault) => status_of(fault),
     }
 }
 
@@ -518,11 +522,13 @@ pub extern "C" fn ivy_wanted(
     };
     let wanted = node.wanted(bytes);
     put(alloc, handle, node);
-    let Some(want) = wanted else {
-        return DONE;
-    };
-    tell_want(want, page, on);
-    WANTED
+    match wanted {
+        Some(want) => {
+            tell_want(want, page, on);
+            WANTED
+        }
+        None => DONE,
+    }
 }
 
 /// The node goes on with the strings of another one that it holds and that are due, up to one that would take a page that is

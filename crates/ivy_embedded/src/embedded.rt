@@ -481,7 +481,7 @@ impl Embedded {
             return Ok(false);
         };
         match self.wanted(string.bytes()) {
-            Some(want) => Err(Declined::Wanted(want)),
+            Some(next) => Err(Declined::Wanted(next)),
             None => {
                 self.site.sound();
                 match self.site.go_on_with(from) {

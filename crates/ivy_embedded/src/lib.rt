@@ -1,4 +1,4 @@
-//! One node as a value in the numbers of other languages: calls by kind, statuses, frames.
+//! One node as a value in the numbers of other languages: calls by kind, statuses, frames, pages lent.
 //!
 //! In a comment, numbers in brackets as [1, 2] are the fault numbers that a call may answer.
 #![tactic(auto)]

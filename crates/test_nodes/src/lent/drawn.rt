@@ -1,5 +1,5 @@
 //! Runs that are drawn, of which each access is checked against one array.
-use crate::lent::driver::{Drive, FETCH_AND_ADD, LOAD, PAGES, SIZE, STORE, address, opened};
+use crate::lent::driver::{Drive, FETCH_AND_ADD, LOAD, PAGES, SIZE, STORE, Shape, address, opened};
 use ivy_embedded::Lending;
 use ivy_model::Reply;
 use rand_core::SeedableRng;
@@ -8,28 +8,56 @@ use rand_pcg::Lcg64Xsh32;
 use std::alloc::Global;
 use std::process::Abort;
 
-/// So many seeds are played: nodes and managers in turn.
-const SEEDS: u64 = 16;
+/// So many seeds are played: numbers of nodes, managers and numbers of pages in turn.
+const SEEDS: u64 = 50;
+
+/// So many steps of programs each.
+const STEPS: usize = 120;
 
 /// The one memory that all accesses are of.
 type Flat = [u8; SIZE * PAGES];
 
-/// A place of the heap: its page, its byte there, and its address.
+/// A byte of the heap: the place of its page among the images, and its own there.
 #[derive(Clone, Copy)]
 struct Place {
     page: usize,
     byte: usize,
-    address: usize,
 }
 
-fn place_of(drawn: u8) -> Place {
-    let page = 1 + usize::from(drawn) % (PAGES - 1);
-    let byte = usize::from(drawn / 4) % SIZE;
-    Place {
-        page,
-        byte,
-        address: page * SIZE + byte,
+impl Place {
+    /// Where the array has it.
+    fn index(self) -> usize {
+        self.page.wrapping_mul(SIZE).wrapping_add(self.byte)
     }
+}
+
+/// A byte is drawn, of all pages that have images but the first, or but the second too, where there are three.
+fn place_of(drawn: u8, pages: u32) -> Place {
+    let from = if pages == 3 { 2 } else { 1 };
+    Place {
+        page: from + usize::from(drawn) % (PAGES - from),
+        byte: usize::from(drawn / 4) % SIZE,
+    }
+}
+
+/// The shape that a seed has its turn with.
+fn shape_of(seed: u64) -> Shape {
+    Shape {
+        nodes: 2 + (seed % 7) as u32,
+        manager: (seed / 7 % 2) as u32,
+        pages: match seed % 5 {
+            0 | 1 => 3,
+            2 => 257,
+            3 => 65_536,
+            _ => 4,
+        },
+    }
+}
+
+/// The address of a byte at a node.
+fn address_of(rt: &impl Abort, drive: &Drive, node: usize, at: Place) -> u64 {
+    let driven = drive.nodes.get(node).expect(rt, "a node");
+    address(driven.number(at.page)).wrapping_add(at.byte as u64)
 }
 
 fn lending_at(rt: &impl Abort, drive: &Drive, node: usize, page: usize) -> Lending {
@@ -55,7 +83,8 @@ fn acquire(
     } else {
         LOAD
     };
-    let reply = drive.call(rt, alloc, node, (kind, 1, address(page), 0));
+    let first = address_of(rt, drive, node, Place { page, byte: 0 });
+    let reply = drive.call(rt, alloc, node, (kind, 1, first, 0));
     assert!(rt; reply.is_some());
     let driven = drive.nodes.get_mut(node).expect(rt, "a node");
     driven.lend(rt, page, to);
@@ -63,9 +92,10 @@ fn acquire(
 
 /// A byte is read by a pointer, where its page is lent, or else by a call.
 fn read(rt: &impl Abort, alloc: Global, drive: &mut Drive, flat: &Flat, node: usize, at: Place) {
-    let wanted = *flat.get(at.address).expect(rt, "a byte");
+    let wanted = *flat.get(at.index()).expect(rt, "a byte");
     if lending_at(rt, drive, node, at.page) == Lending::Unlent {
-        let reply = drive.call(rt, alloc, node, (LOAD, 1, at.address as u64, 0));
+        let place = address_of(rt, drive, node, at);
+        let reply = drive.call(rt, alloc, node, (LOAD, 1, place, 0));
         assert!(rt; reply == Some(Reply::Value(u64::from(wanted))));
         return;
     }
@@ -88,13 +118,12 @@ fn write(
     at: Place,
     value: u8,
 ) {
+    let numbers = (STORE, 1, address_of(rt, drive, node, at), u64::from(value));
     match lending_at(rt, drive, node, at.page) {
         Lending::Unlent => {
-            let numbers = (STORE, 1, at.address as u64, u64::from(value));
             assert!(rt; drive.call(rt, alloc, node, numbers) == Some(Reply::Done));
         }
         Lending::ToRead => {
-            let numbers = (STORE, 1, at.address as u64, u64::from(value));
             assert!(rt; drive.call(rt, alloc, node, numbers) == None);
             return;
         }
@@ -104,7 +133,7 @@ fn write(
             *image.get_mut(at.byte).expect(rt, "a byte") = value;
         }
     }
-    *flat.get_mut(at.address).expect(rt, "a byte") = value;
+    *flat.get_mut(at.index()).expect(rt, "a byte") = value;
 }
 
 /// One step of one node's program is drawn.
@@ -114,11 +143,11 @@ fn play_step(
     drive: &mut Drive,
     flat: &mut Flat,
     drawn: [u8; 4],
-    count: usize,
+    shape: Shape,
 ) {
     let [what, node, place, value] = drawn;
-    let node = usize::from(node) % count.max(1);
-    let at = place_of(place);
+    let node = usize::from(node) % (shape.nodes as usize).max(1);
+    let at = place_of(place, shape.pages);
     match what % 8 {
         0 => acquire(rt, alloc, drive, node, at.page, Lending::ToRead),
         1 => acquire(rt, alloc, drive, node, at.page, Lending::ToWrite),
@@ -130,13 +159,13 @@ fn play_step(
 
 fn play(rt: &impl Abort, alloc: Global, seed: u64) {
     let mut generator = Lcg64Xsh32::seed_from_u64(seed);
-    let count = 2 + (seed % 2) as u32;
+    let shape = shape_of(seed);
     let other = Lcg64Xsh32::seed_from_u64(seed.wrapping_add(1_000));
-    let mut drive = opened(rt, alloc, count, (seed / 2 % 2) as u32, other);
+    let mut drive = opened(rt, alloc, shape, other);
     let mut flat = [0; SIZE * PAGES];
-    for _ in 0..120 {
+    for _ in 0..STEPS {
         let drawn = generator.next_word().to_le_bytes();
-        play_step(rt, alloc, &mut drive, &mut flat, drawn, count as usize);
+        play_step(rt, alloc, &mut drive, &mut flat, drawn, shape);
     }
 }
 

@@ -6,9 +6,10 @@ use rand_pcg::Lcg64Xsh32;
 use std::alloc::Global;
 use std::process::Abort;
 
-/// A page has so many bytes, and there are so many pages, of which the first is never lent.
+/// A page has so many bytes.
 pub(crate) const SIZE: usize = 64;
 
+/// So many pages have images: the first one, which is never lent, those behind it, and for the last place the last page.
 pub(crate) const PAGES: usize = 4;
 
 /// The kinds of calls, as C numbers them.
@@ -18,11 +19,20 @@ pub(crate) const STORE: u32 = 1;
 
 pub(crate) const FETCH_AND_ADD: u32 = 4;
 
-/// A node, with the images of its pages and what these are lent for.
+/// A node, with the images of some pages and what these are lent for.
 pub(crate) struct Driven {
     pub(crate) node: Embedded,
+    last: u32,
     pub(crate) images: [[u8; SIZE]; PAGES],
     pub(crate) lent: [Lending; PAGES],
+}
+
+/// How many nodes of which kind of manager there are, with so many pages.
+#[derive(Clone, Copy)]
+pub(crate) struct Shape {
+    pub(crate) nodes: u32,
+    pub(crate) manager: u32,
+    pub(crate) pages: u32,
 }
 
 /// All nodes of a configuration, and the strings under way.
@@ -32,15 +42,14 @@ pub(crate) struct Drive {
     generator: Lcg64Xsh32,
 }
 
-/// So many nodes of this kind of manager.
+/// The nodes of this shape.
 pub(crate) fn opened(
     rt: &impl Abort,
     alloc: Global,
-    nodes: u32,
-    manager: u32,
+    shape: Shape,
     generator: Lcg64Xsh32,
 ) -> Drive {
-    let config: Config = config_of(nodes, PAGES as u32, SIZE as u32, manager).expect(
+    let config: Config = config_of(shape.nodes, shape.pages, SIZE as u32, shape.manager).expect(
         rt,
         "a configuration",
     );
@@ -49,6 +58,7 @@ pub(crate) fn opened(
         let node = Embedded::open(alloc, &config, me).expect(rt, "memory");
         let driven = Driven {
             node,
+            last: shape.pages.wrapping_sub(1),
             images: [[0; SIZE]; PAGES],
             lent: [Lending::Unlent; PAGES],
         };
@@ -62,15 +72,33 @@ pub(crate) fn opened(
 }
 
 /// The address of a page.
-pub(crate) fn address(page: usize) -> u64 {
-    (page as u64).wrapping_mul(SIZE as u64)
+pub(crate) fn address(page: u32) -> u64 {
+    u64::from(page).wrapping_mul(SIZE as u64)
 }
 
 impl Driven {
+    /// The number of the page that has its image in this place.
+    pub(crate) fn number(&self, page: usize) -> u32 {
+        if page + 1 == PAGES {
+            self.last
+        } else {
+            page as u32
+        }
+    }
+
+    /// The place of the image of a page.
+    fn place(&self, number: u32) -> usize {
+        if number == self.last {
+            PAGES - 1
+        } else {
+            number as usize
+        }
+    }
+
     /// What stands in the image of a page that is lent to be written is kept.
     fn keep(&mut self, rt: &impl Abort, page: usize) {
         let image = self.images.get(page).expect(rt, "a page");
-        let stored = self.node.store_row(address(page), image);
+        let stored = self.node.store_row(address(self.number(page)), image);
         assert!(rt; stored == Ok(SIZE / 8), "page {page} was not kept");
     }
 
@@ -88,23 +116,25 @@ impl Driven {
         if self.node.is_free() && self.lent.get(page) == Some(&Lending::ToWrite) {
             self.keep(rt, page);
         }
-        assert!(rt; self.node.give_back(page as u32, on).is_ok());
+        assert!(rt; self.node.give_back(self.number(page), on).is_ok());
         *self.lent.get_mut(page).expect(rt, "a page") = on;
     }
 
     /// A page is lent, with the bytes that the node has of it.
     pub(crate) fn lend(&mut self, rt: &impl Abort, page: usize, to: Lending) {
+        let number = self.number(page);
         let image = self.images.get_mut(page).expect(rt, "a page");
-        let loaded = self.node.load_row(address(page), image);
+        let loaded = self.node.load_row(address(number), image);
         assert!(rt; loaded == SIZE / 8, "page {page} was not loaded");
-        let lent = self.node.lend(page as u32, to);
+        let lent = self.node.lend(number, to);
         assert!(rt; lent == Ok(()), "page {page} was not lent");
         *self.lent.get_mut(page).expect(rt, "a page") = to;
     }
 
     /// What a string wants is given back.
     fn yield_up(&mut self, rt: &impl Abort, want: Want) {
-        self.give_back(rt, want.page as usize, want.on);
+        let page = self.place(want.page);
+        self.give_back(rt, page, want.on);
     }
 }
 
@@ -189,13 +219,11 @@ impl Drive {
         let call = call_of(kind, width, place, operand, 0).expect(rt, "a call");
         let driven = self.nodes.get_mut(node).expect(rt, "a node");
         driven.keep_all(rt);
-        match driven.node.begin(call) {
-            Ok(Some(reply)) => return Some(reply),
-            Ok(None) => {}
-            Err(refusal) => {
-                assert!(rt; refusal == Declined::Lent);
-                return None;
-            }
+        if driven.node.is_lent(call) {
+            return None;
+        }
+        if let Some(reply) = driven.node.begin(call).expect(rt, "a call begins") {
+            return Some(reply);
         }
         for _ in 0..10_000 {
             self.step(rt, alloc);

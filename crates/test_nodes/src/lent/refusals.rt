@@ -19,7 +19,13 @@ fn begin(
     addr: u64,
 ) -> Result<Option<Reply>, Declined> {
     let call = call_of(kind, 1, addr, 7, 0).expect(rt, "a call");
-    node.begin(call)
+    if node.is_lent(call) {
+        return Err(Declined::Lent);
+    }
+    match node.begin(call) {
+        Ok(reply) => Ok(reply),
+        Err(fault) => Err(Declined::Fault(fault)),
+    }
 }
 
 /// The first page, pages that are not there, what is lent for as much, or for nothing.
