@@ -203,16 +203,16 @@ strings_more : (first : Option (List ℕ)) (waiting more : List (List ℕ))
 strings_more None waiting more = refl
 strings_more (Some string) waiting more = refl
 
-waits_more : (s t : Embedded) (more : List (List ℕ)) → t.first ≡ s.first
+pub waits_more : (s t : Embedded) (more : List (List ℕ)) → t.first ≡ s.first
     → t.site.waiting ≡ s.site.waiting ++ more → waiting_in t ≡ waiting_in s ++ more
 waits_more s t more first waiting =
     (λ k. strings_of (first k) (waiting k)) ∙ strings_more s.first s.site.waiting more
 
 -- no status is two
-done_short : (status : ℕ) → status ≡ DONE → status ≡ SHORT_BUFFER → ⊥
+pub done_short : (status : ℕ) → status ≡ DONE → status ≡ SHORT_BUFFER → ⊥
 done_short status done short = omega (arith, done, short)
 
-done_none : (status : ℕ) → status ≡ DONE → status ≡ NO_FRAME → ⊥
+pub done_none : (status : ℕ) → status ≡ DONE → status ≡ NO_FRAME → ⊥
 done_none status done none = omega (arith, done, none)
 
 -- one of the nodes goes on
@@ -363,7 +363,7 @@ module _ (c : Config) (past : List Driven) (nodes : List Embedded) (strings : Li
       (λ none. absurd none.0) h.1.3)
   did (StoreBlock addr bytes) t more h =
       rw h.0 (⊎_elim (λ does. further t does.3.0 (carried Stores addr h.1.1 bytes t does.3.1))
-      (λ none. absurd none.0) h.1.2)
+      (λ refused. unchanged t refused.1) h.1.2)
   did (BeginLoadBlock addr bytes) t more h =
       rw h.0 (⊎_elim (λ does. further t does.2.0 (begun_row Loads addr h.1.1 bytes t does.2.1))
       (λ refused. unchanged t refused.1) h.1.2)
@@ -398,7 +398,7 @@ asked c past request old new a d =
     subst (λ ns. AreDriven c past ns new.strings) (sym a.nodes)
     (did c past old.nodes old.strings request.0 a.before a.there d request.1 a.after new.strings a.does)
 
-nodes_seen : (nodes : List Embedded) → map (λ (s : SiteView). s.node) (map seen nodes) ≡ map node_in nodes
+pub nodes_seen : (nodes : List Embedded) → map (λ (s : SiteView). s.node) (map seen nodes) ≡ map node_in nodes
 nodes_seen [] = refl
 nodes_seen (e ∷ es) = ap (λ l. e.site.node ∷ l) (nodes_seen es)
 
@@ -445,7 +445,7 @@ first_seen c me zero = refl
 first_seen c me (suc left) =
     ap (λ l. first_keeping History c me (Called []) ∷ l) (first_seen c (me + 1) left)
 
-none_waits : (c : Config) (me left i : ℕ) (e : Embedded) → slice_get (first_from c me left) i ≡ Some e
+pub none_waits : (c : Config) (me left i : ℕ) (e : Embedded) → slice_get (first_from c me left) i ≡ Some e
     → waiting_in e ≡ []
 none_waits c me zero i e at = absurd (none-some e at)
 none_waits c me (suc left) zero e at =

@@ -19,11 +19,11 @@ pub record Carries (Relates : SiteView → SiteView → Type 0) (old new : SiteV
   pub waiting : new.waiting ≡ old.waiting ++ more
   pub goes : (ws : List (List ℕ)) → Relates (with_strings ws old) (with_strings (ws ++ more) new)
 
-kept : (old new : SiteView) → new ≡ old → (ws : List (List ℕ))
+pub kept : (old new : SiteView) → new ≡ old → (ws : List (List ℕ))
     → with_strings (ws ++ []) new ≡ with_strings ws old
 kept old new same ws = λ k. with_strings (append-nil ws k) (same k)
 
-none_more : (old new : SiteView) → new ≡ old → new.waiting ≡ old.waiting ++ []
+pub none_more : (old new : SiteView) → new ≡ old → new.waiting ≡ old.waiting ++ []
 none_more old new same = ap (λ (s : SiteView). s.waiting) same ∙ sym (append-nil old.waiting)
 
 pub turn_carries : (old new : SiteView) → SiteTurns old new → Carries SiteTurns old new
@@ -124,12 +124,12 @@ follow : (old mid new : SiteView) (first rest : List (List ℕ)) → mid.waiting
 follow old mid new first rest one two =
     two ∙ ap (λ l. l ++ rest) one ∙ append_assoc old.waiting first rest
 
-on : (source : ℕ) (more : List (List ℕ)) (old new : SiteView) → SiteGoesOn source more old new
+pub goes_carries : (source : ℕ) (more : List (List ℕ)) (old new : SiteView) → SiteGoesOn source more old new
     → Carries (SiteGoesOn source more) old new
-on source [] old new same =
+goes_carries source [] old new same =
     record { more = []; waiting = none_more old new same; goes = kept old new same }
-on source (bytes ∷ more) old new g =
-    let one = once source bytes old g.0 g.1 in let rest = on source more g.0 new g.2 in record {
+goes_carries source (bytes ∷ more) old new g =
+    let one = once source bytes old g.0 g.1 in let rest = goes_carries source more g.0 new g.2 in record {
       more = one.more ++ rest.more;
       waiting = follow old g.0 new one.more rest.more one.waiting rest.waiting;
       goes = λ ws. (
@@ -158,7 +158,7 @@ follows verdict.Ahead f bytes mid new same =
     let h = held mid new f bytes same in
     record { more = h.more; waiting = h.waiting; goes = h.goes }
 follows verdict.Next f bytes mid new went =
-    let c = on f.source went.0 mid new went.1 in
+    let c = goes_carries f.source went.0 mid new went.1 in
     record { more = c.more; waiting = c.waiting; goes = λ ws. (went.0, c.goes ws) }
 
 -- the frame that a delivery is of is the same whatever strings wait

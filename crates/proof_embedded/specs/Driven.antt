@@ -10,8 +10,9 @@ use Rattle.ivy_moves.specs.stated.Nodes.{Node}
 use Rattle.ivy_moves.specs.stated.Worlds.{World}
 use Rattle.ivy_host.specs.stated.Hosts.{Host, host_rules, answered_by}
 use Rattle.ivy_host.specs.stated.Managers.{Managed, managed_ops}
+use Rattle.ivy_embedded.specs.Blocks.{RefusesBlock, RefusesStores}
 use Rattle.ivy_embedded.specs.Nodes.{Embedded, first_embedded}
-use Rattle.ivy_embedded.specs.Exports.{Answers, Begins, BeginsBlock, CarriesOut, Delivers, IsRequest, Polls, Pulses, RefusesCall, RefusesPoll, RefusesPulse, RefusesString, TakesAt, TakesBlock, TellsWant}
+use Rattle.ivy_embedded.specs.Exports.{Answers, Begins, BeginsBlock, CarriesOut, Delivers, IsRequest, Polls, Pulses, RefusesCall, RefusesPoll, RefusesPulse, RefusesString, TakesAt, TakesBlock}
 use Rattle.ivy_embedded.specs.declared.status.TheConstants.{DONE}
 use Rattle.proof_worlds.specs.stated.Keeping.{Keeps}
 
@@ -56,13 +57,13 @@ Does (LoadBlock addr) strings s t more = (more ≡ strings)
     (CarriesOut Loads addr buffer status words) (λ _. ⊥))
 Does (StoreBlock addr bytes) strings s t more = (more ≡ strings)
     × ((status words : ℕ) × Answers status (Some s) (Some t)
-    (CarriesOut Stores addr bytes status words) (λ _. ⊥))
+    (CarriesOut Stores addr bytes status words) (RefusesStores addr status))
 Does (BeginLoadBlock addr bytes) strings s t more = (more ≡ strings)
     × ((status words : ℕ) × Answers status (Some s) (Some t)
-    (BeginsBlock Loads addr bytes status words) (λ _. TellsWant status))
+    (BeginsBlock Loads addr bytes status words) (RefusesBlock addr status))
 Does (BeginStoreBlock addr bytes) strings s t more = (more ≡ strings)
     × ((status words : ℕ) × Answers status (Some s) (Some t)
-    (BeginsBlock Stores addr bytes status words) (λ _. TellsWant status))
+    (BeginsBlock Stores addr bytes status words) (RefusesBlock addr status))
 Does (TakeLoadBlock addr) strings s t more = (more ≡ strings)
     × ((status words : ℕ) × (buffer : List ℕ) × Answers status (Some s) (Some t)
     (TakesBlock Loads addr buffer status words) (λ _. ⊥))

@@ -1,5 +1,6 @@
 //! The law of nodes that are driven one call at a time.
 ghost use Rattle.proof_embedded.specs.Driven.{DrivenNodesAreOfOneRun};
+ghost use Rattle.proof_embedded.specs.Mapped.{NodesThatLendAreFlat};
 
 /// Nodes that a program drives are the nodes of one run. This is a fact, and the call does nothing.
 ///
@@ -14,4 +15,25 @@ ghost use Rattle.proof_embedded.specs.Driven.{DrivenNodesAreOfOneRun};
 /// order at the end has no record, or all, next to one another.
 pub fn driven_nodes_are_of_one_run()
     ensures { DrivenNodesAreOfOneRun }
+{}
+
+/// What programs call and what they do by pointers with pages that nodes lend them are of one flat memory. This is a
+/// fact, and the call does nothing.
+///
+/// All nodes of a configuration begin as openings. Then the program makes any calls of the functions of the header, at any
+/// of the nodes, in any order, with whatever they answer, and between them accesses bytes of what is lent to it, by
+/// pointers. All calls, loads, stores and atomic operations are of one flat memory, in the order of time: what was made
+/// grows at its end with each that happens. At each moment a node's part of the calls is its history, then nothing, or a
+/// record of each call that it has in progress. So an access stands after each call whose reply was recorded before it, and
+/// before each call begun after it. Calls of a page that is lent to be written at their node are the driver's, by blocks:
+/// they stand in its part and change nothing. No page is lent to be written at one node and lent at all at another.
+///
+/// Of whoever drives the nodes it takes this, and no more. An image has the bytes that the node has when its page is
+/// lent, and changes only by the program while it is lent. A program accesses a page while it is lent to it, to be
+/// written where it writes. When a page is given back that was lent to be written, the node has what stands in its image.
+/// Strings that are delivered were taken out before. A driver that gives nothing back is refused strings, and never wrong.
+///
+/// The nodes are those of a world that moves lead to, so all holds of them that is promised of such a world.
+pub fn nodes_that_lend_are_flat()
+    ensures { NodesThatLendAreFlat }
 {}
