@@ -124,17 +124,17 @@ static uint64_t by_call(ivy_process *p, uint32_t kind, uint64_t place, uint64_t 
   return value;
 }
 
-/* The first process that maps has the allocator give the pages of the runtime, which are its first block; the others wait. */
+/* The first process that maps has the allocator give the pages of the runtime, which are its first block; the others wait for that. */
 static uint32_t claim(ivy_process *p) {
   uint64_t claims = ivy_in_map_address(TOKEN_PAGE) + 8, is_claimed = claims + 8, seen = 0;
-  uint32_t status = IVY_DONE;
+  uint32_t status = IVY_DONE, told = IVY_DONE;
   if (by_call(p, IVY_FETCH_AND_ADD, claims, 1, &status) == 0 && status == IVY_DONE) {
-    uint64_t block = by_call(p, IVY_ALLOC, 0, MAP_OWN * MAP_PAGE, &status);
-    if (status == IVY_DONE && block != MAP_PAGE) status = IVY_NO_ROOM;
-    if (status == IVY_DONE) by_call(p, IVY_STORE, is_claimed, 1, &status);
+    seen = by_call(p, IVY_ALLOC, 0, MAP_OWN * MAP_PAGE, &status) == MAP_PAGE ? 1 : 2;
+    by_call(p, IVY_STORE, is_claimed, seen, &told);
   } else if (status == IVY_DONE) {
     status = ivy_wait_until(p, 8, is_claimed, IVY_NE, 0, -1, &seen);
   }
+  if (status == IVY_DONE && seen != 1) status = IVY_NO_ROOM;
   return status == IVY_DONE ? status : refuse(p, status, status == IVY_NO_ROOM ? "something was allocated before" : ivy_text(status));
 }
 

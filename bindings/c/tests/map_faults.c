@@ -6,9 +6,9 @@
  *   fork       a child has none of the memory, and its parent goes on
  *   kernel     read(2) and write(2) with pointers into it: EFAULT under protection, right under userfaultfd
  *   lone       PAGES of alternating protection, more than the system has stretches
- *   log        a process that writes a log: refused
+ *   log, calls a process that writes a log, or makes progress in calls: refused
  *   killed     counts until a peer is dead: ends by status 3, and its callback was called
- *   small      pages of another size: refused
+ *   small, few pages of another size, or too few; before: something was allocated before; twice: it is mapped already. All refused
  *   image      prints how the memory is shown; any other word: nothing more than a mapping */
 #include "map_test.h"
 #include <errno.h>
@@ -123,15 +123,32 @@ static int killed(void) {
   return 9;
 }
 
-static int refused(uint32_t page_size, uint32_t should) {
+/* A mapping that is not had, by any process; calls go on. */
+static int refused(uint32_t pages, uint32_t page_size, int allocates, uint32_t should) {
   ivy_config config;
   memset(&config, 0, sizeof config);
-  config.pages = 64;
+  config.pages = pages;
   config.page_size = page_size;
   config.manager = IVY_DYNAMIC;
   if (ivy_init_as(NULL, NULL, &config, &ivy) != IVY_DONE) return 2;
+  me = ivy_me(ivy);
+  if (allocates && me == 0) ivy_alloc(ivy, 8);
+  if (allocates) ivy_advance(ivy, 1);
+  if (allocates) ivy_await(ivy, 1, ivy_nodes(ivy));
   must("a mapping", ivy_map(ivy), should);
   must("no base", ivy_map_base(ivy) == NULL, 1);
+  ivy_fetch_add(ivy, 8, page_size, 1);
+  return ivy_finalize(ivy);
+}
+
+/* It is mapped once. */
+static int twice(void) {
+  begin_test_of(64, 0);
+  must("a second mapping", ivy_map(ivy), IVY_BAD_ARGUMENT);
+  volatile uint64_t *shared = (volatile uint64_t *)shared_pages(4096);
+  __atomic_fetch_add((uint64_t *)(uintptr_t)shared, 1, __ATOMIC_SEQ_CST);
+  ivy_map_barrier(ivy);
+  must("a counter", *shared, nodes);
   return ivy_finalize(ivy);
 }
 
@@ -142,8 +159,11 @@ int main(int argc, char **argv) {
   if (!strcmp(what, "kernel")) return kernel();
   if (!strcmp(what, "lone")) return lone();
   if (!strcmp(what, "killed")) return killed();
-  if (!strcmp(what, "log")) return refused(4096, IVY_BAD_ARGUMENT);
-  if (!strcmp(what, "small")) return refused(1024, IVY_BAD_CONFIG);
+  if (!strcmp(what, "log") || !strcmp(what, "calls")) return refused(64, 4096, 0, IVY_BAD_ARGUMENT);
+  if (!strcmp(what, "small")) return refused(64, 1024, 0, IVY_BAD_CONFIG);
+  if (!strcmp(what, "few")) return refused(15, 4096, 0, IVY_BAD_CONFIG);
+  if (!strcmp(what, "before")) return refused(64, 4096, 1, IVY_NO_ROOM);
+  if (!strcmp(what, "twice")) return twice();
   begin_test_of(64, 0);
   if (!strcmp(what, "image")) puts(ivy_map_image(ivy));
   volatile uint8_t *base = (volatile uint8_t *)ivy_map_base(ivy);
