@@ -19,11 +19,11 @@ find_commands() {
             ;;
         ivyscope)
             operands=([explain]='1 1' [run]='1 1' [schedule]='1 2' [chart]='1 2' [counts]='1 2' [order]='1 2')
-            operands+=([check]='1 1' [settle]='1 1' [search]='1 1')
+            operands+=([check]='1 1' [settle]='1 1' [search]='1 1' [trace]='1 2')
             valued=([run]="$config --turns --capacity --pulse --logs" [schedule]="$config --seed --moves")
-            valued+=([chart]="$config --seed --moves --page" [counts]="$config --seed --moves" [explain]='' [check]='')
+            valued+=([chart]="$config --seed --moves --page --from --to" [trace]="$config --seed --moves" [counts]="$config --seed --moves" [explain]='' [check]='')
             valued+=([order]="$config --seed --moves" [settle]="$config --seed --moves" [search]="$config --states --until")
-            bare=([run]='--strict --history --counts' [schedule]='--shortest' [counts]='--both')
+            bare=([run]='--strict --history --counts' [schedule]='--shortest' [counts]='--both' [chart]='--all' [trace]='--json')
             ;;
         ivynode)
             operands=([run]='2 2' [join]='1 -' [join-own]='0 -' [router]='0 0')

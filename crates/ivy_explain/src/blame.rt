@@ -1,7 +1,11 @@
 //! What is at fault in a line, and what was expected there.
 
+use ivy_options::{Shown, width_of};
 use std::fmt;
 use std::io::{self, Write};
+
+/// The most instructions that a program can have.
+pub(crate) const MOST_INSTRUCTIONS: u64 = 4_096;
 
 /// What was expected.
 #[derive(Clone, Copy)]
@@ -29,6 +33,14 @@ impl Wanted {
     /// This.
     pub fn of(text: &'static str) -> Wanted {
         Wanted::like(text, "")
+    }
+
+    /// No further instruction.
+    pub(crate) fn no_instruction() -> Wanted {
+        Wanted {
+            number: Some(MOST_INSTRUCTIONS),
+            ..Wanted::of(" instructions of a node at most")
+        }
     }
 
     /// A word that begins a line.
@@ -91,37 +103,41 @@ fn print_times<W: Write>(text: &str, times: usize, out: &mut W) -> io::Result<()
     Ok(())
 }
 
-/// Prints spaces, and then marks below a word.
-fn print_mark<W: Write>(blame: &Blame<'_>, out: &mut W) -> io::Result<()> {
-    let width = match blame.word {
-        Some(word) => word.chars().count(),
-        None => 1,
-    };
-    out.write_all(b"    ")?;
-    print_times(" ", blame.column.saturating_sub(1), out)?;
-    print_times("^", width, out)?;
-    out.write_all(b"\n")
+/// How many letters stand for the first characters of a text, so many at most.
+fn width_to(text: &str, count: usize) -> usize {
+    let mut width = 0usize;
+    for letter in text.chars().take(count) {
+        width = width.saturating_add(width_of(letter));
+    }
+    width
 }
 
-/// Prints a tab as a space, so that the mark stands below its word.
-fn print_line<W: Write>(line: &str, out: &mut W) -> io::Result<()> {
-    out.write_all(b"   ")?;
-    for part in line.split('\t') {
-        write!(out, " {part}")?;
-    }
+/// Prints spaces, and then marks below a word.
+fn print_mark<W: Write>(line: &str, blame: &Blame<'_>, out: &mut W) -> io::Result<()> {
+    let width = match blame.word {
+        Some(word) => width_to(word, word.len()),
+        None => 1,
+    };
+    let before = blame.column.saturating_sub(1);
+    // behind the line there are spaces
+    let behind = before.saturating_sub(line.chars().count());
+    out.write_all(b"    ")?;
+    print_times(" ", width_to(line, before).saturating_add(behind), out)?;
+    print_times("^", width, out)?;
     out.write_all(b"\n")
 }
 
 /// Prints where something is at fault, and what was expected there.
 fn print_place<W: Write>(file: &str, blame: &Blame<'_>, out: &mut W) -> io::Result<()> {
     let (number, column, wanted) = (blame.line, blame.column, blame.wanted);
+    let file = Shown(file);
     write!(out, "{file}:{number}:{column}: expected {wanted}, found ")
 }
 
 /// Prints what stands there.
 fn print_word<W: Write>(blame: &Blame<'_>, out: &mut W) -> io::Result<()> {
     match blame.word {
-        Some(word) => writeln!(out, "`{word}`"),
+        Some(word) => writeln!(out, "`{}`", Shown(word)),
         None => out.write_all(b"the end of the line\n"),
     }
 }
@@ -135,6 +151,6 @@ pub fn print_blame<W: Write>(
 ) -> io::Result<()> {
     print_place(file, blame, out)?;
     print_word(blame, out)?;
-    print_line(line, out)?;
-    print_mark(blame, out)
+    writeln!(out, "    {}", Shown(line))?;
+    print_mark(line, blame, out)
 }

@@ -30,6 +30,18 @@ const DRAWN_MOVES: Bounds = Bounds {
     most: 1_000_000,
 };
 
+/// Of what there has to be one at least.
+const SOME: Bounds = Bounds {
+    least: 1,
+    most: u64::MAX,
+};
+
+/// How many items an ether may hold.
+const ITEMS: Bounds = Bounds {
+    least: 1,
+    most: 65_536,
+};
+
 const SEED: CommandOption = CommandOption {
     name: "--seed",
     value: Value::Number {
@@ -62,7 +74,7 @@ const TURNS: CommandOption = CommandOption {
     name: "--turns",
     value: Value::Number {
         missing: Some(100_000_000),
-        bounds: ANY_NUMBER,
+        bounds: SOME,
     },
     about: "the most turns of a worker",
 };
@@ -71,16 +83,16 @@ const CAPACITY: CommandOption = CommandOption {
     name: "--capacity",
     value: Value::Number {
         missing: Some(256),
-        bounds: ANY_NUMBER,
+        bounds: ITEMS,
     },
-    about: "how many items the ether holds",
+    about: "how many items the ether holds, 65536 at most",
 };
 
 const PULSE: CommandOption = CommandOption {
     name: "--pulse",
     value: Value::Number {
         missing: Some(1024),
-        bounds: ANY_NUMBER,
+        bounds: SOME,
     },
     about: "turns on the wire from a pulse to the next",
 };
@@ -121,7 +133,37 @@ const PAGE: CommandOption = CommandOption {
         missing: None,
         bounds: ANY_NUMBER,
     },
-    about: "whose access is shown, else the first that was asked for",
+    about: "whose access is shown, else that of the first string",
+};
+
+const FIRST: CommandOption = CommandOption {
+    name: "--from",
+    value: Value::Number {
+        missing: Some(1),
+        bounds: SOME,
+    },
+    about: "the number of the first move that is drawn",
+};
+
+const LAST: CommandOption = CommandOption {
+    name: "--to",
+    value: Value::Number {
+        missing: None,
+        bounds: SOME,
+    },
+    about: "the number of the last move that is drawn",
+};
+
+const ALL: CommandOption = CommandOption {
+    name: "--all",
+    value: Value::Nothing,
+    about: "also what came again, and what came after the last reply",
+};
+
+const JSON: CommandOption = CommandOption {
+    name: "--json",
+    value: Value::Nothing,
+    about: "one object a line",
 };
 
 const BOTH: CommandOption = CommandOption {
@@ -175,9 +217,18 @@ static PROGRAM: CommandTable = CommandTable {
             note: DRAWN,
         },
         Command {
+            name: "trace",
+            operands: &[FILE, SCHEDULE],
+            options: &[PAGES, PAGE_SIZE, MANAGER, SEED, MOVES, JSON],
+            about: "prints what each move of a run did, as `ivy step` does",
+            note: DRAWN,
+        },
+        Command {
             name: "chart",
             operands: &[FILE, SCHEDULE],
-            options: &[PAGES, PAGE_SIZE, MANAGER, SEED, MOVES, PAGE],
+            options: &[
+                PAGES, PAGE_SIZE, MANAGER, SEED, MOVES, PAGE, FIRST, LAST, ALL,
+            ],
             about: "draws a run as a picture, in SVG",
             note: DRAWN,
         },

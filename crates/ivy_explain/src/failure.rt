@@ -3,7 +3,7 @@ ghost use Rattle.std.specs.Prelude.{◌≡◌, ◌≤◌};
 ghost use Rattle.ivy_explain.specs.Statuses.{failure_status};
 
 use ivy_model::Fault;
-use ivy_options::{Misuse, NoOptions};
+use ivy_options::{Misuse, NoOptions, Shown};
 use std::alloc::{AllocError, AllocFailed};
 use std::fmt;
 use std::io::{self, Write};
@@ -19,6 +19,9 @@ pub(crate) const NOT_LEGAL: u8 = 3;
 
 /// The exit status of a standstill at which a program has not ended.
 pub const STANDSTILL: u8 = 5;
+
+/// The exit status of a search that was not whole.
+pub const UNFINISHED: u8 = 6;
 
 /// Why a command was not carried out. Its text is what standard error is told.
 #[derive(Clone, Copy)]
@@ -58,16 +61,13 @@ impl ScopeFailure<'_> {
         }
     }
 
-    /// Tells standard error of the failure, and gives the exit status. Nothing more is printed where standard output took
-    /// no more.
+    /// Tells standard error of the failure, and gives the exit status.
     pub fn report<E: Write>(&self, err: &mut E) -> u8
         ensures status { result ≡ failure_status self.now }
         ensures within { result ≤ 2 }
     {
-        if !matches!(self, ScopeFailure::Unwritten) {
-            // The status tells of the failure also where standard error takes nothing.
-            let _ = writeln!(err, "ivyscope: {self}");
-        }
+        // The status tells of the failure also where standard error takes nothing.
+        let _ = writeln!(err, "ivyscope: {self}");
         self.status()
     }
 }
@@ -76,10 +76,10 @@ impl fmt::Display for ScopeFailure<'_> {
     fn fmt<W: fmt::Write>(&self, f: &mut fmt::Formatter<W>) -> fmt::Result {
         match self {
             ScopeFailure::Misused(misuse) => misuse.fmt(f),
-            ScopeFailure::NoGoal(text) => write!(f, "`{text}` is not `node I prints X`"),
-            ScopeFailure::Unreadable(file) => write!(f, "cannot read {file}"),
-            ScopeFailure::AtFault(file) => write!(f, "{file} is at fault"),
-            ScopeFailure::NoFolder(folder) => write!(f, "cannot write into {folder}"),
+            ScopeFailure::NoGoal(text) => write!(f, "`{}` is not `node I prints X`", Shown(text)),
+            ScopeFailure::Unreadable(file) => write!(f, "cannot read {}", Shown(file)),
+            ScopeFailure::AtFault(file) => write!(f, "{} is at fault", Shown(file)),
+            ScopeFailure::NoFolder(folder) => write!(f, "cannot write into {}", Shown(folder)),
             ScopeFailure::Refused(fault) => fault.fmt(f),
             ScopeFailure::NoOrder => f.write_str("no order passed the test"),
             ScopeFailure::Unwritten => f.write_str("standard output took no more"),

@@ -2,9 +2,10 @@
 
 use crate::failure::ScopeFailure;
 use crate::{Blame, Wanted, blames_of_order, blames_of_programs, blames_of_schedule, print_blame};
-use ivy_model::Fault;
+use ivy_model::{Fault, LEAST_NODES, LEAST_PAGES, MOST_NODES, MOST_PAGES, PAGE_SIZES};
+use ivy_options::Shown;
 use ivy_program::{parse, parse_number, words_of};
-use ivy_texts::{parse_order, parse_schedule};
+use ivy_texts::{Sizes, parse_order, parse_schedule};
 use std::alloc::{AllocError, Global};
 use std::io::{self, Write};
 
@@ -70,18 +71,39 @@ fn blames_of<'a>(alloc: Global, kind: Kind, text: &'a str) -> Result<Vec<Blame<'
     }
 }
 
-/// The line of a text, from 1.
-fn line_of(text: &str, number: usize) -> &str {
-    match text.lines().nth(number.saturating_sub(1)) {
-        Some(line) => line.trim_end(),
-        None => "",
-    }
+/// Those of these from a place on.
+fn rest_of<'b, 'a>(blames: &'b [Blame<'a>], from: usize) -> &'b [Blame<'a>] {
+    &blames[from.min(blames.len())..]
 }
 
-/// Tells what is at fault, line by line.
+/// Tells what is at fault in a line: the first of these, from a place on. It gives the place of the next one.
+fn tell_line<E: Write>(
+    file: &str,
+    (number, line): (usize, &str),
+    blames: &[Blame<'_>],
+    from: usize,
+    err: &mut E,
+) -> io::Result<usize> {
+    let mut place = from;
+    for blame in rest_of(blames, from) {
+        if blame.line != number {
+            break;
+        }
+        print_blame(file, line.trim_end(), blame, err)?;
+        place = place.saturating_add(1);
+    }
+    Ok(place)
+}
+
+/// Tells what is at fault, line by line: it stands in the order of the lines.
 fn tell<E: Write>(file: &str, text: &str, blames: &[Blame<'_>], err: &mut E) -> io::Result<()> {
-    for blame in blames {
-        print_blame(file, line_of(text, blame.line), blame, err)?;
+    let mut place = 0usize;
+    for (before, line) in text.lines().enumerate() {
+        let number = before.saturating_add(1);
+        place = tell_line(file, (number, line), blames, place, err)?;
+    }
+    for blame in rest_of(blames, place) {
+        print_blame(file, "", blame, err)?;
     }
     Ok(())
 }
@@ -107,7 +129,7 @@ fn add_line(blames: &mut Vec<Blame<'_>>, line: usize) -> Result<(), AllocError> 
         word: None,
         wanted: Wanted::of("a text within its limits"),
     })?;
-    Ok(())
+    blames.sort_by_key(|blame| blame.line)
 }
 
 /// Tells what is at fault in a text of which this line is.
@@ -126,6 +148,57 @@ fn tell_faults<E: Write>(
     Ok(())
 }
 
+/// How many nodes a memory has.
+fn may_have(nodes: u64) -> bool {
+    u64::from(LEAST_NODES) <= nodes && nodes <= u64::from(MOST_NODES)
+}
+
+/// Whether a memory may have the sizes that an order names.
+fn are_sizes(sizes: &Sizes) -> bool {
+    let page_size = u32::try_from(sizes.page_size).unwrap_or(0);
+    may_have(sizes.nodes)
+        && u64::from(LEAST_PAGES) <= sizes.pages
+        && sizes.pages <= u64::from(MOST_PAGES)
+        && PAGE_SIZES.contains(&page_size)
+}
+
+/// Tells where a text that a parser takes is of no memory, since that has other sizes. It says whether that is so.
+fn has_bad_sizes<E: Write>(
+    alloc: Global,
+    kind: Kind,
+    file: &str,
+    text: &str,
+    err: &mut E,
+) -> Result<bool, Fault> {
+    let file = Shown(file);
+    // The status tells of the fault also where the stream takes nothing.
+    match kind {
+        Kind::Schedule => Ok(false),
+        Kind::Programs => {
+            let nodes = parse(alloc, text)?.len() as u64;
+            if may_have(nodes) {
+                return Ok(false);
+            }
+            let _ = writeln!(
+                err,
+                "{file}: programs of {nodes} nodes, and 2 to 32 share a memory"
+            );
+            Ok(true)
+        }
+        Kind::Order => {
+            let sizes = parse_order(alloc, text)?.sizes;
+            if are_sizes(&sizes) {
+                return Ok(false);
+            }
+            let _ = writeln!(
+                err,
+                "{file}: an order has 2 to 32 nodes, 2 to 256 pages, and of bytes a power of two from 64 to 4096"
+            );
+            Ok(true)
+        }
+    }
+}
+
 /// Whether a text is no fault. Else it is told what is, on a stream.
 pub(crate) fn is_sound<E: Write>(
     alloc: Global,
@@ -139,7 +212,7 @@ pub(crate) fn is_sound<E: Write>(
             tell_faults(alloc, kind, file, text, line, err)?;
             Ok(false)
         }
-        None => Ok(true),
+        None => Ok(!has_bad_sizes(alloc, kind, file, text, err)?),
     }
 }
 
@@ -174,6 +247,6 @@ pub(crate) fn explain<'a, W: Write>(
         Kind::Schedule => "a schedule",
         Kind::Order => "an order",
     };
-    writeln!(out, "{file}: {what}, and nothing is at fault")?;
+    writeln!(out, "{}: {what}, and nothing is at fault", Shown(file))?;
     Ok(true)
 }

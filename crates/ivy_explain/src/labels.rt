@@ -4,6 +4,7 @@ use crate::blame::{Blame, Wanted};
 use crate::grammar::blame_at;
 use crate::words::Word;
 use std::alloc::{AllocError, Global};
+use std::collections::BTreeMap;
 
 const TAKEN: &str = "a name that no other label of this node has";
 
@@ -20,26 +21,22 @@ pub(crate) struct Named<'a> {
 /// The labels of a text, and the names that its jumps have.
 #[derive(Drop)]
 pub(crate) struct Labels<'a> {
-    labels: Vec<Named<'a>>,
+    /// By node and name.
+    labels: BTreeMap<(u64, &'a str), ()>,
     jumps: Vec<Named<'a>>,
 }
 
 impl<'a> Labels<'a> {
     pub(crate) fn new(alloc: Global) -> Labels<'a> {
         Labels {
-            labels: Vec::new(alloc),
+            labels: BTreeMap::new(alloc),
             jumps: Vec::new(alloc),
         }
     }
 
     /// Whether the node of a name has a label of that name.
     fn has(&self, named: &Named<'a>) -> bool {
-        for label in self.labels.iter() {
-            if label.node == named.node && label.word.text == named.word.text {
-                return true;
-            }
-        }
-        false
+        self.labels.contains_key(&(named.node, named.word.text))
     }
 
     /// Adds a label. It is at fault where its name is taken.
@@ -47,7 +44,7 @@ impl<'a> Labels<'a> {
         if self.has(&named) {
             return Ok(Some(blame_at(named.line, named.word, Wanted::of(TAKEN))));
         }
-        self.labels.push(named)?;
+        self.labels.insert((named.node, named.word.text), ())?;
         Ok(None)
     }
 

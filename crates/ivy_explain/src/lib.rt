@@ -29,7 +29,7 @@ pub use answers::{Answered, answer};
 pub use blame::{Blame, Wanted, print_blame};
 pub use broken::{Broken, first_broken};
 pub use calls::print_calls;
-pub use failure::{FAILED, MISUSED, STANDSTILL, ScopeFailure};
+pub use failure::{FAILED, MISUSED, STANDSTILL, ScopeFailure, UNFINISHED};
 pub use lines::{Lines, lines_of};
 pub use orders::blames_of_order;
 pub use places::{Place, Walk};

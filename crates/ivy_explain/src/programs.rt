@@ -1,6 +1,6 @@
 //! What is at fault in a text of programs.
 
-use crate::blame::{Blame, Wanted};
+use crate::blame::{Blame, MOST_INSTRUCTIONS, Wanted};
 use crate::grammar::{Form, Operand, blame_at, blame_form};
 use crate::labels::{Labels, Named};
 use crate::words::{Reader, Word, Words, read_lines};
@@ -36,11 +36,18 @@ const FORMS: [Form; 22] = [
 
 const FIRST_NODE: &str = "a line `node 0` before it";
 
+const NO_MARK: &str = "a text without a byte order mark";
+
+/// A byte order mark.
+const MARK: char = '\u{feff}';
+
 /// A text of programs that is read line by line.
 #[derive(Drop)]
 struct Reading<'a> {
     /// How many lines `node` there were.
     nodes: u64,
+    /// How many instructions the last node has so far.
+    instructions: u64,
     labels: Labels<'a>,
     blames: Vec<Blame<'a>>,
 }
@@ -52,6 +59,18 @@ impl<'a> Reading<'a> {
             return Some(blame_at(line, word, Wanted::node(self.nodes)));
         }
         self.nodes = self.nodes.saturating_add(1);
+        self.instructions = 0;
+        None
+    }
+
+    /// An instruction. The first that is one too many is at fault.
+    fn instruction(&mut self, line: usize, first: Word<'a>) -> Option<Blame<'a>> {
+        if first.text != "label" {
+            self.instructions = self.instructions.saturating_add(1);
+        }
+        if self.instructions == MOST_INSTRUCTIONS + 1 && first.text != "label" {
+            return Some(blame_at(line, first, Wanted::no_instruction()));
+        }
         None
     }
 
@@ -83,6 +102,10 @@ impl<'a> Reading<'a> {
             return Ok(Some(blame_at(line, first, Wanted::of(FIRST_NODE))));
         }
         let node = self.nodes;
+        let blame = self.instruction(line, first);
+        if blame.is_some() {
+            return Ok(blame);
+        }
         self.name(first.text, Named { node, line, word })
     }
 
@@ -91,6 +114,11 @@ impl<'a> Reading<'a> {
         line: usize,
         words: Words<'_, 'a>,
     ) -> Result<Option<Blame<'a>>, AllocError> {
+        if let Some(first) = words.get(0) {
+            if first.text.starts_with(MARK) {
+                return Ok(Some(blame_at(line, first, Wanted::of(NO_MARK))));
+            }
+        }
         let blame = blame_form(line, words, &FORMS, Wanted::line());
         if blame.is_some() {
             return Ok(blame);
@@ -119,6 +147,7 @@ impl<'a> Reader<'a> for Reading<'a> {
 pub fn blames_of_programs<'a>(alloc: Global, text: &'a str) -> Result<Vec<Blame<'a>>, AllocError> {
     let mut reading = Reading {
         nodes: 0,
+        instructions: 0,
         labels: Labels::new(alloc),
         blames: Vec::new(alloc),
     };

@@ -19,6 +19,10 @@ pub enum Showing {
     Counts,
     /// The same under both managers.
     Both,
+    /// What each of its moves did.
+    Trace,
+    /// The same, as one object a line.
+    Objects,
 }
 
 /// What is to be done with programs.
@@ -79,6 +83,8 @@ impl<'a> ScopeRequest<'a> {
             "chart" => Showing::Chart,
             "counts" if self.given.has("--both") => Showing::Both,
             "counts" => Showing::Counts,
+            "trace" if self.given.has("--json") => Showing::Objects,
+            "trace" => Showing::Trace,
             _ => Showing::Order,
         }
     }
@@ -110,6 +116,17 @@ impl<'a> ScopeRequest<'a> {
     /// The page whose access a picture shows, where one is named.
     pub fn page(&self) -> Option<u64> {
         self.given.number("--page")
+    }
+
+    /// The numbers of the first and the last move of which a picture is drawn, from 1.
+    pub fn range(&self) -> (u64, u64) {
+        let last = self.given.number("--to").unwrap_or(u64::MAX);
+        (self.number("--from"), last)
+    }
+
+    /// Whether a picture has all that came.
+    pub fn draws_all(&self) -> bool {
+        self.given.has("--all")
     }
 
     /// How many states are looked at, at most.

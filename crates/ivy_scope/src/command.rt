@@ -7,6 +7,7 @@ use crate::played::{Run, order, schedule, shortest};
 use crate::searches::look;
 use crate::sessions::run;
 use crate::settled::settle;
+use crate::traces::{trace, trace_objects};
 use crate::views::{both, chart, counts};
 use ivy_explain::{Answered, MISUSED, ScopeFailure, ScopeRequest, Showing, Task, answer};
 use ivy_replay::Progress;
@@ -30,9 +31,11 @@ fn show<W: Write, E: Write, P: Progress>(
         Showing::Schedule => schedule(&run, out, progress),
         Showing::Shortest => shortest(&run, out, err, progress),
         Showing::Order => order(&run, out, progress),
-        Showing::Chart => chart(&run, request.page(), out, progress),
+        Showing::Chart => chart(&run, request, out, err, progress),
         Showing::Counts => counts(&run, out, progress),
         Showing::Both => both(&run, out, progress),
+        Showing::Trace => trace(&run, out, progress),
+        Showing::Objects => trace_objects(&run, out, progress),
     }
 }
 
@@ -43,7 +46,7 @@ fn carry_out<
     L: Logs,
     W: Write,
     E: Write + Send,
-    P: Progress,
+    P: Progress + Send,
 >(
     rt: &R,
     request: &ScopeRequest<'a>,
@@ -56,7 +59,7 @@ fn carry_out<
 {
     let alloc = rt.alloc();
     match request.task() {
-        Task::Run => run(rt, alloc, request, files, out, err),
+        Task::Run => run(rt, alloc, request, files, out, err, progress),
         Task::Search => look(alloc, request, out, progress),
         Task::Settle => settle(alloc, request, out, progress),
         Task::Show(view) => match show(alloc, request, view, out, err, progress) {
@@ -68,7 +71,7 @@ fn carry_out<
 
 /// Carries out a command and gives its exit status: 0 where it was done, 1 where a run was refused, what was looked for
 /// was not found, or standard output took no more, 2 where the command line, a file or the configuration is at fault, 3
-/// where an order is not legal, and 5 at a standstill where a program has not ended.
+/// where an order is not legal, 5 at a standstill where a program has not ended, and 6 where a search was not whole.
 ///
 /// The first word is the program's name. What is at fault is printed on standard error. What may take long tells how far
 /// it is.
@@ -77,7 +80,7 @@ pub fn run_command<
     T: Texts + Logs,
     O: Write,
     E: Write + Send,
-    P: Progress,
+    P: Progress + Send,
 >(rt: &R, words: &[String], files: &T, out: &mut O, err: &mut E, progress: &mut P) -> u8
     ensures { IsStatus result }
 {

@@ -11,6 +11,7 @@ mod refused;
 mod searches;
 mod sessions;
 mod settled;
+mod traces;
 mod views;
 mod watched;
 

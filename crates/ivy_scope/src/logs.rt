@@ -2,7 +2,7 @@
 
 use crate::watched::ReportSoFar;
 use ivy_explain::ScopeFailure;
-use ivy_logs::{LogHead, push_log};
+use ivy_logs::{LogHead, push_log_of_run};
 use ivy_model::{Config, Fault};
 use ivy_texts::FilesOf;
 use std::alloc::Global;
@@ -29,10 +29,10 @@ impl<R: Files + AllocGlobal> Logs for FilesOf<'_, R> {
     }
 }
 
-/// Writes the logs of a session's nodes into a folder.
+/// Writes the logs of a session's nodes into a folder, with the sum of its configuration and programs.
 pub(crate) fn write_logs<'a, L: Logs>(
     alloc: Global,
-    config: Config,
+    (config, sum): (Config, u64),
     report: &ReportSoFar<Global>,
     logs: &L,
     folder: &'a str,
@@ -43,7 +43,7 @@ pub(crate) fn write_logs<'a, L: Logs>(
             config,
         };
         let mut text = String::new(alloc);
-        push_log(alloc, &mut text, &head, report.events(node))?;
+        push_log_of_run(alloc, &mut text, &head, sum, report.events(node))?;
         if !logs.write_log(folder, node, text.as_str())? {
             return Err(ScopeFailure::NoFolder(folder));
         }

@@ -4,7 +4,7 @@ ghost use Rattle.ivy_scope.specs.Statuses.{IsStatus};
 
 use crate::goals::goals_of;
 use crate::played::{print_moves, text_of};
-use ivy_explain::{FAILED, ScopeFailure, ScopeRequest};
+use ivy_explain::{FAILED, STANDSTILL, ScopeFailure, ScopeRequest, UNFINISHED};
 use ivy_moves::Move;
 use ivy_replay::{Found, Limit, Progress, search};
 use std::alloc::Global;
@@ -54,8 +54,17 @@ fn print_found<W: Write>(found: &Found, out: &mut W) -> io::Result<()> {
     }
     match &found.waiting {
         Some(way) => print_way("an end at which a node waits", way, out),
-        None if found.ends > 0 => out.write_all(b"at each of these ends all programs have ended\n"),
-        None => Ok(()),
+        None => out.write_all(said_of_ends(found).as_bytes()),
+    }
+}
+
+/// What is known of ends where no node waits at one that was reached.
+fn said_of_ends(found: &Found) -> &'static str {
+    match (found.ends, found.is_whole) {
+        (0, true) => "no order of moves leads to an end: some program goes on for ever\n",
+        (0, false) => "no end was reached, so nothing is known of ends\n",
+        (_, true) => "at each of these ends all programs have ended\n",
+        (_, false) => "at each end that was reached all programs have ended\n",
     }
 }
 
@@ -95,8 +104,34 @@ fn found_in<'a, P: Progress>(
     Ok(search(&text_of(alloc, request)?, limit, progress)?)
 }
 
+/// The exit status of a search through all states: whether a node waits at an end, and if not, whether it was whole.
+fn status_of(found: &Found) -> u8
+    ensures { IsStatus result }
+{
+    if found.waiting.is_some() {
+        STANDSTILL
+    } else if found.is_whole {
+        0
+    } else {
+        UNFINISHED
+    }
+}
+
+/// The exit status of a search for something, which was found or not.
+fn status_by(found: &Found, is_found: bool) -> u8
+    ensures { IsStatus result }
+{
+    if is_found {
+        0
+    } else if found.is_whole {
+        FAILED
+    } else {
+        UNFINISHED
+    }
+}
+
 /// Goes through all orders of turns and deliveries, and prints what is found. It gives the exit status: whether that is
-/// what was looked for, if anything was.
+/// what was looked for, if anything was; else whether a node waits at an end; and whether the search was whole.
 pub(crate) fn look<'a, W: Write, P: Progress>(
     alloc: Global,
     request: &ScopeRequest<'a>,
@@ -108,8 +143,8 @@ pub(crate) fn look<'a, W: Write, P: Progress>(
     let found = found_in(alloc, request, progress)?;
     if request.until().is_none() {
         print_found(&found, out)?;
-        return Ok(0);
+        return Ok(status_of(&found));
     }
     let is_found = print_reached(&found, out)?;
-    Ok(if is_found { 0 } else { FAILED })
+    Ok(status_by(&found, is_found))
 }

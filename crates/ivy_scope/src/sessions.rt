@@ -10,8 +10,10 @@ use ivy_explain::{
     FAILED, Listing, NodeState, STANDSTILL, ScopeFailure, ScopeRequest, Wishes, print_calls,
     print_standing,
 };
+use ivy_logs::sum_of_run;
 use ivy_model::{Config, Fault, Record};
 use ivy_program::parse;
+use ivy_replay::Progress;
 use ivy_session::Keep;
 use ivy_texts::print_output;
 use std::alloc::{AllocError, Global};
@@ -87,12 +89,13 @@ fn tell_standings<E: Write>(
     Ok(())
 }
 
-/// What a session came to: its report, why it ended, and how many calls were refused.
+/// What a session came to: its report, why it ended, how many calls were refused, and the sum of its run.
 #[derive(Drop)]
 struct Ended {
     report: ReportSoFar<Global>,
     end: End,
     refused: u64,
+    sum: u64,
 }
 
 /// What is to be run, and what is printed of it.
@@ -104,16 +107,18 @@ struct Plan<'a> {
 }
 
 /// Runs programs in a session, and tells of each call that is refused, as it is found.
-fn run_session<'x, R: Threads + Wait + Sync, E: Write + Send>(
+fn run_session<'x, R: Threads + Wait + Sync, E: Write + Send, P: Progress + Send>(
     rt: &'x R,
     alloc: Global,
     request: &ScopeRequest<'_>,
     plan: &'x Plan<'_>,
     err: &'x mut E,
+    progress: &'x mut P,
 ) -> Result<Ended, Fault> {
     let (config, wishes) = (plan.config, &plan.wishes);
     let parsed = parse(alloc, request.programs())?;
-    let refusals = Refusals::new(rt, alloc, &plan.listing, wishes.strict, err)?;
+    let sum = sum_of_run(&config, &parsed);
+    let refusals = Refusals::new(rt, alloc, &plan.listing, wishes.strict, err, progress)?;
     let terms = WatchTerms {
         rt,
         alloc,
@@ -126,6 +131,7 @@ fn run_session<'x, R: Threads + Wait + Sync, E: Write + Send>(
             report,
             end,
             refused: refusals.finish(),
+            sum,
         }),
         Err(fault) => Err(fault),
     }
@@ -144,7 +150,13 @@ fn tell<'a, L: Logs, W: Write, E: Write>(
 {
     let wishes = &plan.wishes;
     if let Some(folder) = wishes.logs {
-        write_logs(alloc, plan.config, &ended.report, files, folder)?;
+        write_logs(
+            alloc,
+            (plan.config, ended.sum),
+            &ended.report,
+            files,
+            folder,
+        )?;
     }
     print_report(&ended.report, wishes, out)?;
     if matches!(ended.end, End::Standstill | End::Turns) {
@@ -159,14 +171,23 @@ fn tell<'a, L: Logs, W: Write, E: Write>(
 }
 
 /// Runs programs in a session, and tells of each call that is refused, as it is found. It prints what the nodes printed,
-/// and where the session ended before its programs, tells what each node came to. It gives the exit status.
-pub(crate) fn run<'a, R: Threads + Wait + Sync, L: Logs, W: Write, E: Write + Send>(
+/// and where the session ended before its programs, tells what each node came to. It gives the exit status. It tells how
+/// far it is.
+pub(crate) fn run<
+    'a,
+    R: Threads + Wait + Sync,
+    L: Logs,
+    W: Write,
+    E: Write + Send,
+    P: Progress + Send,
+>(
     rt: &R,
     alloc: Global,
     request: &ScopeRequest<'a>,
     files: &L,
     out: &mut W,
     err: &mut E,
+    progress: &mut P,
 ) -> Result<u8, ScopeFailure<'a>>
     ensures { IfOk result IsStatus }
 {
@@ -177,6 +198,6 @@ pub(crate) fn run<'a, R: Threads + Wait + Sync, L: Logs, W: Write, E: Write + Se
         listing,
         wishes: request.wishes(),
     };
-    let ended = run_session(rt, alloc, request, &plan, err)?;
+    let ended = run_session(rt, alloc, request, &plan, err, progress)?;
     tell(alloc, &plan, &ended, files, out, err)
 }

@@ -2,12 +2,13 @@
 
 use crate::played::Run;
 use ivy_charts::{
-    Chart, Picture, RunCounts, RunLog, Writes, count_run, print_both, print_counts, print_sharing,
+    Chart, Part, Picture, RunCounts, RunLog, Writes, count_run, print_both, print_counts,
+    print_sharing,
 };
-use ivy_explain::ScopeFailure;
+use ivy_explain::{ScopeFailure, ScopeRequest};
 use ivy_model::{Fault, Kind};
 use ivy_replay::{Progress, seen};
-use std::io::Write;
+use std::io::{self, Write};
 
 /// What is seen of a run.
 fn log_of<P: Progress>(run: &Run<'_>, progress: &mut P) -> Result<RunLog, Fault> {
@@ -15,37 +16,66 @@ fn log_of<P: Progress>(run: &Run<'_>, progress: &mut P) -> Result<RunLog, Fault>
     Ok(seen(&run.text, &moves, progress)?.into_log())
 }
 
-/// The first page that a message is about, or 1.
+/// How high a picture may be before that is told, in pixels.
+const HIGH: u64 = 5_000;
+
+/// The page of the first string that is about one, or 1.
 fn first_page(log: &RunLog) -> u32 {
-    let mut least = None;
     for head in log.strings.iter() {
         if let Some(page) = head.page() {
-            least = match least {
-                None => Some(page),
-                Some(known) => Some(page.min(known)),
-            };
+            return page;
         }
     }
-    least.unwrap_or(1)
+    1
 }
 
-/// Draws a run.
-pub(crate) fn chart<W: Write, P: Progress>(
+/// The page whose access is shown: the one that is named, where one is.
+fn page_of(request: &ScopeRequest<'_>, log: &RunLog) -> u32 {
+    match request.page() {
+        Some(page) => u32::try_from(page).unwrap_or(u32::MAX),
+        None => first_page(log),
+    }
+}
+
+/// Which moves are drawn.
+fn part_of(request: &ScopeRequest<'_>) -> Part {
+    let (first, last) = request.range();
+    Part {
+        first,
+        last,
+        all: request.draws_all(),
+    }
+}
+
+/// Tells that a picture is high.
+fn tell_height<E: Write>(picture: &Picture, err: &mut E) -> io::Result<()> {
+    let height = picture.height();
+    if height > HIGH {
+        writeln!(
+            err,
+            "ivyscope: the picture is {height} pixels high; --from and --to draw a part"
+        )?;
+    }
+    Ok(())
+}
+
+/// Draws a run, and tells where the picture is high.
+pub(crate) fn chart<W: Write, E: Write, P: Progress>(
     run: &Run<'_>,
-    page: Option<u64>,
+    request: &ScopeRequest<'_>,
     out: &mut W,
+    err: &mut E,
     progress: &mut P,
 ) -> Result<(), ScopeFailure<'static>> {
     let log = log_of(run, progress)?;
-    let page = match page {
-        Some(page) => u32::try_from(page).unwrap_or(u32::MAX),
-        None => first_page(&log),
-    };
     let chart = Chart {
         nodes: u64::from(run.text.config.nodes),
-        page,
+        page: page_of(request, &log),
+        part: part_of(request),
     };
     let picture = Picture::of(run.text.alloc, chart, &log)?;
+    // What is told is no part of the picture.
+    let _ = tell_height(&picture, err);
     picture.draw(&log, out)?;
     Ok(())
 }

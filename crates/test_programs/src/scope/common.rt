@@ -5,6 +5,7 @@ use ivy_replay::Silence;
 use ivy_scope::{Logs, run_command};
 use ivy_texts::Texts;
 use std::alloc::Global;
+use std::io::{self, ErrorKind, Write};
 use std::process::Abort;
 use std::str;
 use std::sync::Wait;
@@ -43,10 +44,22 @@ impl Texts for Shelf<'_> {
     }
 }
 
-/// A folder takes no logs but where it is called so.
+/// Whether the first line of a log has eight words, of which the last one is a sum of 16 digits.
+fn names_sum(text: &str) -> bool {
+    let first = text.lines().next().unwrap_or("");
+    let mut count = 0u64;
+    let mut digits = 0usize;
+    for word in first.split(' ') {
+        count = count.saturating_add(1);
+        digits = word.len();
+    }
+    count == 8 && digits == 16
+}
+
+/// A folder takes no logs but where it is called so, and the logs name the sum of their run.
 impl Logs for Shelf<'_> {
-    fn write_log(&self, folder: &str, _node: u64, _text: &str) -> Result<bool, Fault> {
-        Ok(folder == "there")
+    fn write_log(&self, folder: &str, _node: u64, text: &str) -> Result<bool, Fault> {
+        Ok(folder == "there" && names_sum(text))
     }
 }
 
@@ -101,6 +114,37 @@ fn check_case<R: Abort + AllocGlobal + Threads + Wait + Sync>(
     let (mut printed, mut told) = (Vec::new(alloc), Vec::new(alloc));
     let found = run_command(rt, &words, shelf, &mut printed, &mut told, &mut Silence);
     expect_told(rt, line, &printed, out);
+    expect_told(rt, line, &told, err);
+    expect_status(rt, line, found, status);
+}
+
+/// A stream that takes nothing.
+#[derive(Drop)]
+struct Shut;
+
+impl Write for Shut {
+    fn write(&mut self, _buf: &[u8]) -> io::Result<usize> {
+        Ok(0)
+    }
+
+    fn flush(&mut self) -> io::Result<()> {
+        Err(io::Error::from(ErrorKind::StorageFull))
+    }
+}
+
+/// Performs a command line over files where standard output takes nothing. Asserts its status, and what is told.
+pub(crate) fn check_shut<R: Abort + AllocGlobal + Threads + Wait + Sync>(
+    rt: &R,
+    files: &[File],
+    line: &[&str],
+    status: u8,
+    err: Told<'_>,
+) {
+    let alloc = rt.alloc();
+    let shelf = Shelf { alloc, files };
+    let words = words_of(rt, alloc, line);
+    let mut told = Vec::new(alloc);
+    let found = run_command(rt, &words, &shelf, &mut Shut, &mut told, &mut Silence);
     expect_told(rt, line, &told, err);
     expect_status(rt, line, found, status);
 }

@@ -3,7 +3,7 @@
 use crate::scope::common::{Case, Told, check_each};
 use test_support::{File, programs};
 
-const FILES: [File; 6] = [
+const FILES: [File; 8] = [
     programs::FIRST_LOAD,
     programs::STORE_BUFFERING,
     File {
@@ -15,6 +15,14 @@ const FILES: [File; 6] = [
     File {
         name: "carried_out.schedule",
         text: "turn 1\nturn 1\nturn 1\nturn 1\ndeliver 0 0\ndeliver 1 1\n",
+    },
+    File {
+        name: "large.ivy",
+        text: "node 0\nset r1 9007199254740991\nprint r1\nset r1 9007199254740992\nprint r1\nnode 1\n",
+    },
+    File {
+        name: "two_turns.schedule",
+        text: "turn 0\nturn 0\nturn 0\nturn 0\n",
     },
     File {
         name: "past_the_heap.ivy",
@@ -29,7 +37,7 @@ const FILES: [File; 6] = [
     },
 ];
 
-const CASES: [Case<'static>; 12] = [
+const CASES: [Case<'static>; 17] = [
     // The draws of this seed among nodes that sent nothing, as the tests of draws have them.
     (
         &[
@@ -90,9 +98,75 @@ const CASES: [Case<'static>; 12] = [
         ]),
         Told::Is(""),
     ),
-    // A picture has each string with its page, the reply, and the second request as one that came again.
+    // Without all, a picture has each string with its page and the reply, and nothing that came again or after the reply.
     (
         &["chart", "first_load.ivy", "acknowledged.schedule"],
+        0,
+        Told::HasBut(
+            &[
+                ">ReadReq 1</text>",
+                ">ReadRep 1</text>",
+                ">load 8 256 = value 0</text>",
+                ">5 turn 1</text>",
+            ],
+            " again</text>",
+        ),
+        Told::Is(""),
+    ),
+    // A part of it: the request, which is sent in move 2, and comes in move 3.
+    (
+        &[
+            "chart",
+            "first_load.ivy",
+            "acknowledged.schedule",
+            "--from",
+            "2",
+            "--to",
+            "3",
+        ],
+        0,
+        Told::HasBut(
+            &[
+                ">ReadReq 1</text>",
+                ">2 turn 1</text>",
+                ">3 deliver 0 0</text>",
+            ],
+            ">5 turn 1</text>",
+        ),
+        Told::Is(""),
+    ),
+    // What `ivy step` prints, by the rules of the protocol, and the same as objects.
+    (
+        &["trace", "first_load.ivy", "carried_out.schedule"],
+        0,
+        Told::Is(
+            "1 turn 1\n2 turn 1\n  sent 0 ReadReq 1 0 1\n3 turn 1\n4 turn 1\n5 deliver 0 0\n\
+             \x20 sent 1 ReadRep 0 1 1\n6 deliver 1 1\nnode 0 ended\nnode 1 open\n",
+        ),
+        Told::Is(""),
+    ),
+    (
+        &["trace", "first_load.ivy", "acknowledged.schedule", "--json"],
+        0,
+        Told::Has(&[
+            "{\"move\":1,\"turn\":1,\"sent\":[]}\n",
+            "{\"move\":2,\"turn\":1,\"sent\":[{\"string\":0,\"kind\":\"ReadReq\",\"from\":1,\"to\":0,\"number\":1,\"page\":1}]}\n",
+            ",\"sent\":[],\"record\":{\"node\":1,\"call\":\"load\",\"width\":8,\"addr\":256,\"reply\":0}}\n",
+            "{\"move\":7,\"pulse\":1,\"to\":0,",
+            "{\"node\":0,\"prints\":[],\"ended\":true}\n{\"node\":1,\"prints\":[0],\"ended\":true}\n",
+        ]),
+        Told::Is(""),
+    ),
+    // 2^53 - 1 is a number, and the next one stands in quotes.
+    (
+        &["trace", "large.ivy", "two_turns.schedule", "--json"],
+        0,
+        Told::Has(&["\"prints\":[9007199254740991,\"9007199254740992\"]"]),
+        Told::Is(""),
+    ),
+    // A picture of all has the second request as one that came again.
+    (
+        &["chart", "first_load.ivy", "acknowledged.schedule", "--all"],
         0,
         Told::Has(&[
             "<svg xmlns=",

@@ -3,7 +3,7 @@
 use crate::scope::common::{Case, Told, check_each};
 use test_support::{File, programs};
 
-const FILES: [File; 6] = [
+const FILES: [File; 7] = [
     programs::STORE_BUFFERING,
     programs::FIRST_LOAD,
     // Each awaits what the other one advances after that.
@@ -22,12 +22,19 @@ const FILES: [File; 6] = [
         text: "node 0\nset r1 7\nprint r1\nlabel a\njump a\nnode 1\n",
     },
     File {
+        name: "lock.ivy",
+        text: "node 0\nset r1 256\nset r2 1\nset r3 512\nlabel a\nswap 8 r4 r1 r2\njumpz r4 in\njump a\nlabel in\n\
+               load 8 r5 r3\nadd r5 r5 r2\nstore 8 r3 r5\nstore 8 r1 r0\nprint r5\n\
+               node 1\nset r1 256\nset r2 1\nset r3 512\nlabel a\nswap 8 r4 r1 r2\njumpz r4 in\njump a\nlabel in\n\
+               load 8 r5 r3\nadd r5 r5 r2\nstore 8 r3 r5\nstore 8 r1 r0\nprint r5\n",
+    },
+    File {
         name: "prints.ivy",
         text: "node 0\nset r1 7\nprint r1\nnode 1\n",
     },
 ];
 
-const CASES: [Case<'static>; 13] = [
+const CASES: [Case<'static>; 15] = [
     (
         &["settle", "deadlock.ivy"],
         5,
@@ -70,28 +77,56 @@ const CASES: [Case<'static>; 13] = [
         ),
         Told::Is(""),
     ),
-    // A first load has seven states, by hand: the opening, and one after each of its two turns, its request, the answer and
-    // two turns more. So seven are all of them, and the end is not among six.
+    // A first load has four states, by hand: the opening with the turn that no other node can see, then one after the turn
+    // that asks, one after the request came, and one after the answer, with the two turns behind it. So four are all of them,
+    // and the end is not among three.
     (
-        &["search", "first_load.ivy", "--states", "7"],
+        &["search", "first_load.ivy", "--states", "4"],
         0,
         Told::Is(
-            "7 states, and 1 of them are ends\noutputs: node 1: 0\n\
+            "4 states, and 1 of them are ends\noutputs: node 1: 0\n\
              at each of these ends all programs have ended\n",
         ),
         Told::Is(""),
     ),
     (
-        &["search", "first_load.ivy", "--states", "6"],
+        &["search", "first_load.ivy", "--states", "3"],
+        6,
+        Told::Is(
+            "3 states and more, and 0 of them are ends\n\
+             no end was reached, so nothing is known of ends\n",
+        ),
+        Told::Is(""),
+    ),
+    // A loop without a call costs one state, and there is no end.
+    (
+        &["search", "circle.ivy"],
         0,
-        Told::Is("6 states and more, and 0 of them are ends\n"),
+        Told::Is(
+            "1 states, and 0 of them are ends\n\
+             no order of moves leads to an end: some program goes on for ever\n",
+        ),
+        Told::Is(""),
+    ),
+    // Two nodes take a lock that spins, and each adds 1 to a word under it.
+    (
+        &["search", "lock.ivy"],
+        0,
+        Told::HasBut(
+            &[
+                "outputs: node 0: 1, node 1: 2\n",
+                "outputs: node 0: 2, node 1: 1\n",
+                "at each of these ends all programs have ended\n",
+            ],
+            "node 0: 1, node 1: 1",
+        ),
         Told::Is(""),
     ),
     // No more states are looked at than the option says, wherever a search is then.
     (
-        &["search", "store_buffering.ivy", "--states", "50"],
-        0,
-        Told::Has(&["50 states and more, and "]),
+        &["search", "store_buffering.ivy", "--states", "20"],
+        6,
+        Told::Has(&["20 states and more, and "]),
         Told::Is(""),
     ),
     (
@@ -103,14 +138,14 @@ const CASES: [Case<'static>; 13] = [
             "--until",
             "node 1 prints 0",
         ],
-        1,
+        6,
         Told::Is("# none of 6 states is that; there are more\n"),
         Told::Is(""),
     ),
     // A text that deadlocks has an end at which a node waits.
     (
         &["search", "deadlock.ivy"],
-        0,
+        5,
         Told::Has(&["outputs: none\n", "# an end at which a node waits, by"]),
         Told::Is(""),
     ),

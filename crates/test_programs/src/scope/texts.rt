@@ -1,9 +1,9 @@
 //! What is said of texts and command lines: their faults, and where an order breaks.
 
-use crate::scope::common::{Case, Told, check_each};
+use crate::scope::common::{Case, Told, check_each, check_shut};
 use test_support::File;
 
-const FILES: [File; 5] = [
+const FILES: [File; 9] = [
     File {
         name: "four_faults.ivy",
         text: "node 0\nlod 8 r1 r2   # a letter is missing\nset r16 1\nlabel a\njump b\nprint r1 r2\n",
@@ -11,6 +11,22 @@ const FILES: [File; 5] = [
     File {
         name: "sound.ivy",
         text: "node 0\nnode 1\n",
+    },
+    File {
+        name: "marked.ivy",
+        text: "\u{feff}node 0\nnode 1\n",
+    },
+    File {
+        name: "bell.ivy",
+        text: "node 0\nset\tr1 \u{7}1\nnode 1\n",
+    },
+    File {
+        name: "empty.ivy",
+        text: "",
+    },
+    File {
+        name: "wide.order",
+        text: "ivy order 2 300 64\n",
     },
     File {
         name: "short.schedule",
@@ -26,7 +42,7 @@ const FILES: [File; 5] = [
     },
 ];
 
-const CASES: [Case<'static>; 14] = [
+const CASES: [Case<'static>; 21] = [
     (
         &["explain", "four_faults.ivy"],
         2,
@@ -41,6 +57,58 @@ const CASES: [Case<'static>; 14] = [
              print r1 r2\n             ^^\n",
         ),
         Told::Is(""),
+    ),
+    // A byte order mark and a bell are shown, and not sent; the mark stands below the word.
+    (
+        &["explain", "marked.ivy"],
+        2,
+        Told::Has(&[
+            "marked.ivy:1:1: expected a text without a byte order mark, found `\\u{feff}node`\n    \
+             \\u{feff}node 0\n    ^^^^^^^^^^^^\n",
+        ]),
+        Told::Is(""),
+    ),
+    (
+        &["explain", "bell.ivy"],
+        2,
+        Told::Is(
+            "bell.ivy:2:8: expected a number, 0 to 18446744073709551615, found `\\u{7}1`\n    \
+             set r1 \\u{7}1\n           ^^^^^^\n",
+        ),
+        Told::Is(""),
+    ),
+    (
+        &["explain", "empty.ivy"],
+        2,
+        Told::Is("empty.ivy: programs of 0 nodes, and 2 to 32 share a memory\n"),
+        Told::Is(""),
+    ),
+    (
+        &["check", "wide.order"],
+        2,
+        Told::Is(""),
+        Told::Has(&[
+            "wide.order: an order has 2 to 32 nodes, 2 to 256 pages",
+            "ivyscope: wide.order is at fault\n",
+        ]),
+    ),
+    (
+        &["run", "sound.ivy", "--capacity", "0"],
+        2,
+        Told::Is(""),
+        Told::Is("ivyscope: bad command line: `--capacity` is 1 at least\n"),
+    ),
+    (
+        &["run", "sound.ivy", "--pages=257"],
+        2,
+        Told::Is(""),
+        Told::Is("ivyscope: bad command line: `--pages` is 256 at most\n"),
+    ),
+    (
+        &["run", "sound.ivy", "--page-size", "100"],
+        2,
+        Told::Is(""),
+        Told::Is("ivyscope: bad command line: `--page-size` is a power of two\n"),
     ),
     (
         &["explain", "sound.ivy"],
@@ -146,4 +214,11 @@ const CASES: [Case<'static>; 14] = [
 #[test]
 fn texts(rt: HostRuntime) {
     check_each(&rt, &FILES, &CASES);
+}
+
+/// Where standard output takes nothing, standard error is told so.
+#[test]
+fn tells_of_full_output(rt: HostRuntime) {
+    let told = Told::Is("ivyscope: standard output took no more\n");
+    check_shut(&rt, &FILES, &["explain", "sound.ivy"], 1, told);
 }
