@@ -19,3 +19,4 @@ pub mod Counted
 pub mod Stuck
 pub mod Went
 pub mod LogRounds
+pub mod Named

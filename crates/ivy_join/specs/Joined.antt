@@ -1,5 +1,5 @@
 -- What logs come to that are the parts of one run.
-use Rattle.std.specs.Prelude.{◌≡◌, ℕ, ◌+◌, List, [], ◌∷◌, length, slice_get, Option, Some, None}
+use Rattle.std.specs.Prelude.{◌≡◌, ◌≢◌, ◌<◌, ◌⊎◌, ℕ, ◌+◌, List, [], ◌∷◌, length, slice_get, Option, Some, None, IfSome}
 use Rattle.ivy_model.specs.declared.Config.{Config}
 use Rattle.ivy_logs.specs.declared.log.LogHead.{LogHead}
 use Rattle.ivy_moves.specs.Marks.{Mark}
@@ -13,7 +13,7 @@ use Rattle.proof_worlds.specs.stated.Keeping.{Keeps}
 use Rattle.proof_worlds.specs.stated.RunState.{Run}
 use Rattle.ivy_program.specs.stated.Programs.{Program}
 use Rattle.ivy_join.specs.declared.failure.Unjoined.{Unjoined}
-use Rattle.ivy_join.specs.declared.failure.Unjoined.TheVariants.{NotSent, NoSuchEvent, OtherAnswers}
+use Rattle.ivy_join.specs.declared.failure.Unjoined.TheVariants.{Missing, Twice, Differs, OtherRun, NotSent, NoSuchEvent, OtherAnswers}
 
 -- the events of node i, by the lists of all nodes
 abbrev pub list_of : Option (List Mark) → List Mark
@@ -27,6 +27,35 @@ part_in lists i = list_of (slice_get lists i)
 abbrev pub AreHeads : Config → ℕ → List LogHead → Type 0
 AreHeads c i [] = Unit {0}
 AreHeads c i (h ∷ hs) = (h ≡ record { me = i; config = c }) × AreHeads c (i + 1) hs
+
+-- what an error says of one log, in the place of this node: it is of a later node, or of one before, or of this
+-- one under another configuration
+abbrev pub SaysOfHead : Config → ℕ → LogHead → Unjoined → Type 0
+SaysOfHead c node h (Missing n) = (n ≡ node) × (node < h.me)
+SaysOfHead c node h (Twice n) = (n ≡ h.me) × (h.me < node)
+SaysOfHead c node h (Differs n) = (n ≡ node) × (h.me ≡ node) × (h.config ≢ c)
+SaysOfHead c node h why = ⊥
+
+-- or of how many logs there are: too few, so that there is none of this node, or too many
+abbrev pub SaysOfCount : Config → ℕ → Unjoined → Type 0
+SaysOfCount c count (Missing n) = (n ≡ count) × (count < c.nodes)
+SaysOfCount c count (Twice n) = (n ≡ count) × (c.nodes < count)
+SaysOfCount c count why = ⊥
+
+-- so it is of one of the logs in its place, or of how many there are
+abbrev pub SaysOfHeads : Config → List LogHead → Unjoined → Type 0
+SaysOfHeads c heads why =
+    ((node : ℕ) × (h : LogHead) × (slice_get heads node ≡ Some h) × SaysOfHead c node h why)
+    ⊎ SaysOfCount c (length heads) why
+
+-- a log names this sum, or none
+abbrev pub NamesSum : ℕ → Option ℕ → Type 0
+NamesSum sum named = IfSome named (λ s. s ≡ sum)
+
+-- the error says that the log of this node names another one
+abbrev pub SaysOfSums : ℕ → List (Option ℕ) → Unjoined → Type 0
+SaysOfSums sum named (OtherRun node) = (s : ℕ) × (slice_get named node ≡ Some (Some s)) × (s ≢ sum)
+SaysOfSums sum named why = ⊥
 
 module _ (c : Config) (programs : List Program) where
   -- the end of the run, as contracts see it

@@ -22,6 +22,9 @@ pub enum Unjoined {
     /// A node's log names another configuration.
     #[error("the log of node {0} names another configuration")]
     Differs(u64),
+    /// A node's log names the sum of another run.
+    #[error("the log of node {0} is of other programs, or of another configuration")]
+    OtherRun(u64),
     /// A node would have taken a string that no node sent.
     #[error("node {node}, line {line}: sent by nobody")]
     NotSent { node: u64, line: u64 },

@@ -1,6 +1,6 @@
 //! Whether logs are the parts of one run: of given programs, or of the own code whose calls they have.
 
-ghost use Rattle.std.specs.Prelude.{◌≡◌, ◌++◌, ◌≤◌, length, map, take, IfOk, IfErr, IfSome, OnOk, IsTrue};
+ghost use Rattle.std.specs.Prelude.{◌≡◌, ◌++◌, ◌≤◌, ◌↔◌, length, map, take, IfOk, IfErr, IfSome, OnOk, IsTrue};
 ghost use Rattle.std.specs.List.{All};
 ghost use Rattle.ivy_model.specs.stated.Config.{IsConfig};
 ghost use Rattle.ivy_calls.specs.Answers.{answers};
@@ -11,14 +11,15 @@ ghost use Rattle.ivy_world.specs.HandedWorlds.{own_code};
 ghost use Rattle.ivy_world.specs.WorldSites.{IsMemory};
 ghost use Rattle.ivy_join.specs.Calls.{HaveNoCalls};
 ghost use Rattle.ivy_join.specs.ReplaySites.{kept_from, AreKept};
-ghost use Rattle.ivy_join.specs.Joined.{AreHeads, AreJoined, AreNoParts, SaysNoParts};
+ghost use Rattle.ivy_join.specs.Joined.{AreHeads, AreJoined, AreNoParts, NamesSum, SaysNoParts, SaysOfCount, SaysOfHead, SaysOfHeads, SaysOfSums};
+ghost use Rattle.ivy_logs.specs.Sums.{sum_of_run};
 ghost use Rattle.ivy_join.specs.OwnJoined.{AreAllTold, AreAnswered, AreOwnJoined, AreTold, Tells};
 
 use crate::failure::Unjoined;
 use crate::joined::Joined;
 use crate::replay_log::play;
 use crate::strings::Strings;
-use ivy_logs::{Log, LogEntry, LogHead};
+use ivy_logs::{Log, LogEntry, LogHead, sum_of_run};
 use ivy_model::{Config, Fault, Record};
 use ivy_program::Program;
 use ivy_site::Site;
@@ -63,7 +64,7 @@ fn open_sites<A: Allocator + Copy>(alloc: A, config: &Config) -> Result<Vec<Site
 
 /// Whether the two are one configuration.
 fn is_same(a: &Config, b: &Config) -> bool
-    ensures { IsTrue result → a.now ≡ b.now }
+    ensures { IsTrue result ↔ (a.now ≡ b.now) }
 {
     a.nodes == b.nodes && a.pages == b.pages && a.page_size == b.page_size && a.manager == b.manager
 }
@@ -71,7 +72,7 @@ fn is_same(a: &Config, b: &Config) -> bool
 /// Whether a log is the one of this node, and names this configuration.
 fn check_head(config: &Config, node: u64, head: &LogHead) -> Result<(), Unjoined>
     ensures same { OnOk result (head.now ≡ record { me = node; config = config.now }) }
-    ensures other { IfErr result (λ why. SaysNoParts why → ⊥) }
+    ensures why { IfErr result (SaysOfHead config.now node head.now) }
 {
     let me = u64::from(head.me);
     if me > node {
@@ -89,7 +90,7 @@ fn check_head(config: &Config, node: u64, head: &LogHead) -> Result<(), Unjoined
 /// Whether there are as many logs as nodes.
 fn check_count(config: &Config, count: u64) -> Result<(), Unjoined>
     ensures same { OnOk result (count ≡ config.now.nodes) }
-    ensures other { IfErr result (λ why. SaysNoParts why → ⊥) }
+    ensures why { IfErr result (SaysOfCount config.now count) }
 {
     if count < u64::from(config.nodes) {
         return Err(Unjoined::Missing(count));
@@ -100,11 +101,11 @@ fn check_count(config: &Config, count: u64) -> Result<(), Unjoined>
     Ok(())
 }
 
-/// Whether each log is the one of the node of its place, and names this configuration.
-fn check_heads<A: Allocator>(config: &Config, logs: &[Log<A>]) -> Result<(), Unjoined>
+/// Whether each log is the one of the node of its place, and names this configuration. The error says which is not.
+pub fn check_heads<A: Allocator>(config: &Config, logs: &[Log<A>]) -> Result<(), Unjoined>
     ensures each { OnOk result (AreHeads config.now 0 (map (λ l. l.head) logs.now)) }
     ensures count { OnOk result (length logs.now ≡ config.now.nodes) }
-    ensures other { IfErr result (λ why. SaysNoParts why → ⊥) }
+    ensures why { IfErr result (SaysOfHeads config.now (map (λ l. l.head) logs.now)) }
 {
     let mut node = 0u64;
     for log in logs {
@@ -112,6 +113,31 @@ fn check_heads<A: Allocator>(config: &Config, logs: &[Log<A>]) -> Result<(), Unj
         node += 1;
     }
     check_count(config, node)
+}
+
+/// Whether a log names this sum, or none.
+fn names_sum(sum: u64, named: Option<u64>) -> bool
+    ensures { IsTrue result ↔ NamesSum sum named }
+{
+    match named {
+        Some(other) => other == sum,
+        None => true,
+    }
+}
+
+/// Whether each log names this sum, or none. The error says which names another one.
+fn check_sums<A: Allocator>(sum: u64, logs: &[Log<A>]) -> Result<(), Unjoined>
+    ensures all { OnOk result (All (NamesSum sum) (map (λ l. l.sum) logs.now)) }
+    ensures why { IfErr result (SaysOfSums sum (map (λ l. l.sum) logs.now)) }
+{
+    let mut node = 0u64;
+    for log in logs {
+        if !names_sum(sum, log.sum) {
+            return Err(Unjoined::OtherRun(node));
+        }
+        node += 1;
+    }
+    Ok(())
 }
 
 /// The place behind the answer of an entry, where the records in this place have it.
@@ -169,8 +195,8 @@ fn check_answers<A: Allocator + Copy>(sites: &[Site<A>], logs: &[Log<A>]) -> Res
 /// nodes had: what `World::run` promises of every run holds of what happened, and the nodes at the end of it are given.
 /// [`Unjoined::NotSent`] and [`Unjoined::NoSuchEvent`] say of logs without calls, as all logs of programs are, that they are
 /// the parts of no run of these programs under it.
-/// The other errors say nothing of that: memory ran out, the configuration does not suit, or the logs are not those of its
-/// nodes.
+/// The other errors say nothing of that: memory ran out, the configuration does not suit, the logs are not those of its
+/// nodes, or one of them names the sum of another run.
 pub fn join<A: Allocator + Copy>(
     alloc: A,
     config: Config,
@@ -179,6 +205,7 @@ pub fn join<A: Allocator + Copy>(
 ) -> Result<Joined<A>, Unjoined>
     ensures heads { OnOk result (AreHeads config 0 (map (λ l. l.head) logs.now)) }
     ensures joined { IfOk result (λ joined. AreJoined config programs.items (map (λ l. marks (events_in l.entries.items)) logs.now) joined) }
+    ensures summed { OnOk result (All (NamesSum (sum_of_run config programs.items)) (map (λ l. l.sum) logs.now)) }
     ensures refused { IfErr result (λ why. SaysNoParts why → HaveNoCalls (map (λ l. l.entries.items) logs.now) → AreNoParts config programs.items (map (λ l. marks (events_in l.entries.items)) logs.now)) }
     ensures named { IfErr result (λ why. SaysNoParts why → AreHeads config 0 (map (λ l. l.head) logs.now)) }
 {
@@ -187,6 +214,7 @@ pub fn join<A: Allocator + Copy>(
         return Err(Unjoined::Refused(Fault::BadConfig));
     }
     check_heads(&config, logs)?;
+    check_sums(sum_of_run(&config, &programs), logs)?;
     let mut sites = first_sites(alloc, &config, programs)?;
     let mut sent = Strings::new(alloc);
     play(alloc, &config, &mut sites, &mut sent, logs)?;

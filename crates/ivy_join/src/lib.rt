@@ -16,7 +16,7 @@ mod restart;
 mod strings;
 
 pub use failure::Unjoined;
-pub use join_logs::{join, join_own};
+pub use join_logs::{check_heads, join, join_own};
 pub use joined::Joined;
 pub use replay_event::make;
 pub use restart::{NotPlayed, replay};

@@ -64,6 +64,7 @@ fn status_of(why: Unjoined) -> u8
         Unjoined::Refused(Fault::BadConfig) => 2,
         Unjoined::Refused(_) => 1,
         Unjoined::Missing(_) | Unjoined::Twice(_) | Unjoined::Differs(_) => 2,
+        Unjoined::OtherRun(_) => 2,
         Unjoined::NotSent { .. } | Unjoined::NoSuchEvent { .. } => 3,
         Unjoined::OtherAnswers(_) => 3,
     }

@@ -51,7 +51,7 @@ fn logs_of_a_run_are_joined(rt: HostRuntime) {
 }
 
 /// Two logs that are joined by nothing, and why.
-const APART: [([&str; 2], Unjoined); 6] = [
+const APART: [([&str; 2], Unjoined); 7] = [
     // A string is not taken before it was sent.
     (
         [
@@ -87,6 +87,10 @@ const APART: [([&str; 2], Unjoined); 6] = [
     (
         ["ivy log 0 2 2 64 dynamic\n", "ivy log 1 2 2 64 fixed\n"],
         Unjoined::Differs(1),
+    ),
+    (
+        ["ivy log 0 2 2 64 dynamic\n", "ivy log 1 2 2 64 dynamic 5\n"],
+        Unjoined::OtherRun(1),
     ),
 ];
 

@@ -1,8 +1,9 @@
 //! The lines of logs and of frames, read and written.
 
 use crate::processes::common::{CONFIG, expect_same, expect_text, log_of};
-use ivy_logs::{LogKind, parse_frame, parse_log, push_entry, push_frame, push_head};
-use ivy_model::Fault;
+use ivy_logs::{LogKind, parse_frame, parse_log, push_entry, push_frame, push_head, sum_of_run};
+use ivy_model::{Config, Fault, Kind};
+use ivy_program::parse;
 use std::alloc::Global;
 use std::process::Abort;
 
@@ -43,6 +44,12 @@ fn a_torn_line_is_none_and_a_faulty_one_is_named(rt: HostRuntime) {
         ("ivy log 1 2 2 64 fixed\ntook 4x\n", 2),
         ("ivy log 1 2 2 64 fixed\ntook 456\n", 2),
         ("ivy log 1 2 2 64 fixed\npulse 256\n", 2),
+        (
+            "ivy log 1 2 2 64 fixed\n\n# a comment\npulse 1\nturn 2\nturn 3\n",
+            5,
+        ),
+        ("ivy log 1 2 2 64 fixed x\n", 1),
+        ("ivy log 1 2 2 64 fixed 5 6\n", 1),
         // Calls and answers stand in logs of own code alone.
         ("ivy own 1 2 2 64 fixed\n", 1),
         ("ivy log 1 2 2 64 fixed\nturns 2\ncall load 8 512\n", 3),
@@ -52,6 +59,61 @@ fn a_torn_line_is_none_and_a_faulty_one_is_named(rt: HostRuntime) {
         let fault = parse_log(alloc, LogKind::OfProgram, *text).err();
         expect_same(&rt, fault, Some(Fault::ProgramFault(*line)));
     }
+}
+
+#[test]
+fn lines_at_the_bounds_are_read(rt: HostRuntime) {
+    let alloc = rt.alloc();
+    let read = [
+        (
+            LogKind::OfProgram,
+            "ivy log 1 2 2 64 fixed\npulse 16\npulse 255\n",
+            2usize,
+        ),
+        (
+            LogKind::OfProgram,
+            "ivy log 255 0 4294967295 0 dynamic\n",
+            0,
+        ),
+        (
+            LogKind::OfProgram,
+            "ivy log 1 2 2 64 fixed 18446744073709551615\npulse 0\n",
+            1,
+        ),
+        (
+            LogKind::OfOwnCode,
+            "ivy own 1 2 2 64 fixed\ncall advance 0\ndone advance 0\nrefused 255 load 8 0\n",
+            3,
+        ),
+    ];
+    for (kind, text, count) in &read {
+        let log = parse_log(alloc, *kind, *text).expect(&rt, "a log");
+        expect_same(&rt, log.entries.len(), *count);
+    }
+}
+
+/// The expected numbers were computed apart from this code.
+#[test]
+fn a_sum_is_of_the_configuration_and_the_programs(rt: HostRuntime) {
+    let alloc = rt.alloc();
+    let text = "node 0\nnode 1\nset r1 256   # a comment\nload 8 r2 r1\nprint r2\n";
+    let programs = parse(alloc, text).expect(&rt, "programs");
+    for (manager, sum) in [
+        (Kind::Dynamic, 2_704_658_206_453_180),
+        (Kind::Fixed, 3_141_397_415_622_469),
+    ] {
+        let config = Config {
+            pages: 16,
+            page_size: 256,
+            manager,
+            ..CONFIG
+        };
+        expect_same(&rt, sum_of_run(&config, &programs), sum);
+    }
+    let own = parse_log(alloc, LogKind::OfOwnCode, "ivy own 1 2 2 64 fixed 5\n");
+    expect_same(&rt, own.err(), Some(Fault::ProgramFault(1)));
+    let log = log_of(&rt, alloc, "ivy log 1 2 2 64 fixed 5\n");
+    expect_same(&rt, log.sum, Some(5));
 }
 
 #[test]

@@ -1,8 +1,9 @@
-use Rattle.std.proofs.Common.{rules, arith, map, refl, ap, subst, ◌∙◌}
-use Rattle.std.proofs.lemmas.List.{take_all}
-use Rattle.std.proofs.lemmas.Result.{err_from_is_err_and, IfOk-from_err, on_ok_weaker}
-use Rattle.ivy_join.specs.Joined.{AreHeads, SaysNoParts}
+use Rattle.std.proofs.Common.{rules, arith, ◌≡◌, length, map, slice_get, Some, refl, sym, ap, subst, inl, inr, ◌∙◌}
+use Rattle.std.proofs.lemmas.List.{length-map, take_all}
+use Rattle.std.proofs.lemmas.Result.{err_from_is_err_and, IfErr-weaker, IfOk-from_err, on_ok_weaker}
+use Rattle.ivy_join.specs.Joined.{AreHeads, SaysOfCount, SaysOfHead, SaysOfHeads}
 use Rattle.ivy_join.proofs.Ended.{heads-more}
+use Rattle.ivy_join.proofs.Named.{head-there}
 use Rattle.ivy_join.proofs.join_logs.check_heads.Goals as goal
 
 pub loop-log-preserved : goal.loop-log-preserved
@@ -29,10 +30,24 @@ returns-clause-each g c =
     (λ _. subst (λ l. AreHeads c.args.config.now 0 (map (λ x. x.head) l))
     (take_all c.loop-log.log-index c.args.logs.now c.loop-log-test.false) c.loop-log.invariant.heads) c.check_count.ensures.same
 
-pub returns-in_err-check_head-clause-other : goal.returns-in_err-check_head-clause-other
-returns-in_err-check_head-clause-other g c =
+pub returns-in_err-check_head-clause-why : goal.returns-in_err-check_head-clause-why
+returns-in_err-check_head-clause-why g c =
     let p = err_from_is_err_and c.from_residual.result c.from_residual.ensures.1 in
-    rw p.1 (λ told. c.in_err-check_head.ensures.other (subst SaysNoParts p.2 told))
+    rw p.1 (inl (
+      c.loop-log.node,
+      c.log-item.result.head,
+      subst (λ i. slice_get (map (λ x. x.head) c.args.logs.now) i ≡ Some c.log-item.result.head)
+          (sym c.loop-log.invariant.node)
+          (head-there (λ x. x.head) c.args.logs.now c.loop-log.log-index c.log-item.result (search rules)
+          c.log-item.is),
+      subst (SaysOfHead c.args.config.now c.loop-log.node c.log-item.result.head) (sym p.2)
+          c.in_err-check_head.ensures.why,
+    ))
 
-pub returns-clause-other : goal.returns-clause-other
-returns-clause-other g c = c.check_count.ensures.other
+pub returns-clause-why : goal.returns-clause-why
+returns-clause-why g c =
+    let all : c.loop-log.node ≡ length (map (λ x. x.head) c.args.logs.now) =
+    omega (arith, c.loop-log.invariant.node, c.loop-log-test.false, length-map c.args.logs.now (λ x. x.head)) in
+    IfErr-weaker c.check_count.result (SaysOfCount c.args.config.now c.loop-log.node)
+    (SaysOfHeads c.args.config.now (map (λ x. x.head) c.args.logs.now))
+    (λ why said. inr (subst (λ n. SaysOfCount c.args.config.now n why) all said)) c.check_count.ensures.why

@@ -1,15 +1,17 @@
-use Rattle.std.proofs.Common.{refl, ◌≡◌, length, map, sym, ap, subst, ◌∙◌}
+use Rattle.std.proofs.Common.{rules, refl, ◌≡◌, All, length, map, sym, ap, subst, ◌∙◌}
 use Rattle.std.proofs.lemmas.List.{length-map}
 use Rattle.std.proofs.lemmas.Result.{err_from_is_err_and, IfOk-from_err}
 use Rattle.ivy_logs.specs.declared.log.Log.{Log}
 use Rattle.ivy_model.specs.stated.Config.{IsConfig}
 use Rattle.ivy_moves.specs.Marks.{marks}
 use Rattle.ivy_logs.specs.Entries.{events_in}
+use Rattle.ivy_logs.specs.Sums.{sum_of_run}
 use Rattle.ivy_join.specs.Calls.{with_calls}
 use Rattle.ivy_join.proofs.Calls.{written-calls}
 use Rattle.ivy_join.specs.Exact.{HaveSent}
 use Rattle.ivy_join.specs.ReplaySites.{ArePlayed}
-use Rattle.ivy_join.specs.Joined.{AreJoined, AreNoParts, SaysNoParts}
+use Rattle.ivy_join.specs.Joined.{AreJoined, AreNoParts, NamesSum, SaysNoParts}
+use Rattle.ivy_join.proofs.Named.{none-of-heads, none-of-sums}
 use Rattle.ivy_join.proofs.Ended.{first-played, first_programs, first-sent, joined, are-kept, nothing}
 use Rattle.ivy_join.proofs.join_logs.join.Goals as goal
 
@@ -125,12 +127,12 @@ returns-in_err-check_heads-clause-joined g c =
 pub returns-in_err-check_heads-clause-refused : goal.returns-in_err-check_heads-clause-refused
 returns-in_err-check_heads-clause-refused g c =
     let p = err_from_is_err_and c.from_residual-in_err-check_heads.result c.from_residual-in_err-check_heads.ensures.1 in
-    rw p.1 (λ told none. absurd (c.in_err-check_heads.ensures.other (subst SaysNoParts p.2 told)))
+    rw p.1 (λ told none. absurd (none-of-heads _ _ _ c.in_err-check_heads.ensures.why (subst SaysNoParts p.2 told)))
 
 pub returns-in_err-check_heads-clause-named : goal.returns-in_err-check_heads-clause-named
 returns-in_err-check_heads-clause-named g c =
     let p = err_from_is_err_and c.from_residual-in_err-check_heads.result c.from_residual-in_err-check_heads.ensures.1 in
-    rw p.1 (λ told. absurd (c.in_err-check_heads.ensures.other (subst SaysNoParts p.2 told)))
+    rw p.1 (λ told. absurd (none-of-heads _ _ _ c.in_err-check_heads.ensures.why (subst SaysNoParts p.2 told)))
 
 pub first_sites-requires-clause-limits : goal.first_sites-requires-clause-limits
 first_sites-requires-clause-limits g c = (c.in_ok-check.ensures.accepted.0 refl).limits
@@ -175,3 +177,43 @@ returns-clause-refused g c = tt
 
 pub returns-clause-named : goal.returns-clause-named
 returns-clause-named g c = tt
+
+pub returns-in_err-check-clause-summed : goal.returns-in_err-check-clause-summed
+returns-in_err-check-clause-summed g c = IfOk-from_err c.from_residual.result _ c.from_residual.ensures.0
+
+pub returns-in_err-check_heads-clause-summed : goal.returns-in_err-check_heads-clause-summed
+returns-in_err-check_heads-clause-summed g c = IfOk-from_err c.from_residual-in_err-check_heads.result _ c.from_residual-in_err-check_heads.ensures.0
+
+pub returns-in_err-check_sums-clause-heads : goal.returns-in_err-check_sums-clause-heads
+returns-in_err-check_sums-clause-heads g c = IfOk-from_err c.from_residual-in_err-check_sums.result _ c.from_residual-in_err-check_sums.ensures.0
+
+pub returns-in_err-check_sums-clause-joined : goal.returns-in_err-check_sums-clause-joined
+returns-in_err-check_sums-clause-joined g c = IfOk-from_err c.from_residual-in_err-check_sums.result _ c.from_residual-in_err-check_sums.ensures.0
+
+pub returns-in_err-check_sums-clause-summed : goal.returns-in_err-check_sums-clause-summed
+returns-in_err-check_sums-clause-summed g c = IfOk-from_err c.from_residual-in_err-check_sums.result _ c.from_residual-in_err-check_sums.ensures.0
+
+pub returns-in_err-sites-clause-summed : goal.returns-in_err-sites-clause-summed
+returns-in_err-sites-clause-summed g c = IfOk-from_err c.from_residual-in_err-sites.result _ c.from_residual-in_err-sites.ensures.0
+
+pub returns-in_err-play-clause-summed : goal.returns-in_err-play-clause-summed
+returns-in_err-play-clause-summed g c = IfOk-from_err c.from_residual-in_err-play.result _ c.from_residual-in_err-play.ensures.0
+
+pub returns-in_err-check_sums-clause-refused : goal.returns-in_err-check_sums-clause-refused
+returns-in_err-check_sums-clause-refused g c =
+    let p = err_from_is_err_and c.from_residual-in_err-check_sums.result c.from_residual-in_err-check_sums.ensures.1 in
+    rw p.1 (λ told none. absurd (none-of-sums _ _ _ c.in_err-check_sums.ensures.why (subst SaysNoParts p.2 told)))
+
+pub returns-in_err-check_sums-clause-named : goal.returns-in_err-check_sums-clause-named
+returns-in_err-check_sums-clause-named g c =
+    let p = err_from_is_err_and c.from_residual-in_err-check_sums.result c.from_residual-in_err-check_sums.ensures.1 in
+    rw p.1 (λ told. c.in_ok-check_heads.ensures.each)
+
+pub returns-then-len-from-clause-summed : goal.returns-then-len-from-clause-summed
+returns-then-len-from-clause-summed g c = tt
+
+pub returns-clause-summed : goal.returns-clause-summed
+returns-clause-summed g c =
+    let is : c.sum_of_run.result ≡ sum_of_run c.args.config c.args.programs.items = first_of (search rules, cc) in
+    subst (λ s. All (NamesSum s) (map (λ (x : Log g.row.A.Denot). x.sum) c.args.logs.now)) is
+    c.in_ok-check_sums.ensures.all
