@@ -124,10 +124,8 @@ impl Lendings {
     pub(crate) fn has(&self, page: u64) -> bool
         ensures { IsFalse result → lending_in self.now page ≡ Lending.Unlent }
     {
-        match self.each.get(page as usize) {
-            Some(lending) => *lending != Lending::Unlent,
-            None => false,
-        }
+        let place = page as usize;
+        place < self.each.len() && self.each[place] != Lending::Unlent
     }
 
     /// What a page is lent for.
