@@ -236,18 +236,15 @@ fn check_link(rt: &impl Abort, link: &mut Link<Global>, me: u8, steps: &[Step])
     }
 }
 
-/// The link of node 1 of three. That there are three is proved here once.
+/// The link of node `me` of three. That there are three is proved here once.
 fn link_of(rt: &(impl Abort + AllocGlobal), me: u8) -> Link<Global>
-    requires { me < NODES }
     ensures { length result.peers ≡ NODES }
 {
     Link::new(rt.alloc(), me, NODES).expect(rt, "memory")
 }
 
 /// Asserts that the steps go as they say, of the link of node `me` of three.
-fn check(rt: &(impl Abort + AllocGlobal), me: u8, steps: &[Step])
-    requires { me < NODES }
-{
+fn check(rt: &(impl Abort + AllocGlobal), me: u8, steps: &[Step]) {
     let mut link = link_of(rt, me);
     check_link(rt, &mut link, me, steps);
 }

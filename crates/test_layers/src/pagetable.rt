@@ -9,6 +9,7 @@ use ivy_pagetable::{
 };
 use std::alloc::Global;
 use std::process::Abort;
+use std::test::Fail;
 
 const CONFIG: Config = Config {
     nodes: 4,
@@ -61,8 +62,8 @@ fn sets_as_numbers(rt: HostRuntime) {
 }
 
 #[test]
-fn numbers_have_their_highest_byte_first(rt: HostRuntime) {
-    let mut table = PageTable::new(rt.alloc(), &CONFIG, 0).expect(&rt, "memory");
+fn numbers_have_their_highest_byte_first(rt: HostRuntime) -> Result<(), Fail> {
+    let mut table = PageTable::new(rt.alloc(), &CONFIG, 0)?;
     let store = Word::Store {
         width: 1,
         offset: 64,
@@ -75,6 +76,7 @@ fn numbers_have_their_highest_byte_first(rt: HostRuntime) {
     expect_same(&rt, table.carry_out(1, store), Out::Done);
     expect_same(&rt, table.carry_out(1, load), Out::Value(512));
     expect_same(&rt, table.carry_out(0, load), Out::Value(0));
+    Ok(())
 }
 
 /// A swap is written, and gives the number that stood there.
@@ -129,8 +131,8 @@ fn fetch_and_add_of_two_bytes(rt: HostRuntime) {
 
 /// The number that stands where a word is to be stored.
 #[test]
-fn number_of_a_word(rt: HostRuntime) {
-    let mut table = PageTable::new(rt.alloc(), &CONFIG, 0).expect(&rt, "memory");
+fn number_of_a_word(rt: HostRuntime) -> Result<(), Fail> {
+    let mut table = PageTable::new(rt.alloc(), &CONFIG, 0)?;
     table.install(1, [1u8; 128].as_slice());
     let store = Word::Store {
         width: 2,
@@ -138,6 +140,7 @@ fn number_of_a_word(rt: HostRuntime) {
         value: 3,
     };
     expect_same(&rt, table.number(1, store), 257);
+    Ok(())
 }
 
 #[test]

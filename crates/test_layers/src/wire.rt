@@ -1,6 +1,6 @@
 //! Frames as strings of bytes: the worked examples, and each fault of a string that spells no frame.
-use crate::common::{PAIR, expect_items, expect_same, expect_same_at};
-use ivy_model::{Config, Fault};
+use crate::common::{PAIR, expect_items, expect_same};
+use ivy_model::Config;
 use ivy_wire::{
     Bytes, Content, Frame, FrameKind, Message, OwnedPage, decode, destination, encode,
     grammar_is_prefix_free, read_frame,
@@ -237,23 +237,27 @@ fn refused_blocks(rt: HostRuntime) {
     spells(&rt, &PAIR, words, &[], no_block);
 }
 
-/// That the words, with the page after them, are refused so among the nodes of a configuration.
-fn refuses_among(
+/// That the words, with the page after them, are refused by the fault of this name.
+fn refuses(
     rt: &(impl Abort + AllocGlobal),
     config: &Config,
     words: &str,
     page: &[u8],
-    fault: Fault,
+    fault: &str,
 ) {
     config.check().expect(rt, "a configuration");
     let string = string(rt, words, page);
-    let found = decode(rt.alloc(), config, &string).err();
-    expect_same_at(rt, words, found, Some(fault));
+    let found = decode(rt.alloc(), config, &string).err().expect(rt, words);
+    let name = format!(in rt.alloc(); "{found:?}").expect(rt, "memory");
+    assert!(rt; name.as_str() == fault, "{words}");
 }
 
-/// That the words, with the page after them, are refused so among two nodes.
-fn refuses(rt: &(impl Abort + AllocGlobal), words: &str, page: &[u8], fault: Fault) {
-    refuses_among(rt, &PAIR, words, page, fault);
+/// The same of the words in each line, behind the name of the fault. This page comes after them.
+fn refuses_each(rt: &(impl Abort + AllocGlobal), config: &Config, lines: &str, page: &[u8]) {
+    for line in lines.lines() {
+        let (fault, words) = line.split_once(": ").expect(rt, line);
+        refuses(rt, config, words, page, fault);
+    }
 }
 
 /// A copy set has four bytes, the version is 2, and strings of version 1 are refused.
@@ -272,127 +276,110 @@ fn version_2(rt: HostRuntime) {
     let given = frame((0, 31), (2, 1), (31, 2), content);
     spells(&rt, &THIRTY_TWO, words, ZEROS, given);
     let words = "495601010100000d 0000000000000001 0000000000000000 01 0000000000000001 00000001";
-    refuses(&rt, words, &[], Fault::BadVersion);
+    refuses(&rt, &PAIR, words, &[], "BadVersion");
     let words =
         "495601040002004e 0000000000000001 0000000000000000 02 0000000000000001 00000001 02";
-    refuses_among(&rt, &THREE, words, ZEROS, Fault::BadVersion);
+    refuses(&rt, &THREE, words, ZEROS, "BadVersion");
 }
 
 /// Bit 3 among three nodes; and bits of nodes that are there, with the bytes turned round.
 #[test]
 fn copy_sets_beyond_the_nodes(rt: HostRuntime) {
-    let words =
-        "4956020400020051 0000000000000001 0000000000000000 02 0000000000000001 00000001 00000008";
-    refuses_among(&rt, &THREE, words, ZEROS, Fault::BadBody);
-    let words =
-        "4956020400020051 0000000000000001 0000000000000000 02 0000000000000001 00000001 02000000";
-    refuses_among(&rt, &THREE, words, ZEROS, Fault::BadBody);
+    refuses_each(&rt, &THREE, COPY_SETS_BEYOND_THE_NODES, ZEROS);
 }
+
+const COPY_SETS_BEYOND_THE_NODES: &str = "\
+BadBody: 4956020400020051 0000000000000001 0000000000000000 02 0000000000000001 00000001 00000008
+BadBody: 4956020400020051 0000000000000001 0000000000000000 02 0000000000000001 00000001 02000000
+";
 
 #[test]
 fn refused_frames(rt: HostRuntime) {
-    let words = "495602010100000d 0000000000000001 0000000000000000 01 0000000000000001 000000";
-    refuses(&rt, words, &[], Fault::ShortFrame);
-    let words =
-        "495602010100000d 0000000000000001 0000000000000000 01 0000000000000001 00000001 00";
-    refuses(&rt, words, &[], Fault::BadBody);
-    refuses(&rt, "", &[], Fault::ShortFrame);
-    let words = "485602010100000d 0000000000000001 0000000000000000 01 0000000000000001 00000001";
-    refuses(&rt, words, &[], Fault::BadMagic);
-    let words = "495601010100000d 0000000000000001 0000000000000000 01 0000000000000001 00000001";
-    refuses(&rt, words, &[], Fault::BadVersion);
-    let words = "4956020b0100000d 0000000000000001 0000000000000000 01 0000000000000001 00000001";
-    refuses(&rt, words, &[], Fault::BadKind);
-    let words = "495602010200000d 0000000000000001 0000000000000000 01 0000000000000001 00000001";
-    refuses(&rt, words, &[], Fault::BadNode);
-    let words = "495602010000000d 0000000000000001 0000000000000000 01 0000000000000001 00000001";
-    refuses(&rt, words, &[], Fault::BadNode);
-    let words = "495602010100000d 0000000000000001 0000000000000000 01 0000000000000001 00000002";
-    refuses(&rt, words, &[], Fault::BadBody);
-    let words = "495602010100000d 0000000000000001 0000000000000000 02 0000000000000001 00000001";
-    refuses(&rt, words, &[], Fault::BadBody);
+    refuses_each(&rt, &PAIR, REFUSED_FRAMES, &[]);
+    refuses(&rt, &PAIR, "", &[], "ShortFrame");
 }
+
+const REFUSED_FRAMES: &str = "\
+ShortFrame: 495602010100000d 0000000000000001 0000000000000000 01 0000000000000001 000000
+BadBody: 495602010100000d 0000000000000001 0000000000000000 01 0000000000000001 00000001 00
+BadMagic: 485602010100000d 0000000000000001 0000000000000000 01 0000000000000001 00000001
+BadVersion: 495601010100000d 0000000000000001 0000000000000000 01 0000000000000001 00000001
+BadKind: 4956020b0100000d 0000000000000001 0000000000000000 01 0000000000000001 00000001
+BadNode: 495602010200000d 0000000000000001 0000000000000000 01 0000000000000001 00000001
+BadNode: 495602010000000d 0000000000000001 0000000000000000 01 0000000000000001 00000001
+BadBody: 495602010100000d 0000000000000001 0000000000000000 01 0000000000000001 00000002
+BadBody: 495602010100000d 0000000000000001 0000000000000000 02 0000000000000001 00000001
+";
 
 #[test]
 fn refused_headers(rt: HostRuntime) {
-    // a header without its last byte, and a request without its last byte
-    let words = "4956020000010000 0000000000000000 00000000000000";
-    refuses(&rt, words, &[], Fault::ShortFrame);
-    let words = "495602020100000d 0000000000000004 0000000000000009 01 0000000000000001 000000";
-    refuses(&rt, words, &[], Fault::ShortFrame);
-    // the second magic byte, and a version before the first
-    let words = "495702010100000d 0000000000000001 0000000000000000 01 0000000000000001 00000001";
-    refuses(&rt, words, &[], Fault::BadMagic);
-    let words = "495600010100000d 0000000000000001 0000000000000000 01 0000000000000001 00000001";
-    refuses(&rt, words, &[], Fault::BadVersion);
-    // a destination that is not there
-    let words = "495602010102000d 0000000000000001 0000000000000000 01 0000000000000001 00000001";
-    refuses(&rt, words, &[], Fault::BadNode);
+    refuses_each(&rt, &PAIR, REFUSED_HEADERS, &[]);
 }
+
+// A header without its last byte, and a request without its last byte. The second magic byte, and a version before the
+// first. A destination that is not there.
+const REFUSED_HEADERS: &str = "\
+ShortFrame: 4956020000010000 0000000000000000 00000000000000
+ShortFrame: 495602020100000d 0000000000000004 0000000000000009 01 0000000000000001 000000
+BadMagic: 495702010100000d 0000000000000001 0000000000000000 01 0000000000000001 00000001
+BadVersion: 495600010100000d 0000000000000001 0000000000000000 01 0000000000000001 00000001
+BadNode: 495602010102000d 0000000000000001 0000000000000000 01 0000000000000001 00000001
+";
 
 #[test]
 fn first_of_two_faults(rt: HostRuntime) {
-    let words = "485602010100000d 0000000000000001 0000000000000000 01 0000000000000001 000000";
-    refuses(&rt, words, &[], Fault::ShortFrame);
-    let words = "485601010100000d 0000000000000001 0000000000000000 01 0000000000000001 00000001";
-    refuses(&rt, words, &[], Fault::BadMagic);
-    let words = "4956010b0100000d 0000000000000001 0000000000000000 01 0000000000000001 00000001";
-    refuses(&rt, words, &[], Fault::BadVersion);
-    let words = "4956020b0200000d 0000000000000001 0000000000000000 01 0000000000000001 00000001";
-    refuses(&rt, words, &[], Fault::BadKind);
-    let words = "495602010200000d 0000000000000001 0000000000000000 02 0000000000000001 00000001";
-    refuses(&rt, words, &[], Fault::BadNode);
-    let words =
-        "495602010200000d 0000000000000001 0000000000000000 01 0000000000000001 00000001 00";
-    refuses(&rt, words, &[], Fault::BadNode);
+    refuses_each(&rt, &PAIR, FIRST_OF_TWO_FAULTS, &[]);
 }
+
+const FIRST_OF_TWO_FAULTS: &str = "\
+ShortFrame: 485602010100000d 0000000000000001 0000000000000000 01 0000000000000001 000000
+BadMagic: 485601010100000d 0000000000000001 0000000000000000 01 0000000000000001 00000001
+BadVersion: 4956010b0100000d 0000000000000001 0000000000000000 01 0000000000000001 00000001
+BadKind: 4956020b0200000d 0000000000000001 0000000000000000 01 0000000000000001 00000001
+BadNode: 495602010200000d 0000000000000001 0000000000000000 02 0000000000000001 00000001
+BadNode: 495602010200000d 0000000000000001 0000000000000000 01 0000000000000001 00000001 00
+";
 
 #[test]
 fn wrong_numbers(rt: HostRuntime) {
-    // an Ack with a number, and a message without one
-    let words = "4956020000010000 0000000000000001 0000000000000001";
-    refuses(&rt, words, &[], Fault::BadBody);
-    let words = "495602010100000d 0000000000000000 0000000000000000 01 0000000000000001 00000001";
-    refuses(&rt, words, &[], Fault::BadBody);
-    // call 0, and the length of another kind
-    let words = "495602010100000d 0000000000000001 0000000000000000 01 0000000000000000 00000001";
-    refuses(&rt, words, &[], Fault::BadBody);
-    let words = "495602070100000d 0000000000000001 0000000000000000 01 0000000000000001 00000001";
-    refuses(&rt, words, &[], Fault::BadBody);
+    refuses_each(&rt, &PAIR, WRONG_NUMBERS, &[]);
 }
+
+// An Ack with a number, and a message without one. Call 0, and the length of another kind.
+const WRONG_NUMBERS: &str = "\
+BadBody: 4956020000010000 0000000000000001 0000000000000001
+BadBody: 495602010100000d 0000000000000000 0000000000000000 01 0000000000000001 00000001
+BadBody: 495602010100000d 0000000000000001 0000000000000000 01 0000000000000000 00000001
+BadBody: 495602070100000d 0000000000000001 0000000000000000 01 0000000000000001 00000001
+";
 
 #[test]
 fn wrong_codes(rt: HostRuntime) {
-    // codes that are none
-    let words =
-        "4956020800010012 0000000000000001 0000000000000000 01 0000000000000001 0a 0000000000000000";
-    refuses(&rt, words, &[], Fault::BadBody);
-    let words = "4956020a0001000a 0000000000000002 0000000000000002 01 0000000000000002 09";
-    refuses(&rt, words, &[], Fault::BadBody);
-    // an address beside a refusal
-    let words =
-        "4956020800010012 0000000000000001 0000000000000000 01 0000000000000001 08 0000000000000040";
-    refuses(&rt, words, &[], Fault::BadBody);
-    let words =
-        "4956020800010012 0000000000000001 0000000000000000 01 0000000000000001 09 0000000000000040";
-    refuses(&rt, words, &[], Fault::BadBody);
+    refuses_each(&rt, &PAIR, WRONG_CODES, &[]);
 }
+
+// Codes that are none, and then an address beside a refusal.
+const WRONG_CODES: &str = "\
+BadBody: 4956020800010012 0000000000000001 0000000000000000 01 0000000000000001 0a 0000000000000000
+BadBody: 4956020a0001000a 0000000000000002 0000000000000002 01 0000000000000002 09
+BadBody: 4956020800010012 0000000000000001 0000000000000000 01 0000000000000001 08 0000000000000040
+BadBody: 4956020800010012 0000000000000001 0000000000000000 01 0000000000000001 09 0000000000000040
+";
 
 #[test]
 fn wrong_pages(rt: HostRuntime) {
-    // a copy set with node 2
-    let words =
-        "4956020400010051 0000000000000001 0000000000000000 01 0000000000000001 00000001 00000004";
-    refuses(&rt, words, ZEROS, Fault::BadBody);
+    // a copy set with node 2, and the page after the last one
+    let lines = "\
+BadBody: 4956020400010051 0000000000000001 0000000000000000 01 0000000000000001 00000001 00000004
+BadBody: 495602030001004d 0000000000000001 0000000000000000 01 0000000000000001 00000002
+";
+    refuses_each(&rt, &PAIR, lines, ZEROS);
     // a page of 48 bytes, and one of 65
     let words =
         "4956020400010041 0000000000000001 0000000000000000 01 0000000000000001 00000001 00000002";
-    refuses(&rt, words, &[0; 48], Fault::BadBody);
+    refuses(&rt, &PAIR, words, &[0; 48], "BadBody");
     let words = "495602030001004e 0000000000000001 0000000000000000 01 0000000000000001 00000001";
-    refuses(&rt, words, &[0; 65], Fault::BadBody);
-    // the page after the last one
-    let words = "495602030001004d 0000000000000001 0000000000000000 01 0000000000000001 00000002";
-    refuses(&rt, words, ZEROS, Fault::BadBody);
+    refuses(&rt, &PAIR, words, &[0; 65], "BadBody");
 }
 
 /// All kinds with their numbers, and the lengths of their bodies where a page has 64 bytes.

@@ -94,16 +94,6 @@ macro_rules! ended {
     };
 }
 
-/// The string at this place among those sent: its words, and the first word of its page where it has one.
-macro_rules! string {
-    ($place:expr, $words:expr) => {
-        ($place, ($words, None))
-    };
-    ($place:expr, $words:expr, $first:expr) => {
-        ($place, ($words, Some($first)))
-    };
-}
-
 mod ahead;
 mod blocks;
 mod common;

@@ -1,5 +1,5 @@
 //! Pages with counts that come to a node: thrice, and with a count that is full.
-use crate::sites::common::{COUNT_ASKS, COUNT_GETS, RETRY_ASKS, RETRY_GETS};
+use crate::common::{ADVANCE_ASKS, ADVANCE_GETS, COUNT_ASKS, RETRY_ASKS, STORE_ASKS, STORE_GETS};
 use crate::sites::steps::{Step, play};
 use ivy_model::{Call, Record, Reply};
 use ivy_site::Verdict;
@@ -11,20 +11,6 @@ set r2 9
 store 8 r1 r2
 advance r0
 ";
-
-/// Node 1 asks for page 1 to store, and is given it.
-const STORE_ASKS: &str =
-    "495602020100000d 0000000000000001 0000000000000000 01 0000000000000001 00000001";
-
-const STORE_GETS: &str =
-    "4956020400010051 0000000000000001 0000000000000000 01 0000000000000001 00000001 00000000";
-
-/// It asks for page 0 to advance, and is given it.
-const ADVANCE_ASKS: &str =
-    "495602020100000d 0000000000000002 0000000000000001 01 0000000000000002 00000000";
-
-const ADVANCE_GETS: &str =
-    "4956020400010051 0000000000000002 0000000000000001 01 0000000000000002 00000000 00000000";
 
 /// What node 1 is answered.
 const NOTICED: [Record; 2] = [
@@ -47,15 +33,15 @@ const NOTICED: [Record; 2] = [
 /// What happens at node 1: each page comes three times, and is new once.
 const GIVEN_THRICE: [Step; 14] = [
     Step::Turns(3),
-    Step::Sends((STORE_ASKS, None)),
-    Step::Comes((STORE_GETS, Some(0)), Ok(Verdict::Next)),
-    Step::Comes((STORE_GETS, Some(0)), Ok(Verdict::Repeat)),
-    Step::Comes((STORE_GETS, Some(0)), Ok(Verdict::Repeat)),
+    Step::Sends(STORE_ASKS),
+    Step::Comes(STORE_GETS, Ok(Verdict::Next)),
+    Step::Comes(STORE_GETS, Ok(Verdict::Repeat)),
+    Step::Comes(STORE_GETS, Ok(Verdict::Repeat)),
     Step::Turns(2),
-    Step::Sends((ADVANCE_ASKS, None)),
-    Step::Comes((ADVANCE_GETS, Some(0)), Ok(Verdict::Next)),
-    Step::Comes((ADVANCE_GETS, Some(0)), Ok(Verdict::Repeat)),
-    Step::Comes((ADVANCE_GETS, Some(0)), Ok(Verdict::Repeat)),
+    Step::Sends(ADVANCE_ASKS),
+    Step::Comes(ADVANCE_GETS, Ok(Verdict::Next)),
+    Step::Comes(ADVANCE_GETS, Ok(Verdict::Repeat)),
+    Step::Comes(ADVANCE_GETS, Ok(Verdict::Repeat)),
     Step::Turns(1),
     Step::Silent,
     Step::Ended,
@@ -96,18 +82,26 @@ const FULL_ANSWERS: [Record; 3] = [
     REFUSED,
 ];
 
+/// The page and its copy, whose counts are full.
+const COUNT_GETS_FULL: &str =
+    "4956020400010051 0000000000000001 0000000000000000 01 0000000000000001 00000000 00000000 \
+     + 18446744073709551615";
+
+const RETRY_GETS_FULL: &str =
+    "495602030100004d 0000000000000002 0000000000000001 00 0000000000000001 00000000 + 18446744073709551615";
+
 /// What happens at node 1: it asks for the page, which comes with a full count, and goes on to its
 /// end. Then another node asks for a copy of the page, whose count is full still.
 const GIVEN_FULL: [Step; 9] = [
     Step::Turns(1),
-    Step::Sends((COUNT_ASKS, None)),
-    Step::Comes((COUNT_GETS, Some(u64::MAX)), Ok(Verdict::Next)),
+    Step::Sends(COUNT_ASKS),
+    Step::Comes(COUNT_GETS_FULL, Ok(Verdict::Next)),
     Step::Turns(6),
     Step::Answered(&FULL_ANSWERS),
     Step::Ended,
     Step::Printed(&[18_446_744_073_709_551_615, 7]),
-    Step::Comes((RETRY_ASKS, None), Ok(Verdict::Next)),
-    Step::Sends((RETRY_GETS, Some(u64::MAX))),
+    Step::Comes(RETRY_ASKS, Ok(Verdict::Next)),
+    Step::Sends(RETRY_GETS_FULL),
 ];
 
 /// The page is forged: its count is full. Nothing changes, neither where the page comes nor where it is at hand.

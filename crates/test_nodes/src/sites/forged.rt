@@ -1,5 +1,6 @@
 //! Frames that nobody sent come to node 0: what each is answered, and how many messages fitted no rule.
-use crate::sites::common::{LOADS, REPLY, Written, receive};
+use crate::common::REPLY;
+use crate::sites::common::{LOADS, receive};
 use crate::sites::steps::{Step, play};
 use ivy_model::Fault;
 use ivy_site::{Site, Verdict};
@@ -10,47 +11,33 @@ use std::alloc::Allocator;
 use std::process::Abort;
 
 /// A page with its ownership, that nobody asked for.
-const PAGE: Written = (
+const PAGE: &str =
     "4956020401000051 0000000000000001 0000000000000000 00 0000000000000001 00000001 00000000 \
      ffffffffffffffff ffffffffffffffff ffffffffffffffff ffffffffffffffff \
-     ffffffffffffffff ffffffffffffffff ffffffffffffffff ffffffffffffffff",
-    None,
-);
+     ffffffffffffffff ffffffffffffffff ffffffffffffffff ffffffffffffffff";
 
 /// An order to the owner of the page to give a copy of it up.
-const ORDER: Written = (
-    "495602050100000d 0000000000000002 0000000000000000 01 0000000000000001 00000001",
-    None,
-);
+const ORDER: &str =
+    "495602050100000d 0000000000000002 0000000000000000 01 0000000000000001 00000001";
 
 /// A request of node 0's own.
-const OWN_REQUEST: Written = (
-    "495602010100000d 0000000000000003 0000000000000000 00 0000000000000001 00000001",
-    None,
-);
+const OWN_REQUEST: &str =
+    "495602010100000d 0000000000000003 0000000000000000 00 0000000000000001 00000001";
 
 /// A request with an acknowledgement of what was never sent, without its last byte and whole.
-const CUT_REQUEST: Written = (
-    "495602020100000d 0000000000000004 0000000000000009 01 0000000000000001 000000",
-    None,
-);
+const CUT_REQUEST: &str =
+    "495602020100000d 0000000000000004 0000000000000009 01 0000000000000001 000000";
 
-const WHOLE_REQUEST: Written = (
-    "495602020100000d 0000000000000004 0000000000000009 01 0000000000000001 00000001",
-    None,
-);
+const WHOLE_REQUEST: &str =
+    "495602020100000d 0000000000000004 0000000000000009 01 0000000000000001 00000001";
 
 /// The answer to the last request, and what a pulse makes of it: the acknowledgement of what was never sent counts for
 /// nothing.
-const ANSWER: Written = (
-    "4956020400010051 0000000000000001 0000000000000003 01 0000000000000001 00000001 00000000",
-    Some(0),
-);
+const ANSWER: &str =
+    "4956020400010051 0000000000000001 0000000000000003 01 0000000000000001 00000001 00000000 + 0";
 
-const AGAIN: Written = (
-    "4956020400010051 0000000000000001 0000000000000004 01 0000000000000001 00000001 00000000",
-    Some(0),
-);
+const AGAIN: &str =
+    "4956020400010051 0000000000000001 0000000000000004 01 0000000000000001 00000001 00000000 + 0";
 
 /// Each string in its turn, and how many messages fitted no rule then; and what the node sends,
 /// also at a pulse.
@@ -148,6 +135,6 @@ pub(crate) fn hand_drawn<A: Allocator + Copy>(
 /// A node that waits for a reply is handed ten thousand that differ from it in drawn bytes.
 #[test]
 fn altered_replies(rt: HostRuntime) {
-    let steps = [Step::Turns(2), Step::Drawn((REPLY, Some(0)))];
+    let steps = [Step::Turns(2), Step::Drawn(REPLY)];
     play(&rt, rt.alloc(), 1, LOADS, &steps);
 }

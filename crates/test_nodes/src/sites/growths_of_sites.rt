@@ -2,11 +2,11 @@
 //! advances a count or asks for a block, at once or by asking another node, where it tries an await again, and where
 //! what comes is served or answers it. A refused call changes nothing: the node goes on as a twin does that was never refused,
 //! to the same strings and replies.
-use crate::sites::common::{
-    ALLOC_ASKS, ALLOC_GETS, COUNT_ASKS, COUNT_GETS, LOADS, MANY, REPLY, REQUEST, RETRY_ASKS,
-    RETRY_GETS, Written, expect_next, expect_same_at, is_met, node_of, pulse, receive, string,
-    take_turn, take_turns,
+use crate::common::{
+    ALLOC_ASKS, ALLOC_GETS, COUNT_ASKS, COUNT_GETS, REPLY, REQUEST, RETRY_ASKS, RETRY_GETS,
+    Refusable, expect_same_at, is_met, met, refuse_each, string,
 };
+use crate::sites::common::{LOADS, expect_next, node_of, pulse, receive, take_turn, take_turns};
 use crate::sites::steps::{Step, expect_silent, make_all};
 use ivy_model::{Call, Fault, Record, Reply};
 use ivy_site::{Site, Verdict};
@@ -30,9 +30,9 @@ struct Growing<'a> {
     text: &'a str,
     before: &'a [Step<'a>],
     /// The string that comes. Where there is none, the node makes a turn.
-    comes: Option<Written<'a>>,
+    comes: Option<&'a str>,
     /// The string that it sends for it.
-    sends: Option<Written<'a>>,
+    sends: Option<&'a str>,
     /// What its program was answered after one more turn.
     answers: &'a [Record],
 }
@@ -116,93 +116,87 @@ fn check_both<A: Allocator + Copy>(
     assert!(rt; same_sites(site, twin));
 }
 
-/// The n-th growth of a memory is refused. Whether it was asked for. Sites take that memory as any allocator, by which
-/// they cost less proof.
-fn refused_at<A: Allocator + Copy>(
-    rt: &impl Abort,
-    (memory, alloc): (&Failing<Global>, A),
-    n: u64,
-    growing: &Growing,
-    comes: Option<&[u8]>,
-) -> bool {
-    let mut site = begun(rt, alloc, growing);
-    refused_beside_twin(rt, (memory, alloc), n, growing, comes, &mut site)
-}
-
-/// The same of a node that has begun. It and its twin are held by two functions, which costs less
-/// proof than one.
+/// The n-th growth is refused to a node that has begun. It and its twin are held by two functions, which costs less proof
+/// than one.
 fn refused_beside_twin<A: Allocator + Copy>(
     rt: &impl Abort,
-    (memory, alloc): (&Failing<Global>, A),
-    n: u64,
+    (memory, alloc, n): (&Failing<Global>, A, u64),
     growing: &Growing,
-    comes: Option<&[u8]>,
     site: &mut Site<A>,
 ) -> bool {
     let mut twin = begun(rt, alloc, growing);
-    refused_in_one(rt, (memory, alloc), n, growing, comes, site, &mut twin)
+    refused_in_one(rt, (memory, alloc, n), growing, site, &mut twin)
 }
 
 /// The same of two nodes that have begun.
 fn refused_in_one<A: Allocator + Copy>(
     rt: &impl Abort,
-    (memory, alloc): (&Failing<Global>, A),
-    n: u64,
+    (memory, alloc, n): (&Failing<Global>, A, u64),
     growing: &Growing,
-    comes: Option<&[u8]>,
     site: &mut Site<A>,
     twin: &mut Site<A>,
 ) -> bool {
-    let met = go_on_at(rt, memory, n, comes, site, twin);
+    let met = match growing.comes {
+        Some(written) => {
+            let comes = string(rt, alloc, written);
+            go_on_at(rt, memory, n, Some(&comes), site, twin)
+        }
+        None => go_on_at(rt, memory, n, None, site, twin),
+    };
     check_both(rt, alloc, growing, site, twin);
     met
 }
 
-/// Refuses each growth in turn, until one is not asked for.
-fn refuse_each(rt: &impl Abort, memory: &Failing<Global>, growing: &Growing, comes: Option<&[u8]>) {
-    for n in 1..MANY {
-        if !refused_at(rt, (memory, memory), n, growing, comes) {
-            assert!(rt; n > 1);
-            return;
-        }
-    }
-    panic!(rt; "no end of growths");
+/// A node takes its memory as any allocator, by which it costs less proof.
+fn refused_at<A: Allocator + Copy>(
+    rt: &impl Abort,
+    (memory, alloc, n): (&Failing<Global>, A, u64),
+    growing: &Growing,
+) -> bool {
+    let mut site = begun(rt, alloc, growing);
+    refused_beside_twin(rt, (memory, alloc, n), growing, &mut site)
 }
 
-fn growths_of(rt: &impl Abort, alloc: Global, growing: &Growing) {
-    let memory = Failing::new(alloc);
-    let given = growing.comes.map(|written| string(rt, alloc, written));
-    refuse_each(rt, &memory, growing, given.as_deref());
+impl Refusable for Growing<'_> {
+    fn is_met(&self, rt: &impl Abort, memory: &Failing<Global>, n: u64) -> bool {
+        refused_at(rt, (memory, memory, n), self)
+    }
 }
+
+/// A turn of node 0, whose program is empty, in which it sends nothing. Rows say what is more than that.
+const OF_NODE_0: Growing = Growing {
+    me: 0,
+    text: EMPTY,
+    before: &[],
+    comes: None,
+    sends: None,
+    answers: &[],
+};
 
 /// A load faults: the request waits to be put on the wire.
 const TURN: Growing = Growing {
     me: 1,
     text: LOADS,
     before: &[Step::Turns(1)],
-    comes: None,
-    sends: Some((REQUEST, None)),
-    answers: &[],
+    sends: Some(REQUEST),
+    ..OF_NODE_0
 };
 
 #[test]
 fn growths_of_a_turn(rt: HostRuntime) {
-    growths_of(&rt, rt.alloc(), &TURN);
+    refuse_each(&rt, &TURN);
 }
 
 /// The request comes to the owner.
 const REQUEST_COMES: Growing = Growing {
-    me: 0,
-    text: EMPTY,
-    before: &[],
-    comes: Some((REQUEST, None)),
-    sends: Some((REPLY, Some(0))),
-    answers: &[],
+    comes: Some(REQUEST),
+    sends: Some(REPLY),
+    ..OF_NODE_0
 };
 
 #[test]
 fn growths_of_a_request_that_comes(rt: HostRuntime) {
-    growths_of(&rt, rt.alloc(), &REQUEST_COMES);
+    refuse_each(&rt, &REQUEST_COMES);
 }
 
 /// The order to give the copy up, which comes before the copy, and the answer to it.
@@ -215,8 +209,8 @@ const ENDED: &str =
 /// Node 1 asked for a copy, and holds the order that came before it.
 const HOLDING: [Step; 4] = [
     Step::Turns(2),
-    Step::Sends((REQUEST, None)),
-    Step::Comes((ENDS, None), Ok(Verdict::Ahead)),
+    Step::Sends(REQUEST),
+    Step::Comes(ENDS, Ok(Verdict::Ahead)),
     Step::Silent,
 ];
 
@@ -230,8 +224,7 @@ fn copy_comes<A: Allocator + Copy>(
 ) -> (Result<Verdict, Fault>, bool) {
     memory.refuse(n);
     let answer = receive(site, copy);
-    let met = memory.asked(n) >= n;
-    memory.refuse(0);
+    let met = met(memory, n);
     assert!(rt;
         answer == Ok(Verdict::Next) || (met && answer == Err(Fault::Memory)),
         "growth {n}"
@@ -242,20 +235,20 @@ fn copy_comes<A: Allocator + Copy>(
 /// The node gives the copy up, at once or once what was refused comes again, and its load is answered.
 fn goes_on<A: Allocator + Copy>(
     rt: &impl Abort,
-    (memory, alloc): (&Failing<Global>, A),
-    n: u64,
-    strings: (&[u8], &[u8]),
+    (memory, alloc, n): (&Failing<Global>, A, u64),
     site: &mut Site<A>,
 ) -> bool {
-    let (answer, met) = copy_comes(rt, memory, n, site, strings.0);
+    let copy = string(rt, alloc, REPLY);
+    let (answer, met) = copy_comes(rt, memory, n, site, &copy);
     if answer.is_err() {
-        expect_same_at(rt, n, receive(site, strings.0), Ok(Verdict::Next));
+        expect_same_at(rt, n, receive(site, &copy), Ok(Verdict::Next));
     } else if met {
         // The copy came, and the order is held still: it is not tried again before it comes again.
         expect_silent(rt, site);
-        expect_same_at(rt, n, receive(site, strings.1), Ok(Verdict::Next));
+        let ends = string(rt, alloc, ENDS);
+        expect_same_at(rt, n, receive(site, &ends), Ok(Verdict::Next));
     }
-    expect_next(rt, alloc, site, (ENDED, None));
+    expect_next(rt, alloc, site, ENDED);
     take_turns(rt, site, 1);
     expect_silent(rt, site);
     assert!(rt; site.history() == LOADED.as_slice());
@@ -265,27 +258,25 @@ fn goes_on<A: Allocator + Copy>(
 /// The same of a node that holds the order.
 fn goes_on_at<A: Allocator + Copy>(
     rt: &impl Abort,
-    (memory, alloc): (&Failing<Global>, A),
-    n: u64,
-    strings: (&[u8], &[u8]),
+    (memory, alloc, n): (&Failing<Global>, A, u64),
 ) -> bool {
     let mut site = node_of(rt, alloc, 1, LOADS);
     make_all(rt, alloc, &mut site, &HOLDING);
-    goes_on(rt, (memory, alloc), n, strings, &mut site)
+    goes_on(rt, (memory, alloc, n), &mut site)
+}
+
+/// A copy comes to a node that holds the order to give it up.
+struct Held;
+
+impl Refusable for Held {
+    fn is_met(&self, rt: &impl Abort, memory: &Failing<Global>, n: u64) -> bool {
+        goes_on_at(rt, (memory, memory, n))
+    }
 }
 
 #[test]
 fn growths_while_a_string_is_held(rt: HostRuntime) {
-    let copy = string(&rt, rt.alloc(), (REPLY, Some(0)));
-    let ends = string(&rt, rt.alloc(), (ENDS, None));
-    let memory = Failing::new(rt.alloc());
-    for n in 1..MANY {
-        if !goes_on_at(&rt, (&memory, &memory), n, (&copy, &ends)) {
-            assert!(&rt; n > 1);
-            return;
-        }
-    }
-    panic!(&rt; "no end of growths");
+    refuse_each(&rt, &Held);
 }
 
 const LOADED: [Record; 1] = [Record {
@@ -313,114 +304,104 @@ const AWAITED: [Record; 1] = [Record {
 }];
 
 /// Node 1 at its load, and once it asked for the page.
-const LOADING: [Step; 3] = [Step::Turns(1), Step::Turns(1), Step::Sends((REQUEST, None))];
+const LOADING: [Step; 3] = [Step::Turns(1), Step::Turns(1), Step::Sends(REQUEST)];
 
 /// The reply comes to the node that asked.
 const REPLY_COMES: Growing = Growing {
     me: 1,
     text: LOADS,
     before: &LOADING,
-    comes: Some((REPLY, Some(0))),
-    sends: None,
+    comes: Some(REPLY),
     answers: &LOADED,
+    ..OF_NODE_0
 };
 
 #[test]
 fn growths_of_a_reply_that_comes(rt: HostRuntime) {
-    growths_of(&rt, rt.alloc(), &REPLY_COMES);
+    refuse_each(&rt, &REPLY_COMES);
 }
 
 /// Node 0 advances a count of its own page.
 const ADVANCE: Growing = Growing {
-    me: 0,
     text: ADVANCES,
-    before: &[],
-    comes: None,
-    sends: None,
     answers: &ADVANCED,
+    ..OF_NODE_0
 };
 
 #[test]
 fn growths_of_an_advance(rt: HostRuntime) {
-    growths_of(&rt, rt.alloc(), &ADVANCE);
+    refuse_each(&rt, &ADVANCE);
 }
 
 /// Node 1 asks for the page to advance its count.
 const ADVANCE_ASKS: Growing = Growing {
     me: 1,
     text: ADVANCES,
-    before: &[],
-    comes: None,
-    sends: Some((COUNT_ASKS, None)),
-    answers: &[],
+    sends: Some(COUNT_ASKS),
+    ..OF_NODE_0
 };
 
 #[test]
 fn growths_of_an_advance_that_asks(rt: HostRuntime) {
-    growths_of(&rt, rt.alloc(), &ADVANCE_ASKS);
+    refuse_each(&rt, &ADVANCE_ASKS);
 }
 
 /// Node 0 is at an await that waits, and gives its page to node 1.
 const GIVING: [Step; 4] = [
     Step::Turns(1),
     Step::Turns(1),
-    Step::Comes((COUNT_ASKS, None), Ok(Verdict::Next)),
-    Step::Sends((COUNT_GETS, Some(0))),
+    Step::Comes(COUNT_ASKS, Ok(Verdict::Next)),
+    Step::Sends(COUNT_GETS),
 ];
 
 /// Then it tries the await again, and asks for a copy.
 const WAITING: [Step; 6] = [
     Step::Turns(1),
     Step::Turns(1),
-    Step::Comes((COUNT_ASKS, None), Ok(Verdict::Next)),
-    Step::Sends((COUNT_GETS, Some(0))),
+    Step::Comes(COUNT_ASKS, Ok(Verdict::Next)),
+    Step::Sends(COUNT_GETS),
     Step::Turns(1),
-    Step::Sends((RETRY_ASKS, None)),
+    Step::Sends(RETRY_ASKS),
 ];
 
 /// The await is tried again, and asks for a copy.
 const AWAIT_TRIED: Growing = Growing {
-    me: 0,
     text: AWAITS,
     before: &GIVING,
-    comes: None,
-    sends: Some((RETRY_ASKS, None)),
-    answers: &[],
+    sends: Some(RETRY_ASKS),
+    ..OF_NODE_0
 };
 
 #[test]
 fn growths_of_an_await_tried_again(rt: HostRuntime) {
-    growths_of(&rt, rt.alloc(), &AWAIT_TRIED);
+    refuse_each(&rt, &AWAIT_TRIED);
 }
 
 /// The copy comes, and the count is high enough.
 const ANSWER_COMES: Growing = Growing {
-    me: 0,
     text: AWAITS,
     before: &WAITING,
-    comes: Some((RETRY_GETS, Some(1))),
-    sends: None,
+    comes: Some(RETRY_GETS),
     answers: &AWAITED,
+    ..OF_NODE_0
 };
 
 #[test]
 fn growths_of_an_answer_to_an_await(rt: HostRuntime) {
-    growths_of(&rt, rt.alloc(), &ANSWER_COMES);
+    refuse_each(&rt, &ANSWER_COMES);
 }
 
 /// Node 0 gives itself a block.
 const ALLOC: Growing = Growing {
-    me: 0,
     text: ALLOCS,
     before: &[Step::Turns(1)],
-    comes: None,
-    sends: None,
     answers: &[ALLOCATED],
+    ..OF_NODE_0
 };
 
 #[test]
 fn growths_of_an_alloc(rt: HostRuntime) {
-    growths_of(&rt, rt.alloc(), &ALLOC);
+    refuse_each(&rt, &ALLOC);
 }
 
 /// Node 1 asks for a block.
@@ -428,75 +409,61 @@ const ALLOC_OF_NODE_1: Growing = Growing {
     me: 1,
     text: ALLOCS,
     before: &[Step::Turns(1)],
-    comes: None,
-    sends: Some((ALLOC_ASKS, None)),
-    answers: &[],
+    sends: Some(ALLOC_ASKS),
+    ..OF_NODE_0
 };
 
 #[test]
 fn growths_of_an_alloc_that_asks(rt: HostRuntime) {
-    growths_of(&rt, rt.alloc(), &ALLOC_OF_NODE_1);
+    refuse_each(&rt, &ALLOC_OF_NODE_1);
 }
 
 /// Node 0 is asked for it. Where it is refused, the block has its place again when it is asked once more.
 const ALLOC_COMES: Growing = Growing {
-    me: 0,
-    text: EMPTY,
-    before: &[],
-    comes: Some((ALLOC_ASKS, None)),
-    sends: Some((ALLOC_GETS, None)),
-    answers: &[],
+    comes: Some(ALLOC_ASKS),
+    sends: Some(ALLOC_GETS),
+    ..OF_NODE_0
 };
 
 #[test]
 fn growths_of_an_alloc_that_comes(rt: HostRuntime) {
-    growths_of(&rt, rt.alloc(), &ALLOC_COMES);
+    refuse_each(&rt, &ALLOC_COMES);
 }
 
 /// Node 0 is asked to end that block. Where it is refused, the block is still there to be ended.
 const FREE_COMES: Growing = Growing {
-    me: 0,
-    text: EMPTY,
     before: &[
-        Step::Comes((ALLOC_ASKS, None), Ok(Verdict::Next)),
-        Step::Sends((ALLOC_GETS, None)),
+        Step::Comes(ALLOC_ASKS, Ok(Verdict::Next)),
+        Step::Sends(ALLOC_GETS),
     ],
-    comes: Some((
+    comes: Some(
         "4956020901000011 0000000000000002 0000000000000001 01 0000000000000002 0000000000000040",
-        None,
-    )),
-    sends: Some((
-        "4956020a0001000a 0000000000000002 0000000000000001 01 0000000000000002 00",
-        None,
-    )),
-    answers: &[],
+    ),
+    sends: Some("4956020a0001000a 0000000000000002 0000000000000001 01 0000000000000002 00"),
+    ..OF_NODE_0
 };
 
 #[test]
 fn growths_of_a_free_that_comes(rt: HostRuntime) {
-    growths_of(&rt, rt.alloc(), &FREE_COMES);
+    refuse_each(&rt, &FREE_COMES);
 }
 
 /// The block comes to node 1.
 const BLOCK_COMES: Growing = Growing {
     me: 1,
     text: ALLOCS,
-    before: &[
-        Step::Turns(1),
-        Step::Turns(1),
-        Step::Sends((ALLOC_ASKS, None)),
-    ],
-    comes: Some((ALLOC_GETS, None)),
-    sends: None,
+    before: &[Step::Turns(1), Step::Turns(1), Step::Sends(ALLOC_ASKS)],
+    comes: Some(ALLOC_GETS),
     answers: &[Record {
         node: 1,
         ..ALLOCATED
     }],
+    ..OF_NODE_0
 };
 
 #[test]
 fn growths_of_a_block_that_comes(rt: HostRuntime) {
-    growths_of(&rt, rt.alloc(), &BLOCK_COMES);
+    refuse_each(&rt, &BLOCK_COMES);
 }
 
 /// Node 1, whose request is on the wire.
@@ -514,9 +481,7 @@ fn shown<A: Allocator + Copy>(site: &Site<A>) -> (usize, usize) {
 /// The request goes to the owner once more, and nothing else does.
 fn pulse_of<A: Allocator + Copy>(
     rt: &impl Abort,
-    memory: &Failing<Global>,
-    alloc: A,
-    n: u64,
+    (memory, alloc, n): (&Failing<Global>, A, u64),
     site: &mut Site<A>,
 ) -> bool {
     let before = shown(site);
@@ -527,7 +492,7 @@ fn pulse_of<A: Allocator + Copy>(
         expect_same_at(rt, n, shown(site), before);
         expect_same_at(rt, n, pulse(rt, site, 0), Ok(()));
     }
-    expect_next(rt, alloc, site, (REQUEST, None));
+    expect_next(rt, alloc, site, REQUEST);
     expect_silent(rt, site);
     met
 }
@@ -535,22 +500,22 @@ fn pulse_of<A: Allocator + Copy>(
 /// The same where node 1 pulses, which sends its request again.
 fn pulse_at<A: Allocator + Copy>(
     rt: &impl Abort,
-    memory: &Failing<Global>,
-    alloc: A,
-    n: u64,
+    (memory, alloc, n): (&Failing<Global>, A, u64),
 ) -> bool {
     let mut site = asking(rt, alloc);
-    pulse_of(rt, memory, alloc, n, &mut site)
+    pulse_of(rt, (memory, alloc, n), &mut site)
+}
+
+/// A node sends its request again.
+struct Pulse;
+
+impl Refusable for Pulse {
+    fn is_met(&self, rt: &impl Abort, memory: &Failing<Global>, n: u64) -> bool {
+        pulse_at(rt, (memory, memory, n))
+    }
 }
 
 #[test]
 fn growths_of_a_pulse(rt: HostRuntime) {
-    let memory = Failing::new(rt.alloc());
-    for n in 1..MANY {
-        if !pulse_at(&rt, &memory, &memory, n) {
-            assert!(&rt; n > 1);
-            return;
-        }
-    }
-    panic!(&rt; "no end of growths");
+    refuse_each(&rt, &Pulse);
 }

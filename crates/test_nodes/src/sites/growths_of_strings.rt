@@ -1,6 +1,6 @@
 //! Each growth refused in turn where frames are written, read, sent and sent again, in the order checker
 //! and in a page table.
-use crate::sites::common::{MANY, PAIR, REPLY, is_met, string};
+use crate::common::{PAIR, REPLY, Refusable, is_met, refuse_each, string};
 use ivy_link::Link;
 use ivy_model::{Call, Fault, Record, Reply, check_order};
 use ivy_pagetable::PageTable;
@@ -55,7 +55,7 @@ fn encode_at(rt: &impl Abort, memory: &Failing<Global>, n: u64) -> bool {
 }
 
 fn decode_at(rt: &impl Abort, memory: &Failing<Global>, n: u64) -> bool {
-    let string = string(rt, memory, (REPLY, Some(0)));
+    let string = string(rt, memory, REPLY);
     PAIR.check().expect(rt, "a configuration");
     memory.refuse(n);
     let fault = decode(memory, &PAIR, &string).err();
@@ -121,56 +121,45 @@ fn page_table_at(rt: &impl Abort, memory: &Failing<Global>, n: u64) -> bool {
     is_met(rt, memory, n, fault)
 }
 
-/// The call with the n-th growth refused. Whether that growth was asked for.
-fn refused_at(rt: &impl Abort, memory: &Failing<Global>, n: u64, growing: Growing) -> bool {
-    match growing {
-        Growing::Encode => encode_at(rt, memory, n),
-        Growing::Decode => decode_at(rt, memory, n),
-        Growing::Send => send_at(rt, memory, n),
-        Growing::Pulse => pulse_at(rt, memory, n),
-        Growing::CheckOrder => check_order_at(rt, memory, n),
-        Growing::PageTable => page_table_at(rt, memory, n),
-    }
-}
-
-/// Refuses each growth in turn, until one is not asked for.
-fn growths_of(rt: &impl Abort, alloc: Global, growing: Growing) {
-    let memory = Failing::new(alloc);
-    for n in 1..MANY {
-        if !refused_at(rt, &memory, n, growing) {
-            assert!(rt; n > 1);
-            return;
+impl Refusable for Growing {
+    fn is_met(&self, rt: &impl Abort, memory: &Failing<Global>, n: u64) -> bool {
+        match self {
+            Growing::Encode => encode_at(rt, memory, n),
+            Growing::Decode => decode_at(rt, memory, n),
+            Growing::Send => send_at(rt, memory, n),
+            Growing::Pulse => pulse_at(rt, memory, n),
+            Growing::CheckOrder => check_order_at(rt, memory, n),
+            Growing::PageTable => page_table_at(rt, memory, n),
         }
     }
-    panic!(rt; "no end of growths");
 }
 
 #[test]
 fn growths_of_encode(rt: HostRuntime) {
-    growths_of(&rt, rt.alloc(), Growing::Encode);
+    refuse_each(&rt, &Growing::Encode);
 }
 
 #[test]
 fn growths_of_decode(rt: HostRuntime) {
-    growths_of(&rt, rt.alloc(), Growing::Decode);
+    refuse_each(&rt, &Growing::Decode);
 }
 
 #[test]
 fn growths_of_send(rt: HostRuntime) {
-    growths_of(&rt, rt.alloc(), Growing::Send);
+    refuse_each(&rt, &Growing::Send);
 }
 
 #[test]
 fn growths_of_pulse(rt: HostRuntime) {
-    growths_of(&rt, rt.alloc(), Growing::Pulse);
+    refuse_each(&rt, &Growing::Pulse);
 }
 
 #[test]
 fn growths_of_check_order(rt: HostRuntime) {
-    growths_of(&rt, rt.alloc(), Growing::CheckOrder);
+    refuse_each(&rt, &Growing::CheckOrder);
 }
 
 #[test]
 fn growths_of_a_page_table(rt: HostRuntime) {
-    growths_of(&rt, rt.alloc(), Growing::PageTable);
+    refuse_each(&rt, &Growing::PageTable);
 }

@@ -1,5 +1,6 @@
 //! A node keeps of its own past what it is told to keep, and does the same whatever that is.
-use crate::sites::common::{LOADS, PAIR, REPLY, REQUEST};
+use crate::common::{PAIR, REPLY, REQUEST};
+use crate::sites::common::LOADS;
 use crate::sites::steps::{Step, make_all};
 use ivy_model::{Call, Record, Reply};
 use ivy_site::{Site, Verdict, parse};
@@ -9,8 +10,8 @@ use std::process::Abort;
 /// Node 1 loads a word that nobody wrote, and prints it.
 const LOADING: [Step; 6] = [
     Step::Turns(2),
-    Step::Sends((REQUEST, None)),
-    Step::Comes((REPLY, Some(0)), Ok(Verdict::Next)),
+    Step::Sends(REQUEST),
+    Step::Comes(REPLY, Ok(Verdict::Next)),
     Step::Turns(2),
     Step::Printed(&[0]),
     Step::Silent,

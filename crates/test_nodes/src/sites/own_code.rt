@@ -1,5 +1,5 @@
 //! Calls of own code at one node, handed in and begun in one, or handed in and begun by the next turn.
-use crate::sites::common::PAIR;
+use crate::common::PAIR;
 use ivy_model::{Call, Fault, Record, Reply};
 use ivy_site::{Site, Turn};
 use std::process::Abort;

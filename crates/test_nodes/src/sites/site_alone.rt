@@ -1,7 +1,8 @@
 //! One node that is handed strings, well spelled, forged and broken.
 ghost use Rattle.std.specs.Prelude.{◌<◌};
 
-use crate::sites::common::{ALLOC_ASKS, ALLOC_GETS, LOADS, PAIR, REPLY, REQUEST, TRIO, string};
+use crate::common::{ALLOC_ASKS, ALLOC_GETS, PAIR, REPLY, REQUEST, TRIO, string};
+use crate::sites::common::LOADS;
 use crate::sites::steps::{Step, play, play_owner};
 use ivy_model::Fault;
 use ivy_site::{Turn, Verdict};
@@ -10,76 +11,26 @@ use std::alloc::Allocator;
 use std::process::Abort;
 
 /// Strings that come to node 0, and what it sends for them.
-const REFUSED: [Step; 14] = [
-    Step::Comes(
-        (
-            "495602010100000d 0000000000000001 0000000000000000 01 0000000000000001 000000",
-            None,
-        ),
-        Err(Fault::ShortFrame),
-    ),
-    Step::Comes(
-        (
-            "495602010100000d 0000000000000001 0000000000000000 01 0000000000000001 0000000100",
-            None,
-        ),
-        Err(Fault::BadBody),
-    ),
-    Step::Comes(("", None), Err(Fault::ShortFrame)),
-    Step::Comes(
-        (
-            "485602010100000d 0000000000000001 0000000000000000 01 0000000000000001 00000001",
-            None,
-        ),
-        Err(Fault::BadMagic),
-    ),
-    Step::Comes(
-        (
-            "495601010100000d 0000000000000001 0000000000000000 01 0000000000000001 00000001",
-            None,
-        ),
-        Err(Fault::BadVersion),
-    ),
-    Step::Comes(
-        (
-            "4956020b0100000d 0000000000000001 0000000000000000 01 0000000000000001 00000001",
-            None,
-        ),
-        Err(Fault::BadKind),
-    ),
-    Step::Comes(
-        (
-            "495602010200000d 0000000000000001 0000000000000000 01 0000000000000001 00000001",
-            None,
-        ),
-        Err(Fault::BadNode),
-    ),
-    Step::Comes(
-        (
-            "495602010000000d 0000000000000001 0000000000000000 01 0000000000000001 00000001",
-            None,
-        ),
-        Err(Fault::BadNode),
-    ),
-    Step::Comes(
-        (
-            "495602010100000d 0000000000000001 0000000000000000 01 0000000000000001 00000002",
-            None,
-        ),
-        Err(Fault::BadBody),
-    ),
-    Step::Comes(
-        (
-            "495602010100000d 0000000000000001 0000000000000000 02 0000000000000001 00000001",
-            None,
-        ),
-        Err(Fault::BadBody),
-    ),
-    Step::Comes((REQUEST, None), Ok(Verdict::Next)),
-    Step::Comes((REQUEST, None), Ok(Verdict::Repeat)),
+const REFUSED: [Step; 6] = [
+    Step::Refuses(REFUSED_STRINGS),
+    Step::Comes("", Err(Fault::ShortFrame)),
+    Step::Comes(REQUEST, Ok(Verdict::Next)),
+    Step::Comes(REQUEST, Ok(Verdict::Repeat)),
     Step::SendsKind(FrameKind::ReadRep, 0, 1),
     Step::Silent,
 ];
+
+const REFUSED_STRINGS: &str = "\
+ShortFrame: 495602010100000d 0000000000000001 0000000000000000 01 0000000000000001 000000
+BadBody: 495602010100000d 0000000000000001 0000000000000000 01 0000000000000001 0000000100
+BadMagic: 485602010100000d 0000000000000001 0000000000000000 01 0000000000000001 00000001
+BadVersion: 495601010100000d 0000000000000001 0000000000000000 01 0000000000000001 00000001
+BadKind: 4956020b0100000d 0000000000000001 0000000000000000 01 0000000000000001 00000001
+BadNode: 495602010200000d 0000000000000001 0000000000000000 01 0000000000000001 00000001
+BadNode: 495602010000000d 0000000000000001 0000000000000000 01 0000000000000001 00000001
+BadBody: 495602010100000d 0000000000000001 0000000000000000 01 0000000000000001 00000002
+BadBody: 495602010100000d 0000000000000001 0000000000000000 02 0000000000000001 00000001
+";
 
 #[test]
 fn refused_strings(rt: HostRuntime) {
@@ -90,8 +41,8 @@ const LATER_REQUEST: &str =
     "495602010200000d 0000000000000001 0000000000000000 02 0000000000000001 00000001";
 
 const REQUESTS: [Step; 5] = [
-    Step::Comes((LATER_REQUEST, None), Ok(Verdict::Next)),
-    Step::Comes((REQUEST, None), Ok(Verdict::Next)),
+    Step::Comes(LATER_REQUEST, Ok(Verdict::Next)),
+    Step::Comes(REQUEST, Ok(Verdict::Next)),
     Step::SendsKind(FrameKind::ReadRep, 0, 2),
     Step::SendsKind(FrameKind::ReadRep, 0, 1),
     Step::Silent,
@@ -108,8 +59,8 @@ const FORGED_REQUEST: &str =
     "495602010100000d 0000000000000001 0000000000000009 01 0000000000000001 00000001";
 
 const FORGED: [Step; 2] = [
-    Step::Comes((FORGED_REQUEST, None), Ok(Verdict::Next)),
-    Step::Sends((REPLY, Some(0))),
+    Step::Comes(FORGED_REQUEST, Ok(Verdict::Next)),
+    Step::Sends(REPLY),
 ];
 
 /// The reply answers it as it answers the request.
@@ -120,22 +71,20 @@ fn forged_acknowledgement(rt: HostRuntime) {
 
 /// Three requests of node 1 for eight bytes, which come in the wrong order, and what node 0 sends for them.
 const HELD: [Step; 9] = [
-    Step::Comes((ALLOC_ASKS_THIRD, None), Ok(Verdict::Ahead)),
-    Step::Comes((ALLOC_ASKS_SECOND, None), Ok(Verdict::Ahead)),
+    Step::Comes(ALLOC_ASKS_THIRD, Ok(Verdict::Ahead)),
+    Step::Comes(ALLOC_ASKS_SECOND, Ok(Verdict::Ahead)),
     Step::Silent,
-    Step::Comes((ALLOC_ASKS, None), Ok(Verdict::Next)),
-    Step::Sends((ALLOC_GETS, None)),
-    Step::Sends((
+    Step::Comes(ALLOC_ASKS, Ok(Verdict::Next)),
+    Step::Sends(ALLOC_GETS),
+    Step::Sends(
         "4956020800010012 0000000000000002 0000000000000001 01 0000000000000002 00 0000000000000048",
-        None,
-    )),
-    Step::Sends((
+    ),
+    Step::Sends(
         "4956020800010012 0000000000000003 0000000000000002 01 0000000000000003 00 0000000000000050",
-        None,
-    )),
+    ),
     Step::Silent,
     // Those that were held are held no more, and came before.
-    Step::Comes((ALLOC_ASKS_SECOND, None), Ok(Verdict::Repeat)),
+    Step::Comes(ALLOC_ASKS_SECOND, Ok(Verdict::Repeat)),
 ];
 
 const ALLOC_ASKS_SECOND: &str =
@@ -153,19 +102,16 @@ fn two_held_strings(rt: HostRuntime) {
 /// A string of node 1 to node 2, and then the request once, and late once more.
 const OTHERS_AND_LATE: [Step; 9] = [
     Step::Comes(
-        (
-            "495602010102000d 0000000000000001 0000000000000000 01 0000000000000001 00000001",
-            None,
-        ),
+        "495602010102000d 0000000000000001 0000000000000000 01 0000000000000001 00000001",
         Ok(Verdict::NotMine),
     ),
     Step::Silent,
     Step::Listed(0),
-    Step::Comes((REQUEST, None), Ok(Verdict::Next)),
+    Step::Comes(REQUEST, Ok(Verdict::Next)),
     Step::SendsKind(FrameKind::ReadRep, 0, 1),
-    Step::Comes((ALLOC_ASKS_SECOND, None), Ok(Verdict::Next)),
+    Step::Comes(ALLOC_ASKS_SECOND, Ok(Verdict::Next)),
     Step::SendsKind(FrameKind::AllocRep, 0, 1),
-    Step::Comes((REQUEST, None), Ok(Verdict::Repeat)),
+    Step::Comes(REQUEST, Ok(Verdict::Repeat)),
     Step::Silent,
 ];
 
@@ -178,8 +124,8 @@ fn strings_of_others_and_late_ones(rt: HostRuntime) {
 /// What happens at node 1, which goes on to its end once the reply comes.
 const BEGINNINGS: [Step; 7] = [
     Step::Turns(2),
-    Step::Beginnings((REPLY, Some(0))),
-    Step::Comes((REPLY, Some(0)), Ok(Verdict::Next)),
+    Step::Beginnings(REPLY),
+    Step::Comes(REPLY, Ok(Verdict::Next)),
     Step::Turn(Turn::Moved),
     Step::Turn(Turn::Moved),
     Step::Turn(Turn::Ended),
@@ -214,7 +160,7 @@ fn check_bits<A: Allocator + Copy>(rt: &impl Abort, alloc: A, bytes: &mut [u8], 
 /// Each string that differs from the request in one bit is refused or taken, and the node goes on.
 #[test]
 fn altered_bits(rt: HostRuntime) {
-    let mut request = string(&rt, rt.alloc(), (REQUEST, None));
+    let mut request = string(&rt, rt.alloc(), REQUEST);
     for place in 0..request.len() {
         check_bits(&rt, rt.alloc(), &mut request, place);
     }

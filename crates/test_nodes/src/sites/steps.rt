@@ -1,8 +1,8 @@
 //! What happens at a node, step by step, and what it has to show. One function has the node and
 //! lends it to each step, since each that has a node of its own costs more proof than the steps do.
+use crate::common::{ends_of, expect_same, string};
 use crate::sites::common::{
-    Written, comes, ends_of, expect_next, expect_same, node_of, owner, pulse, receive, string,
-    take_turn, take_turns, taken,
+    comes, expect_next, node_of, owner, pulse, receive, take_turn, take_turns, taken,
 };
 use crate::sites::forged::{expect_judged, hand_drawn};
 use ivy_model::{Config, Fault, Record};
@@ -19,17 +19,19 @@ pub(crate) enum Step<'a> {
     /// It makes so many turns.
     Turns(u64),
     /// A string comes, and is answered so.
-    Comes(Written<'a>, Result<Verdict, Fault>),
+    Comes(&'a str, Result<Verdict, Fault>),
+    /// The string of each line comes, and is refused by the fault whose name stands before it.
+    Refuses(&'a str),
     /// Each beginning of a string comes, and is too short.
-    Beginnings(Written<'a>),
+    Beginnings(&'a str),
     /// These bytes come, and are taken, or refused as ones that spell no frame.
     Judged(&'a [u8]),
     /// So do ten thousand strings that differ from this one in drawn bytes.
-    Drawn(Written<'a>),
+    Drawn(&'a str),
     /// It sends again what node 1 did not acknowledge.
     Pulse,
     /// This is its next string.
-    Sends(Written<'a>),
+    Sends(&'a str),
     /// This is what its next string is about, its source and its destination.
     SendsKind(FrameKind, u8, u8),
     /// No string waits.
@@ -56,10 +58,20 @@ fn expect_answer<A: Allocator + Copy>(
     rt: &impl Abort,
     alloc: A,
     site: &mut Site<A>,
-    written: Written,
+    written: &str,
     answer: Result<Verdict, Fault>,
 ) {
-    assert!(rt; comes(rt, alloc, site, written) == answer, "{}", written.0);
+    assert!(rt; comes(rt, alloc, site, written) == answer, "{written}");
+}
+
+/// That the string of each line is refused by the fault whose name stands before it.
+fn expect_refused<A: Allocator + Copy>(rt: &impl Abort, alloc: A, site: &mut Site<A>, lines: &str) {
+    for line in lines.lines() {
+        let (name, written) = line.split_once(": ").expect(rt, line);
+        let fault = comes(rt, alloc, site, written).err().expect(rt, line);
+        let found = format!(in alloc; "{fault:?}").expect(rt, "memory");
+        assert!(rt; found.as_str() == name, "{line}");
+    }
 }
 
 /// That each beginning of a string is too short.
@@ -89,12 +101,13 @@ fn make<A: Allocator + Copy>(rt: &impl Abort, alloc: A, site: &mut Site<A>, step
     match step {
         Step::Turn(turn) => expect_turn(rt, site, *turn),
         Step::Turns(number) => take_turns(rt, site, *number),
-        Step::Comes(written, answer) => expect_answer(rt, alloc, site, *written, *answer),
-        Step::Beginnings(written) => expect_too_short(rt, site, &string(rt, alloc, *written)),
+        Step::Comes(written, answer) => expect_answer(rt, alloc, site, written, *answer),
+        Step::Refuses(lines) => expect_refused(rt, alloc, site, lines),
+        Step::Beginnings(written) => expect_too_short(rt, site, &string(rt, alloc, written)),
         Step::Judged(bytes) => expect_judged(rt, site, bytes),
-        Step::Drawn(written) => hand_drawn(rt, alloc, site, &string(rt, alloc, *written)),
+        Step::Drawn(written) => hand_drawn(rt, alloc, site, &string(rt, alloc, written)),
         Step::Pulse => expect_same(rt, pulse(rt, site, 1), Ok(())),
-        Step::Sends(written) => expect_next(rt, alloc, site, *written),
+        Step::Sends(written) => expect_next(rt, alloc, site, written),
         Step::SendsKind(kind, source, dest) => expect_kind(rt, site, (*kind, *source, *dest)),
         Step::Silent => expect_silent(rt, site),
         Step::Listed(number) => expect_same(rt, site.events().len(), *number),

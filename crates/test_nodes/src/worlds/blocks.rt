@@ -1,10 +1,11 @@
 //! Calls of own code at a node of a world that are made together: which begin and wait, and where none does.
-use crate::worlds::common::{LOADS, MANY, PAIR, expect_same, expect_same_at, world};
+use crate::common::{PAIR, Refusable, expect_same, expect_same_at, met, refuse_each};
+use crate::worlds::common::world;
 use ivy_model::{Call, Fault, Record, Row};
 use ivy_world::{Rest, World};
 use std::alloc::{Allocator, Global};
 use std::process::Abort;
-use test_support::Failing;
+use test_support::{Failing, LOADS};
 
 /// What a node is asked to do with words in a row.
 #[derive(Clone, Copy)]
@@ -156,37 +157,31 @@ fn blocks_at_nodes_that_may_make_no_call(rt: HostRuntime) {
     let mut open = World::open(rt.alloc(), PAIR).expect(&rt, "a world");
     expect_same(&rt, begin(&rt, &mut open, &STORES), Ok(3));
     expect_none(&rt, &mut open, &STORES);
-    let mut given = world(rt.alloc(), PAIR, LOADS).expect(&rt, "a world");
+    let mut given = world(&rt, rt.alloc(), PAIR, LOADS);
     expect_none(&rt, &mut given, &STORES);
 }
 
-/// Makes the stores with the n-th growth refused, and once more where that was asked for. Whether it was.
-fn refused_at(rt: &impl Abort, memory: &Failing<Global>, n: u64) -> bool {
-    let mut world = World::open(memory, PAIR).expect(rt, "a world");
-    memory.refuse(n);
-    let begun = begin(rt, &mut world, &STORES);
-    let met = memory.asked(n) >= n;
-    memory.refuse(0);
-    if met {
-        expect_same_at(rt, n, begun, Err(Fault::Memory));
-        expect_same_at(rt, n, told(rt, &world, 1), (None, true, 0, 0));
-        expect_same_at(rt, n, begin(rt, &mut world, &STORES), Ok(3));
-    } else {
-        expect_same_at(rt, n, begun, Ok(3));
+impl Refusable for Block<'_> {
+    /// Makes the block of three calls with the n-th growth refused, and once more where that was asked for.
+    fn is_met(&self, rt: &impl Abort, memory: &Failing<Global>, n: u64) -> bool {
+        let mut world = World::open(memory, PAIR).expect(rt, "a world");
+        memory.refuse(n);
+        let begun = begin(rt, &mut world, self);
+        let met = met(memory, n);
+        if met {
+            expect_same_at(rt, n, begun, Err(Fault::Memory));
+            expect_same_at(rt, n, told(rt, &world, 1), (None, true, 0, 0));
+            expect_same_at(rt, n, begin(rt, &mut world, self), Ok(3));
+        } else {
+            expect_same_at(rt, n, begun, Ok(3));
+        }
+        expect_answered(rt, &mut world, 1, &STORED);
+        met
     }
-    expect_answered(rt, &mut world, 1, &STORED);
-    met
 }
 
 /// Each growth refused in turn, until one is not asked for. A refused block changes nothing, and can be made again.
 #[test]
 fn blocks_without_memory(rt: HostRuntime) {
-    let memory = Failing::new(rt.alloc());
-    for n in 1..MANY {
-        if !refused_at(&rt, &memory, n) {
-            assert!(rt; n > 1);
-            return;
-        }
-    }
-    panic!(&rt; "no end of growths");
+    refuse_each(&rt, &STORES);
 }

@@ -1,34 +1,12 @@
-//! What the tests share: configurations, worlds and what they have to show, and strings.
+//! What the tests share: worlds, their moves, and what they have to show.
 ghost use Rattle.std.specs.Prelude.{◌<◌, length, IfErr};
 
-use ivy_model::{Call, Config, Fault, Kind, Record, Reply};
-use ivy_wire::{Bytes, FrameKind, read_frame};
+use crate::common::{PAIR, ends_of, expect_same_at, number, string};
+use ivy_model::{Call, Config, Fault, Record, Reply};
+use ivy_wire::Bytes;
 use ivy_world::{Move, World, parse};
 use std::alloc::Allocator;
-use std::fmt::{Debug, Display};
 use std::process::Abort;
-use std::test::Fail;
-
-/// Two nodes, and two pages of 64 bytes.
-pub(crate) const PAIR: Config = Config {
-    nodes: 2,
-    pages: 2,
-    page_size: 64,
-    manager: Kind::Fixed,
-};
-
-/// A third node.
-pub(crate) const TRIO: Config = Config { nodes: 3, ..PAIR };
-
-/// Node 1 loads a word that nobody wrote, and prints it.
-pub(crate) const LOADS: &str = "node 0\nnode 1\nset r1 64\nload 8 r2 r1\nprint r2\n";
-
-/// The request of that load, and the header of the reply, which a page of zeros follows.
-pub(crate) const REQUEST: &str =
-    "495602010100000d 0000000000000001 0000000000000000 01 0000000000000001 00000001";
-
-pub(crate) const REPLY: &str =
-    "495602030001004d 0000000000000001 0000000000000000 01 0000000000000001 00000001";
 
 /// A load from an address, which is answered a value.
 pub(crate) fn loaded(node: u8, width: u8, addr: u64, value: u64) -> Record {
@@ -67,9 +45,12 @@ pub(crate) const STUCK: Shown = Shown {
 /// What node 1 shows of that load, once it has ended.
 pub(crate) const HAS_LOADED: Shown = ended!(1, &[loaded!(1, 64, 0)], &[0]);
 
-/// A string: hexadecimal words, and then a page where there is one. Its first word is this one, the rest of it is
-/// zeros.
-pub(crate) type Written<'a> = (&'a str, Option<u64>);
+/// Moves in words, and how many strings were ever sent once they are made: `1` is a turn of node 1, and `1*3` are three;
+/// `4>1,0` delivers string 4 to node 1 and the next string to node 0; `0~1` is a pulse of node 0 to node 1.
+pub(crate) type Stage<'a> = (&'a str, usize);
+
+/// The strings from this index on.
+pub(crate) type Sent<'a> = (usize, &'a [&'a str]);
 
 /// Programs, the moves of their world, and what it has to show once they are made.
 #[derive(Clone, Copy)]
@@ -77,33 +58,97 @@ pub(crate) struct Run<'a> {
     pub(crate) config: Config,
     pub(crate) text: &'a str,
     pub(crate) stages: &'a [Stage<'a>],
-    /// The first strings, each by what it is about, its source and its destination.
-    pub(crate) kinds: &'a [(FrameKind, u8, u8)],
-    /// Some strings by their index.
-    pub(crate) strings: &'a [(usize, Written<'a>)],
+    /// What the first strings are about, their source and their destination, as `ReadReq:1>0`.
+    pub(crate) kinds: &'a str,
+    /// Some strings.
+    pub(crate) strings: &'a [Sent<'a>],
     pub(crate) nodes: &'a [Shown<'a>],
 }
-
-/// Moves, and how many strings were ever sent once they are made.
-pub(crate) type Stage<'a> = (&'a [Move], usize);
 
 /// Two nodes without programs, of which nothing is asked. Runs say what is more than that.
 pub(crate) const IDLE: Run = Run {
     config: PAIR,
     text: "",
     stages: &[],
-    kinds: &[],
+    kinds: "",
     strings: &[],
     nodes: &[],
 };
 
+/// Node 1 asks for page 1 to write it, and is given it between the turns in which its first call asks and is answered.
+pub(crate) const WRITES: Run = Run {
+    stages: &[("1*3", 1), ("0>0,1", 2), ("1*4", 2)],
+    kinds: "WriteReq:1>0 WriteRep:0>1",
+    ..IDLE
+};
+
+/// A delivery of the string of this index to a node.
+pub(crate) fn deliver(index: u64, to: u64) -> Move {
+    Move::Deliver { index, to }
+}
+
+fn add<A: Allocator>(rt: &impl Abort, moves: &mut Vec<Move, A>, step: Move) {
+    moves.push(step).expect(rt, "memory");
+}
+
+/// Adds so many turns of a node.
+fn add_turns<A: Allocator>(rt: &impl Abort, moves: &mut Vec<Move, A>, node: u64, times: u64) {
+    for _ in 0..times {
+        add(rt, moves, Move::Turn(node));
+    }
+}
+
+/// Adds deliveries of strings from this one on.
+fn add_deliveries<A: Allocator>(
+    rt: &impl Abort,
+    moves: &mut Vec<Move, A>,
+    first: u64,
+    nodes: &str,
+) {
+    let mut index = first;
+    for node in nodes.split(',') {
+        add(rt, moves, deliver(index, number(rt, node)));
+        index = index.saturating_add(1);
+    }
+}
+
+/// Adds the moves of a word.
+fn add_word<A: Allocator>(rt: &impl Abort, moves: &mut Vec<Move, A>, word: &str) {
+    if let Some((first, nodes)) = word.split_once('>') {
+        add_deliveries(rt, moves, number(rt, first), nodes);
+    } else if let Some((from, to)) = word.split_once('~') {
+        let (from, to) = (number(rt, from), number(rt, to));
+        add(rt, moves, Move::Pulse { from, to });
+    } else if let Some((node, times)) = word.split_once('*') {
+        add_turns(rt, moves, number(rt, node), number(rt, times));
+    } else {
+        add(rt, moves, Move::Turn(number(rt, word)));
+    }
+}
+
+/// Adds the moves of a stage.
+pub(crate) fn add_moves<A: Allocator>(rt: &impl Abort, moves: &mut Vec<Move, A>, words: &str) {
+    for word in words.split_ascii_whitespace() {
+        add_word(rt, moves, word);
+    }
+}
+
+/// The moves of a stage.
+pub(crate) fn moves_of<A: Allocator>(rt: &impl Abort, alloc: A, words: &str) -> Vec<Move, A> {
+    let mut moves = Vec::new(alloc);
+    add_moves(rt, &mut moves, words);
+    moves
+}
+
 /// The world of the programs of a text, as it begins.
 pub(crate) fn world<A: Allocator + Copy>(
+    rt: &impl Abort,
     alloc: A,
     config: Config,
     text: &str,
-) -> Result<World<A>, Fault> {
-    World::new(alloc, config, parse(alloc, text)?)
+) -> World<A> {
+    let programs = parse(alloc, text).expect(rt, "programs");
+    World::new(alloc, config, programs).expect(rt, "a world")
 }
 
 /// Makes the moves of a world. Of all that is promised of it, callers need only this.
@@ -124,39 +169,53 @@ pub(crate) fn shows<A: Allocator + Copy>(world: &World<A>, shown: &Shown) -> boo
         && world.ended(shown.node) == shown.ended
 }
 
-/// Makes the moves of each stage, and asserts how many strings were sent then.
-pub(crate) fn play_stages<A: Allocator + Copy>(
+/// Makes the moves of a stage, and asserts how many strings were sent then.
+pub(crate) fn play_stage<A: Allocator + Copy>(
     rt: &impl Abort,
+    alloc: A,
     world: &mut World<A>,
-    stages: &[Stage],
+    stage: Stage,
 ) {
-    for (stage, (moves, sent)) in stages.iter().enumerate() {
-        let made = play(world, moves);
-        expect_same_at(rt, stage, (made, world.sent().len()), (Ok(()), *sent));
-    }
+    let made = play(world, &moves_of(rt, alloc, stage.0));
+    expect_same_at(rt, stage.0, (made, world.sent().len()), (Ok(()), stage.1));
 }
 
-fn check_kinds<A: Allocator>(
+/// That the first strings are about this, and have this source and destination.
+fn check_kinds<A: Allocator + Copy>(
     rt: &impl Abort,
+    alloc: A,
     config: &Config,
     sent: &[Bytes<A>],
-    kinds: &[(FrameKind, u8, u8)],
+    kinds: &str,
 ) {
-    for (string, kind) in sent.iter().zip(kinds) {
-        expect_same(rt, ends_of(config, string.bytes()), Ok(*kind));
+    for (index, wanted) in kinds.split_ascii_whitespace().enumerate() {
+        let string = sent.get(index).expect(rt, wanted);
+        let (kind, source, dest) = ends_of(config, string.bytes()).expect(rt, wanted);
+        let found = format!(in alloc; "{kind:?}:{source}>{dest}").expect(rt, "memory");
+        assert!(rt; found.as_str() == wanted, "{wanted}");
     }
 }
 
-fn check_strings<A: Allocator + Copy>(
+/// That the string of this index is one of those sent, and is this.
+pub(crate) fn check_string<A: Allocator + Copy>(
     rt: &impl Abort,
     alloc: A,
     sent: &[Bytes<A>],
-    strings: &[(usize, Written)],
-) -> Result<(), Fail> {
-    for (index, written) in strings {
-        expect_same_at(rt, *index, is_sent(alloc, sent, *index, *written)?, true);
+    index: usize,
+    written: &str,
+) {
+    let found = sent.get(index).expect(rt, written);
+    let wanted = string(rt, alloc, written);
+    assert!(rt; found.bytes() == wanted.as_slice(), "{index} {written}");
+}
+
+/// That the strings from an index on are these.
+fn check_sent<A: Allocator + Copy>(rt: &impl Abort, alloc: A, sent: &[Bytes<A>], wanted: Sent) {
+    let mut index = wanted.0;
+    for written in wanted.1 {
+        check_string(rt, alloc, sent, index, written);
+        index = index.saturating_add(1);
     }
-    Ok(())
 }
 
 fn check_nodes<A: Allocator + Copy>(rt: &impl Abort, world: &World<A>, nodes: &[Shown]) {
@@ -165,115 +224,25 @@ fn check_nodes<A: Allocator + Copy>(rt: &impl Abort, world: &World<A>, nodes: &[
     }
 }
 
-/// Makes the moves of these stages, and asserts that the world shows what the run says.
+/// Makes the moves of a run in a world, and asserts that the world shows what the run says.
 pub(crate) fn check_world<A: Allocator + Copy>(
     rt: &impl Abort,
     alloc: A,
     world: &mut World<A>,
     run: &Run,
-    stages: &[Stage],
-) -> Result<(), Fail> {
-    play_stages(rt, world, stages);
+) {
+    for stage in run.stages {
+        play_stage(rt, alloc, world, *stage);
+    }
     check_nodes(rt, world, run.nodes);
-    check_kinds(rt, &run.config, world.sent(), run.kinds);
-    check_strings(rt, alloc, world.sent(), run.strings)
+    check_kinds(rt, alloc, &run.config, world.sent(), run.kinds);
+    for wanted in run.strings {
+        check_sent(rt, alloc, world.sent(), *wanted);
+    }
 }
 
 /// Makes the moves of a run, and asserts that the world shows what it has to.
-pub(crate) fn check_run<R: Abort + AllocGlobal>(rt: &R, run: &Run) -> Result<(), Fail> {
-    check_stages(rt, run, run.stages)
-}
-
-/// The same with these moves in place of those of the run.
-pub(crate) fn check_stages<R: Abort + AllocGlobal>(
-    rt: &R,
-    run: &Run,
-    stages: &[Stage],
-) -> Result<(), Fail> {
-    let mut world = world(rt.alloc(), run.config, run.text)?;
-    check_world(rt, rt.alloc(), &mut world, run, stages)
-}
-
-fn add_word<A: Allocator + Copy>(
-    alloc: A,
-    string: &mut Vec<u8, A>,
-    word: &str,
-) -> Result<(), Fail> {
-    string.extend_from_slice(&hex::decode(alloc, word)?)?;
-    Ok(())
-}
-
-fn add_words<A: Allocator + Copy>(
-    alloc: A,
-    string: &mut Vec<u8, A>,
-    words: &str,
-) -> Result<(), Fail> {
-    for word in words.split(' ') {
-        add_word(alloc, string, word)?;
-    }
-    Ok(())
-}
-
-fn add_page<A: Allocator>(string: &mut Vec<u8, A>, first: Option<u64>) -> Result<(), Fail> {
-    if let Some(first) = first {
-        string.extend_from_slice(&first.to_be_bytes())?;
-        string.extend_from_slice(&[0; 56])?;
-    }
-    Ok(())
-}
-
-/// The bytes of a string.
-pub(crate) fn string<A: Allocator + Copy>(alloc: A, written: Written) -> Result<Vec<u8, A>, Fail> {
-    let mut string = Vec::new(alloc);
-    add_words(alloc, &mut string, written.0)?;
-    add_page(&mut string, written.1)?;
-    Ok(string)
-}
-
-/// Whether the string of this index is one of those sent, and is this.
-pub(crate) fn is_sent<A: Allocator + Copy>(
-    alloc: A,
-    sent: &[Bytes<A>],
-    index: usize,
-    written: Written,
-) -> Result<bool, Fail> {
-    let wanted = string(alloc, written)?;
-    Ok(is_string(sent, index, &wanted))
-}
-
-fn is_string<A: Allocator>(sent: &[Bytes<A>], index: usize, wanted: &[u8]) -> bool {
-    match sent.get(index) {
-        Some(string) => string.bytes() == wanted,
-        None => false,
-    }
-}
-
-/// What a string is about, its source and its destination.
-pub(crate) fn ends_of(config: &Config, bytes: &[u8]) -> Result<(FrameKind, u8, u8), Fault> {
-    config.check()?;
-    let frame = read_frame(config, bytes)?;
-    Ok((frame.kind(), frame.source, frame.dest))
-}
-
-/// A delivery of the string of this index to a node.
-pub(crate) fn deliver(index: u64, to: u64) -> Move {
-    Move::Deliver { index, to }
-}
-
-/// More growths than any call here asks for.
-pub(crate) const MANY: u64 = 200;
-
-/// That a value is the one that is wanted. A call of this costs its caller less proof than `assert_eq!` there would.
-pub(crate) fn expect_same<T: PartialEq + Debug + Drop>(rt: &impl Abort, found: T, wanted: T) {
-    assert_eq!(rt; found, wanted);
-}
-
-/// The same of a row, a node or a growth, which is named where the value is another.
-pub(crate) fn expect_same_at<T: PartialEq + Debug + Drop>(
-    rt: &impl Abort,
-    place: impl Display + Drop,
-    found: T,
-    wanted: T,
-) {
-    assert_eq!(rt; found, wanted, "{place}");
+pub(crate) fn check_run(rt: &(impl Abort + AllocGlobal), run: &Run) {
+    let mut world = world(rt, rt.alloc(), run.config, run.text);
+    check_world(rt, rt.alloc(), &mut world, run);
 }

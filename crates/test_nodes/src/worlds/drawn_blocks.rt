@@ -5,7 +5,7 @@
 ghost use Rattle.std.specs.Prelude.{◌≤◌};
 ghost use Rattle.ivy_model.specs.stated.Legal.{HasWidth};
 
-use crate::worlds::common::{PAIR, expect_same, expect_same_at};
+use crate::common::{PAIR, expect_same, expect_same_at};
 use ivy_model::{Call, Config, Kind, Record, Reply, Row};
 use ivy_wire::{Bytes, destination};
 use ivy_world::{Move, Rest, World};

@@ -1,9 +1,6 @@
 //! Compare-and-swaps and fetch-and-adds: of words that the node has to fault for first, and of one byte.
-use crate::worlds::common::{IDLE, Run, Stage, check_run};
+use crate::worlds::common::{IDLE, Run, WRITES, check_run};
 use ivy_model::{Call, Reply};
-use ivy_wire::FrameKind;
-use ivy_world::Move;
-use std::test::Fail;
 
 /// A compare-and-swap, in the value of a constant.
 macro_rules! cas {
@@ -38,23 +35,8 @@ fadd 8 r3 r1 r2
 load 8 r3 r1
 ";
 
-/// The page comes between the turns in which the first call asks and is answered.
-const TWICE_MOVES: [Stage; 3] = [
-    (&[Move::Turn(1); 3], 1),
-    (
-        &[
-            Move::Deliver { index: 0, to: 0 },
-            Move::Deliver { index: 1, to: 1 },
-        ],
-        2,
-    ),
-    (&[Move::Turn(1); 4], 2),
-];
-
 static TWICE_RUN: Run<'static> = Run {
     text: TWICE,
-    stages: &TWICE_MOVES,
-    kinds: &[(FrameKind::WriteReq, 1, 0), (FrameKind::WriteRep, 0, 1)],
     nodes: &[ended!(
         1,
         &[
@@ -65,14 +47,14 @@ static TWICE_RUN: Run<'static> = Run {
         ],
         &[]
     )],
-    ..IDLE
+    ..WRITES
 };
 
 /// The first compare-and-swap asks for the page as a store does, the second one finds another number and stores
 /// nothing, and 9 and 9 are 18.
 #[test]
-fn exchanges_of_a_page_that_comes(rt: HostRuntime) -> Result<(), Fail> {
-    check_run(&rt, &TWICE_RUN)
+fn exchanges_of_a_page_that_comes(rt: HostRuntime) {
+    check_run(&rt, &TWICE_RUN);
 }
 
 const IN_VAIN: &str = "node 0
@@ -85,18 +67,7 @@ load 8 r4 r1
 
 static IN_VAIN_RUN: Run<'static> = Run {
     text: IN_VAIN,
-    stages: &[
-        (&[Move::Turn(1); 3], 1),
-        (
-            &[
-                Move::Deliver { index: 0, to: 0 },
-                Move::Deliver { index: 1, to: 1 },
-            ],
-            2,
-        ),
-        (&[Move::Turn(1); 2], 2),
-    ],
-    kinds: &[(FrameKind::WriteReq, 1, 0), (FrameKind::WriteRep, 0, 1)],
+    stages: &[("1*3", 1), ("0>0,1", 2), ("1*2", 2)],
     nodes: &[ended!(
         1,
         &[
@@ -105,13 +76,13 @@ static IN_VAIN_RUN: Run<'static> = Run {
         ],
         &[]
     )],
-    ..IDLE
+    ..WRITES
 };
 
 /// A compare-and-swap that stores nothing asks for the page to write it as well.
 #[test]
-fn exchange_in_vain(rt: HostRuntime) -> Result<(), Fail> {
-    check_run(&rt, &IN_VAIN_RUN)
+fn exchange_in_vain(rt: HostRuntime) {
+    check_run(&rt, &IN_VAIN_RUN);
 }
 
 const WIDTHS: &str = "node 0
@@ -141,7 +112,7 @@ node 1
 
 static WIDTHS_RUN: Run<'static> = Run {
     text: WIDTHS,
-    stages: &[(&[Move::Turn(0); 21], 0)],
+    stages: &[("0*21", 0)],
     nodes: &[ended!(
         0,
         &[
@@ -162,6 +133,6 @@ static WIDTHS_RUN: Run<'static> = Run {
 
 /// Words of one byte: 258 is looked for as 2, and 255 and 511 are 254. One that is refused keeps its register.
 #[test]
-fn widths_of_exchanges(rt: HostRuntime) -> Result<(), Fail> {
-    check_run(&rt, &WIDTHS_RUN)
+fn widths_of_exchanges(rt: HostRuntime) {
+    check_run(&rt, &WIDTHS_RUN);
 }

@@ -4,44 +4,23 @@
 //! copies that are ended at once and once they came, acknowledgements, the last of them and others, and seven
 //! requests that are put off and then served in one event. One more run has calls of the heap that node 0 serves for
 //! another node.
+use crate::common::{
+    PAIR, REPLY, REQUEST, Refusable, STORE_ASKS, STORE_GETS, expect_same, expect_same_at, met,
+    refuse_each,
+};
 use crate::worlds::common::{
-    HAS_LOADED, IDLE, LOADS, MANY, PAIR, REPLY, REQUEST, Run, Shown, Stage, TRIO, Written,
-    check_world, expect_same, expect_same_at, play, world,
+    HAS_LOADED, IDLE, Run, Stage, add_moves, check_world, deliver, moves_of, play, world,
 };
-use crate::worlds::counts::{GIVEN_NOTICE, NOTICE, NOTICE_MOVES, NOTICED, STORE_ASKS, STORE_GETS};
-use crate::worlds::dynamic::{HINTS, UPGRADE, upgrade_moves};
-use crate::worlds::eight_nodes::{
-    ALL_STORE, EIGHT, ONE_STORES, PUT_OFF_WHILE_AWAITED, moves_of, put_off_by_a_writer,
-};
-use crate::worlds::heap::{asking_moves, asking_text};
-use crate::worlds::stores::{
-    LATE, LATE_MOVES, UPGRADE_OF_THREE, UPGRADE_OF_THREE_MOVES, UPGRADE_OF_TWO,
-    UPGRADE_OF_TWO_MOVES,
-};
-use ivy_model::{Config, Fault};
-use ivy_wire::FrameKind;
+use crate::worlds::counts::{GIVEN_NOTICE, NOTICE_ONCE, NOTICED};
+use crate::worlds::dynamic::UPGRADE_RUN;
+use crate::worlds::eight_nodes::{PUT_OFF_WHILE_AWAITED, SEVEN_FIRST};
+use crate::worlds::heap::{ASKING, asking_text};
+use crate::worlds::stores::{LATE_RUN, UPGRADE_OF_THREE_RUN, UPGRADE_OF_TWO_RUN};
+use ivy_model::Fault;
 use ivy_world::{Move, World};
 use std::alloc::{Allocator, Global};
 use std::process::Abort;
-use std::test::Fail;
-use test_support::Failing;
-
-/// More growths than any run here asks for.
-const MANY_IN_A_RUN: u64 = 1000;
-
-/// The moves of the first load, and then what each node sends again.
-const MOVES: [Move; 10] = [
-    Move::Turn(1),
-    Move::Turn(1),
-    Move::Deliver { index: 0, to: 0 },
-    Move::Deliver { index: 1, to: 1 },
-    Move::Turn(1),
-    Move::Turn(1),
-    Move::Pulse { from: 1, to: 0 },
-    Move::Deliver { index: 2, to: 0 },
-    Move::Pulse { from: 0, to: 1 },
-    Move::Deliver { index: 3, to: 1 },
-];
+use test_support::{Failing, LOADS, NOTICE};
 
 /// Whether the same strings were sent.
 fn same_sent<A: Allocator + Copy>(one: &World<A>, other: &World<A>) -> bool {
@@ -72,14 +51,6 @@ pub(crate) fn same_worlds<A: Allocator + Copy>(one: &World<A>, other: &World<A>)
     same_sent(one, other)
 }
 
-/// Programs, and moves that lead them to their end.
-#[derive(Clone, Copy)]
-struct Growing<'a> {
-    config: Config,
-    text: &'a str,
-    moves: &'a [Move],
-}
-
 /// Plays the moves in two worlds, in one of them with the n-th growth refused. Whether that growth was asked
 /// for.
 fn refused_of<A: Allocator + Copy>(
@@ -92,8 +63,7 @@ fn refused_of<A: Allocator + Copy>(
 ) -> bool {
     memory.refuse(n);
     let answer = play(refused, moves);
-    let met = memory.asked(n) >= n;
-    memory.refuse(0);
+    let met = met(memory, n);
     let Err((place, fault)) = answer else {
         return met;
     };
@@ -117,237 +87,128 @@ fn check_rest<A: Allocator + Copy>(
     expect_same_at(rt, n, same_worlds(refused, twin), true);
 }
 
-fn refused_at(
-    rt: &impl Abort,
-    memory: &Failing<Global>,
-    n: u64,
-    growing: &Growing,
-) -> Result<bool, Fail> {
-    let mut refused = world(memory, growing.config, growing.text)?;
-    let mut twin = world(memory, growing.config, growing.text)?;
-    Ok(refused_of(rt, memory, n, growing.moves, &mut refused, &mut twin))
-}
-
-/// Refuses each growth of a run in turn, until one is not asked for.
-fn growths_of(rt: &impl Abort, memory: &Failing<Global>, growing: &Growing) -> Result<(), Fail> {
-    for n in 1..MANY_IN_A_RUN {
-        if !refused_at(rt, memory, n, growing)? {
-            assert!(rt; n > 1);
-            return Ok(());
-        }
+/// All moves of a run.
+fn all_moves<A: Allocator>(rt: &impl Abort, alloc: A, run: &Run) -> Vec<Move, A> {
+    let mut moves = Vec::new(alloc);
+    for (words, _) in run.stages {
+        add_moves(rt, &mut moves, words);
     }
-    Err("no end of growths".into())
+    moves
 }
 
-static RUNS: [Growing<'static>; 5] = [
-    Growing {
-        config: PAIR,
-        text: LOADS,
-        moves: &MOVES,
-    },
-    Growing {
-        config: PAIR,
-        text: NOTICE,
-        moves: &NOTICE_MOVES,
-    },
-    Growing {
-        config: PAIR,
-        text: UPGRADE_OF_TWO,
-        moves: &UPGRADE_OF_TWO_MOVES,
-    },
-    Growing {
-        config: TRIO,
-        text: UPGRADE_OF_THREE,
-        moves: &UPGRADE_OF_THREE_MOVES,
-    },
-    Growing {
-        config: TRIO,
-        text: LATE,
-        moves: &LATE_MOVES,
-    },
-];
+impl Refusable for Run<'_> {
+    fn is_met(&self, rt: &impl Abort, memory: &Failing<Global>, n: u64) -> bool {
+        let mut refused = world(rt, memory, self.config, self.text);
+        let mut twin = world(rt, memory, self.config, self.text);
+        let moves = all_moves(rt, memory, self);
+        refused_of(rt, memory, n, &moves, &mut refused, &mut twin)
+    }
+}
+
+/// The first load, and then what each node sends again.
+static PULSED: Run<'static> = Run {
+    text: LOADS,
+    stages: &[("1*2 0>0,1 1*2 1~0 2>0 0~1 3>1", 4)],
+    ..IDLE
+};
 
 #[test]
-fn growths_of_runs(rt: HostRuntime) -> Result<(), Fail> {
-    let memory = Failing::new(rt.alloc());
-    for growing in &RUNS {
-        growths_of(&rt, &memory, growing)?;
-    }
-    Ok(())
-}
-
-/// The same of moves that are made when the test runs.
-fn growths_of_moves<R: Abort + AllocGlobal>(
-    rt: &R,
-    config: Config,
-    text: &str,
-    moves: Vec<Move, Global>,
-) -> Result<(), Fail> {
-    let memory = Failing::new(rt.alloc());
-    let growing = Growing {
-        config,
-        text,
-        moves: &moves,
-    };
-    growths_of(rt, &memory, &growing)
+fn growths_of_runs(rt: HostRuntime) {
+    refuse_each(&rt, &PULSED);
+    refuse_each(&rt, &NOTICE_ONCE);
+    refuse_each(&rt, &UPGRADE_OF_TWO_RUN);
+    refuse_each(&rt, &UPGRADE_OF_THREE_RUN);
+    refuse_each(&rt, &LATE_RUN);
 }
 
 /// A store whose last acknowledgement brings on a request that was put off, and seven requests that are put off.
 #[test]
-fn growths_of_longer_runs(rt: HostRuntime) -> Result<(), Fail> {
-    let race = upgrade_moves(rt.alloc())?;
-    growths_of_moves(&rt, HINTS, UPGRADE, race)?;
-    let seven_put_off = put_off_by_a_writer(rt.alloc(), &[7, 0, 2, 3, 4, 5, 6])?;
-    growths_of_moves(&rt, EIGHT, ALL_STORE, seven_put_off)?;
-    let seven_copies = moves_of(rt.alloc(), &PUT_OFF_WHILE_AWAITED)?;
-    growths_of_moves(&rt, EIGHT, ONE_STORES, seven_copies)
+fn growths_of_longer_runs(rt: HostRuntime) {
+    refuse_each(&rt, &UPGRADE_RUN);
+    refuse_each(&rt, &SEVEN_FIRST);
+    refuse_each(&rt, &PUT_OFF_WHILE_AWAITED);
 }
 
 /// Node 1 asks for blocks and ends them, some in vain.
 #[test]
-fn growths_of_the_heap(rt: HostRuntime) -> Result<(), Fail> {
-    let text = asking_text(rt.alloc())?;
-    let moves = asking_moves(rt.alloc())?;
-    growths_of_moves(&rt, PAIR, text.as_str(), moves)
-}
-
-/// Programs of two nodes. Node 1 asks, and the delivery of its request to node 0 is refused.
-#[derive(Clone, Copy)]
-struct Replaced<'a> {
-    text: &'a str,
-    asks: &'a [Move],
-    /// A pulse and the delivery of what it sends replace the delivery that was refused.
-    replaces: &'a [Stage<'a>],
-    /// What kinds of strings were sent then: node 0 owned the page still, and gives it once.
-    kinds: &'a [(FrameKind, u8, u8)],
-    strings: &'a [(usize, Written<'a>)],
-    nodes: &'a [Shown<'a>],
-}
-
-static IS_ASKED: [Move; 1] = [Move::Deliver { index: 0, to: 0 }];
-
-/// The request comes again, and is answered.
-const COMES_AGAIN: [Move; 3] = [
-    Move::Pulse { from: 1, to: 0 },
-    Move::Deliver { index: 1, to: 0 },
-    Move::Deliver { index: 2, to: 1 },
-];
-
-static REPLACED: [Replaced<'static>; 2] = [
-    Replaced {
-        text: LOADS,
-        asks: &[Move::Turn(1), Move::Turn(1)],
-        replaces: &[(&COMES_AGAIN, 3), (&[Move::Turn(1), Move::Turn(1)], 3)],
-        kinds: &[
-            (FrameKind::ReadReq, 1, 0),
-            (FrameKind::ReadReq, 1, 0),
-            (FrameKind::ReadRep, 0, 1),
-        ],
-        strings: &[(1, (REQUEST, None)), (2, (REPLY, Some(0)))],
-        nodes: &[HAS_LOADED],
-    },
-    Replaced {
-        text: NOTICE,
-        asks: &[Move::Turn(1), Move::Turn(1), Move::Turn(1)],
-        replaces: &[(&COMES_AGAIN, 3), (&NOTICE_GOES_ON, 9)],
-        kinds: &[
-            (FrameKind::WriteReq, 1, 0),
-            (FrameKind::WriteReq, 1, 0),
-            (FrameKind::WriteRep, 0, 1),
-        ],
-        strings: &[(1, (STORE_ASKS, None)), (2, (STORE_GETS, Some(0)))],
-        nodes: &[NOTICED, GIVEN_NOTICE],
-    },
-];
-
-/// The rest of the notice, with one string more before it.
-const NOTICE_GOES_ON: [Move; 16] = [
-    Move::Turn(1),
-    Move::Turn(1),
-    Move::Deliver { index: 3, to: 0 },
-    Move::Deliver { index: 4, to: 1 },
-    Move::Turn(1),
-    Move::Turn(0),
-    Move::Turn(0),
-    Move::Deliver { index: 5, to: 1 },
-    Move::Deliver { index: 6, to: 0 },
-    Move::Turn(0),
-    Move::Turn(0),
-    Move::Turn(0),
-    Move::Deliver { index: 7, to: 1 },
-    Move::Deliver { index: 8, to: 0 },
-    Move::Turn(0),
-    Move::Turn(0),
-];
-
-fn check_replaced<A: Allocator + Copy>(
-    rt: &impl Abort,
-    (n, alloc): (u64, A),
-    replaced: &Replaced,
-    world: &mut World<A>,
-) -> Result<(), Fail> {
-    expect_same_at(rt, n, world.sent().len(), 1);
+fn growths_of_the_heap(rt: HostRuntime) {
+    let text = asking_text(&rt, rt.alloc());
     let run = Run {
-        kinds: replaced.kinds,
-        strings: replaced.strings,
-        nodes: replaced.nodes,
+        text: text.as_str(),
+        stages: &[ASKING],
         ..IDLE
     };
-    check_world(rt, alloc, world, &run, replaced.replaces)
+    refuse_each(&rt, &run);
 }
+
+/// Programs of two nodes. Node 1 asks, and the delivery of its request to node 0 is refused. In the run a pulse and the
+/// delivery of what it sends replace that delivery: node 0 owned the page still, and gives it once.
+#[derive(Clone, Copy)]
+struct Replaced<'a> {
+    asks: &'a str,
+    run: Run<'a>,
+}
+
+/// The request comes again, and is answered.
+const COMES_AGAIN: Stage = ("1~0 1>0,1", 3);
+
+static LOAD_REPLACED: Replaced<'static> = Replaced {
+    asks: "1*2",
+    run: Run {
+        text: LOADS,
+        stages: &[COMES_AGAIN, ("1*2", 3)],
+        kinds: "ReadReq:1>0 ReadReq:1>0 ReadRep:0>1",
+        strings: &[(1, &[REQUEST, REPLY])],
+        nodes: &[HAS_LOADED],
+        ..IDLE
+    },
+};
+
+/// The rest of the notice has one string more before it.
+static NOTICE_REPLACED: Replaced<'static> = Replaced {
+    asks: "1*3",
+    run: Run {
+        text: NOTICE,
+        stages: &[COMES_AGAIN, ("1*2 3>0,1 1 0*2 5>1,0 0*3 7>1,0 0*2", 9)],
+        kinds: "WriteReq:1>0 WriteReq:1>0 WriteRep:0>1",
+        strings: &[(1, &[STORE_ASKS, STORE_GETS])],
+        nodes: &[NOTICED, GIVEN_NOTICE],
+        ..IDLE
+    },
+};
 
 /// Delivers the request with the n-th growth refused. Whether that growth was asked for.
 fn replaced_of<A: Allocator + Copy>(
     rt: &impl Abort,
-    (memory, alloc): (&Failing<Global>, A),
-    n: u64,
+    (memory, alloc, n): (&Failing<Global>, A, u64),
     replaced: &Replaced,
     world: &mut World<A>,
-) -> Result<bool, Fail> {
-    expect_same(rt, play(world, replaced.asks), Ok(()));
+) -> bool {
+    let asked = play(world, &moves_of(rt, alloc, replaced.asks));
+    expect_same(rt, asked, Ok(()));
     memory.refuse(n);
-    let answer = play(world, &IS_ASKED);
-    let met = memory.asked(n) >= n;
-    memory.refuse(0);
+    let answer = play(world, &[deliver(0, 0)]);
+    let met = met(memory, n);
     if met {
         expect_same_at(rt, n, answer, Err((0, Fault::Memory)));
-        check_replaced(rt, (n, alloc), replaced, world)?;
+        expect_same_at(rt, n, world.sent().len(), 1);
+        check_world(rt, alloc, world, &replaced.run);
     } else {
         expect_same_at(rt, n, answer, Ok(()));
     }
-    Ok(met)
+    met
 }
 
-fn replaced_at(
-    rt: &impl Abort,
-    memory: &Failing<Global>,
-    n: u64,
-    replaced: &Replaced,
-) -> Result<bool, Fail> {
-    let mut world = world(memory, PAIR, replaced.text)?;
-    replaced_of(rt, (memory, memory), n, replaced, &mut world)
-}
-
-fn replace_each(
-    rt: &impl Abort,
-    memory: &Failing<Global>,
-    replaced: &Replaced,
-) -> Result<(), Fail> {
-    for n in 1..MANY {
-        if !replaced_at(rt, memory, n, replaced)? {
-            assert!(rt; n > 1);
-            return Ok(());
-        }
+impl Refusable for Replaced<'_> {
+    fn is_met(&self, rt: &impl Abort, memory: &Failing<Global>, n: u64) -> bool {
+        let mut world = world(rt, memory, PAIR, self.run.text);
+        replaced_of(rt, (memory, memory, n), self, &mut world)
     }
-    Err("no end of growths".into())
 }
 
 /// A pulse and a delivery replace the delivery that was refused, and the programs go on to the same end.
 #[test]
-fn refused_delivery_replaced(rt: HostRuntime) -> Result<(), Fail> {
-    let memory = Failing::new(rt.alloc());
-    for replaced in &REPLACED {
-        replace_each(&rt, &memory, replaced)?;
-    }
-    Ok(())
+fn refused_delivery_replaced(rt: HostRuntime) {
+    refuse_each(&rt, &LOAD_REPLACED);
+    refuse_each(&rt, &NOTICE_REPLACED);
 }

@@ -1,14 +1,9 @@
 //! Blocks: calls of the heap, which node 0 serves at once and any other node asks node 0 for.
-use crate::worlds::common::{
-    IDLE, PAIR, Run, STUCK, Shown, Written, check_run, check_stages, expect_same,
-};
-use crate::worlds::eight_nodes::{Part, moves_of};
+use crate::common::{ALLOC_ASKS, ALLOC_GETS, PAIR, expect_same};
+use crate::worlds::common::{IDLE, Run, STUCK, Sent, Shown, Stage, check_run};
 use ivy_model::{Call, Record, Reply, check_order};
-use ivy_wire::FrameKind;
-use ivy_world::Move;
-use std::alloc::{AllocError, Allocator, Global};
+use std::alloc::Allocator;
 use std::process::Abort;
-use std::test::Fail;
 
 /// A block that is given at an address, in the value of a constant.
 macro_rules! allocated {
@@ -59,177 +54,100 @@ const PRINTED: [u64; 5] = [64, 64, 72, 0, 9];
 
 /// Node 0 sends nothing.
 #[test]
-fn calls_of_node_0(rt: HostRuntime) -> Result<(), Fail> {
-    let text = format!(in rt.alloc(); "node 0\n{CALLS}node 1\n")?;
+fn calls_of_node_0(rt: HostRuntime) {
+    let text = format!(in rt.alloc(); "node 0\n{CALLS}node 1\n").expect(&rt, "memory");
     let run = Run {
         text: text.as_str(),
         ..NODE_0_CALLS
     };
-    check_run(&rt, &run)
+    check_run(&rt, &run);
 }
 
 static NODE_0_CALLS: Run<'static> = Run {
-    stages: &[(&[Move::Turn(0); 18], 0)],
+    stages: &[("0*18", 0)],
     nodes: &[ended!(0, &answers!(0), &PRINTED)],
     ..IDLE
 };
 
 /// The programs where node 1 makes the calls.
-pub(crate) fn asking_text<A: Allocator + Copy>(alloc: A) -> Result<String<A>, Fail> {
-    Ok(format!(in alloc; "node 0\nnode 1\n{CALLS}")?)
+pub(crate) fn asking_text<A: Allocator + Copy>(rt: &impl Abort, alloc: A) -> String<A> {
+    format!(in alloc; "node 0\nnode 1\n{CALLS}").expect(rt, "memory")
 }
 
 /// Each of its calls is a string to node 0, and one back.
-const ASKING: [Part; 17] = [
-    Part::Turns(5, &[1]),
-    Part::Strings(0, &[0, 1]),
-    Part::Turns(2, &[1]),
-    Part::Strings(2, &[0, 1]),
-    Part::Turns(2, &[1]),
-    Part::Strings(4, &[0, 1]),
-    Part::Turns(2, &[1]),
-    Part::Strings(6, &[0, 1]),
-    Part::Turns(2, &[1]),
-    Part::Strings(8, &[0, 1]),
-    Part::Turns(2, &[1]),
-    Part::Strings(10, &[0, 1]),
-    Part::Turns(2, &[1]),
-    Part::Strings(12, &[0, 1]),
-    Part::Turns(2, &[1]),
-    Part::Strings(14, &[0, 1]),
-    Part::Turns(7, &[1]),
-];
-
-pub(crate) fn asking_moves<A: Allocator>(alloc: A) -> Result<Vec<Move, A>, AllocError> {
-    moves_of(alloc, &ASKING)
-}
+pub(crate) const ASKING: Stage = (
+    "1*5 0>0,1 1*2 2>0,1 1*2 4>0,1 1*2 6>0,1 1*2 8>0,1 1*2 10>0,1 1*2 12>0,1 1*2 14>0,1 1*7",
+    16,
+);
 
 /// Each string of its calls once more, late.
-static ASKING_AGAIN: [Move; 16] = [
-    Move::Deliver { index: 0, to: 0 },
-    Move::Deliver { index: 1, to: 1 },
-    Move::Deliver { index: 2, to: 0 },
-    Move::Deliver { index: 3, to: 1 },
-    Move::Deliver { index: 4, to: 0 },
-    Move::Deliver { index: 5, to: 1 },
-    Move::Deliver { index: 6, to: 0 },
-    Move::Deliver { index: 7, to: 1 },
-    Move::Deliver { index: 8, to: 0 },
-    Move::Deliver { index: 9, to: 1 },
-    Move::Deliver { index: 10, to: 0 },
-    Move::Deliver { index: 11, to: 1 },
-    Move::Deliver { index: 12, to: 0 },
-    Move::Deliver { index: 13, to: 1 },
-    Move::Deliver { index: 14, to: 0 },
-    Move::Deliver { index: 15, to: 1 },
-];
+const ASKING_AGAIN: Stage = ("0>0,1,0,1,0,1,0,1,0,1,0,1,0,1,0,1", 16);
 
-const ASKING_KINDS: [(FrameKind, u8, u8); 16] = [
-    (FrameKind::AllocReq, 1, 0),
-    (FrameKind::AllocRep, 0, 1),
-    (FrameKind::AllocReq, 1, 0),
-    (FrameKind::AllocRep, 0, 1),
-    (FrameKind::FreeReq, 1, 0),
-    (FrameKind::FreeRep, 0, 1),
-    (FrameKind::FreeReq, 1, 0),
-    (FrameKind::FreeRep, 0, 1),
-    (FrameKind::AllocReq, 1, 0),
-    (FrameKind::AllocRep, 0, 1),
-    (FrameKind::AllocReq, 1, 0),
-    (FrameKind::AllocRep, 0, 1),
-    (FrameKind::AllocReq, 1, 0),
-    (FrameKind::AllocRep, 0, 1),
-    (FrameKind::AllocReq, 1, 0),
-    (FrameKind::AllocRep, 0, 1),
-];
+const ASKING_KINDS: &str =
+    "AllocReq:1>0 AllocRep:0>1 AllocReq:1>0 AllocRep:0>1 FreeReq:1>0 FreeRep:0>1 FreeReq:1>0 \
+    FreeRep:0>1 AllocReq:1>0 AllocRep:0>1 AllocReq:1>0 AllocRep:0>1 AllocReq:1>0 \
+    AllocRep:0>1 AllocReq:1>0 AllocRep:0>1";
 
 /// The answer to the second call, the third call and its answer, the answer to the fourth, and the seventh call, of
 /// no bytes.
-const ASKING_SENT: [(usize, Written); 5] = [
-    string!(
+const ASKING_SENT: [Sent; 3] = [
+    (
         3,
-        "4956020800010012 0000000000000002 0000000000000001 01 0000000000000002 09 \
-        0000000000000000"
+        &[
+            "4956020800010012 0000000000000002 0000000000000001 01 0000000000000002 09 \
+        0000000000000000",
+            "4956020901000011 0000000000000003 0000000000000002 01 0000000000000003 \
+        0000000000000040",
+            "4956020a0001000a 0000000000000003 0000000000000002 01 0000000000000003 00",
+        ],
     ),
-    string!(
-        4,
-        "4956020901000011 0000000000000003 0000000000000002 01 0000000000000003 \
-        0000000000000040"
-    ),
-    string!(
-        5,
-        "4956020a0001000a 0000000000000003 0000000000000002 01 0000000000000003 00"
-    ),
-    string!(
+    (
         7,
-        "4956020a0001000a 0000000000000004 0000000000000003 01 0000000000000004 0a"
+        &["4956020a0001000a 0000000000000004 0000000000000003 01 0000000000000004 0a"],
     ),
-    string!(
+    (
         12,
-        "4956020701000011 0000000000000007 0000000000000006 01 0000000000000007 \
-        0000000000000000"
+        &[
+            "4956020701000011 0000000000000007 0000000000000006 01 0000000000000007 \
+        0000000000000000",
+        ],
     ),
 ];
 
 /// Node 1 is answered as node 0 is. A call that comes again is not served again.
 #[test]
-fn calls_of_node_1(rt: HostRuntime) -> Result<(), Fail> {
-    let text = asking_text(rt.alloc())?;
-    let moves = asking_moves(rt.alloc())?;
+fn calls_of_node_1(rt: HostRuntime) {
+    let text = asking_text(&rt, rt.alloc());
     let run = Run {
         text: text.as_str(),
         ..NODE_1_ASKS
     };
-    check_stages(&rt, &run, &[(&moves, 16), (&ASKING_AGAIN, 16)])
+    check_run(&rt, &run);
 }
 
 static NODE_1_ASKS: Run<'static> = Run {
-    kinds: &ASKING_KINDS,
+    stages: &[ASKING, ASKING_AGAIN],
+    kinds: ASKING_KINDS,
     strings: &ASKING_SENT,
     nodes: &[ended!(0, &[], &[]), ended!(1, &answers!(1), &PRINTED)],
     ..IDLE
 };
 
-/// Node 1 asks for eight bytes, as the first of its calls, and is given them at 64.
-const ALLOC_ASKS: &str =
-    "4956020701000011 0000000000000001 0000000000000000 01 0000000000000001 0000000000000008";
-
-const ALLOC_GETS: &str =
-    "4956020800010012 0000000000000001 0000000000000000 01 0000000000000001 00 0000000000000040";
-
-const ALLOC_MOVES: [Move; 6] = [
-    Move::Turn(1),
-    Move::Turn(1),
-    Move::Deliver { index: 0, to: 0 },
-    Move::Deliver { index: 1, to: 1 },
-    Move::Turn(1),
-    Move::Turn(1),
-];
-
 static ALLOC_RUN: Run<'static> = Run {
     text: "node 0\nnode 1\nset r1 8\nalloc r2 r1\nprint r2\n",
-    stages: &[(&ALLOC_MOVES, 2)],
-    strings: &[(0, (ALLOC_ASKS, None)), (1, (ALLOC_GETS, None))],
+    stages: &[("1*2 0>0,1 1*2", 2)],
+    strings: &[(0, &[ALLOC_ASKS, ALLOC_GETS])],
     nodes: &[ended!(1, &[EIGHT_AT_64], &[64])],
     ..IDLE
 };
 
 #[test]
-fn remote_alloc(rt: HostRuntime) -> Result<(), Fail> {
-    check_run(&rt, &ALLOC_RUN)
+fn remote_alloc(rt: HostRuntime) {
+    check_run(&rt, &ALLOC_RUN);
 }
 
 /// Node 0 serves the call of node 1, and then its own.
-const SERVED_0: [Move; 5] = [
-    Move::Turn(1),
-    Move::Turn(1),
-    Move::Deliver { index: 0, to: 0 },
-    Move::Turn(0),
-    Move::Turn(0),
-];
-
-/// The reply to node 1 comes.
-const SERVED_1: [Move; 2] = [Move::Deliver { index: 1, to: 1 }, Move::Turn(1)];
+const SERVED: Stage = ("1*2 0>0 0*2", 2);
 
 /// Both nodes ask for eight bytes.
 const BOTH: &str = "node 0
@@ -247,34 +165,29 @@ const EIGHT_AT_72: Record = answered!(0, Call::Alloc { size: 8 }, Reply::Value(7
 
 static IN_PROGRESS: Run<'static> = Run {
     text: BOTH,
-    stages: &[(&SERVED_0, 2)],
+    stages: &[SERVED],
     nodes: &[ended!(0, &[EIGHT_AT_72], &[]), Shown { node: 1, ..STUCK }],
     ..IDLE
 };
 
 /// Whether these records explain what both nodes were answered, in this order.
-fn check_explains(
-    rt: &impl Abort,
-    alloc: Global,
-    order: &[Record],
-    explains: bool,
-) -> Result<(), Fail> {
-    PAIR.check()?;
-    expect_same(rt, check_order(alloc, &PAIR, order)?, explains);
-    Ok(())
+fn explains(rt: &(impl Abort + AllocGlobal), order: &[Record]) -> bool {
+    PAIR.check().expect(rt, "a configuration");
+    check_order(rt.alloc(), &PAIR, order).expect(rt, "memory")
 }
 
 /// Node 0 is answered as if node 1, which has no reply yet, had been answered before.
 #[test]
-fn alloc_in_progress(rt: HostRuntime) -> Result<(), Fail> {
-    check_run(&rt, &IN_PROGRESS)?;
-    check_explains(&rt, rt.alloc(), &[EIGHT_AT_64, EIGHT_AT_72], true)?;
-    check_explains(&rt, rt.alloc(), &[EIGHT_AT_72], false)
+fn alloc_in_progress(rt: HostRuntime) {
+    check_run(&rt, &IN_PROGRESS);
+    expect_same(&rt, explains(&rt, &[EIGHT_AT_64, EIGHT_AT_72]), true);
+    expect_same(&rt, explains(&rt, &[EIGHT_AT_72]), false);
 }
 
+/// Then the reply to node 1 comes.
 static ANSWERED_LATER: Run<'static> = Run {
     text: BOTH,
-    stages: &[(&SERVED_0, 2), (&SERVED_1, 2)],
+    stages: &[SERVED, ("1>1 1", 2)],
     nodes: &[
         ended!(0, &[EIGHT_AT_72], &[]),
         ended!(1, &[EIGHT_AT_64], &[]),
@@ -284,6 +197,6 @@ static ANSWERED_LATER: Run<'static> = Run {
 
 /// Once that reply comes, node 1 is answered, too.
 #[test]
-fn alloc_answered_later(rt: HostRuntime) -> Result<(), Fail> {
-    check_run(&rt, &ANSWERED_LATER)
+fn alloc_answered_later(rt: HostRuntime) {
+    check_run(&rt, &ANSWERED_LATER);
 }

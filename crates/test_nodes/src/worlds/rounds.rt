@@ -1,39 +1,21 @@
 //! Rounds: in each of them every node pulses every other one, the strings of these pulses are delivered in the order
 //! sent, and every node has a turn. Whatever else is sent is lost.
-use crate::worlds::common::{TRIO, deliver, ends_of, expect_same_at, play, world};
+use crate::common::{TRIO, ends_of, expect_same_at};
+use crate::worlds::common::{deliver, play, world};
 use ivy_model::{Config, Kind};
 use ivy_world::{Move, World};
 use std::alloc::Allocator;
 use std::process::Abort;
-use std::test::Fail;
 
-/// Three nodes store to one word, load it, and meet twice by a count.
-const CROWD: &str = "node 0
-set r1 64
-set r2 1
-set r3 3
-set r4 6
-store 8 r1 r2
-advance r0
-await r5 r0 r3
-load 8 r6 r1
-advance r0
-await r5 r0 r4
-node 1
-set r1 64
-set r2 2
-set r3 3
-set r4 6
-store 8 r1 r2
-advance r0
-await r5 r0 r3
-load 8 r6 r1
-advance r0
-await r5 r0 r4
-node 2
-set r1 64
-set r2 3
-set r3 3
+/// Three nodes store to one word, load it, and meet twice by a count. Each node stores its own number, counted from 1.
+const CROWD: [&str; 3] = [
+    "node 0\nset r1 64\nset r2 1\n",
+    "node 1\nset r1 64\nset r2 2\n",
+    "node 2\nset r1 64\nset r2 3\n",
+];
+
+/// What each node does then.
+const MEETS: &str = "set r3 3
 set r4 6
 store 8 r1 r2
 advance r0
@@ -42,6 +24,16 @@ load 8 r6 r1
 advance r0
 await r5 r0 r4
 ";
+
+/// The programs of the nodes.
+fn crowd<A: Allocator>(rt: &impl Abort, alloc: A) -> String<A> {
+    let mut text = String::new(alloc);
+    for begins in CROWD {
+        text.push_str(begins).expect(rt, "memory");
+        text.push_str(MEETS).expect(rt, "memory");
+    }
+    text
+}
 
 /// How many calls they make together.
 const CALLS: u64 = 18;
@@ -114,27 +106,28 @@ fn answered<A: Allocator + Copy>(world: &World<A>) -> usize {
 }
 
 /// In so many rounds somebody was answered, until all were.
-fn check_rounds<R: Abort + AllocGlobal>(rt: &R, config: &Config) -> Result<(), Fail> {
-    let mut world = world(rt.alloc(), *config, CROWD)?;
+fn check_rounds(rt: &(impl Abort + AllocGlobal), config: &Config) {
+    let text = crowd(rt, rt.alloc());
+    let mut world = world(rt, rt.alloc(), *config, text.as_str());
     for call in 0..CALLS {
         let before = answered(&world);
         expect_same_at(rt, call, rounds(&mut world, config), true);
         let after = answered(&world);
         expect_same_at(rt, call, before < after || after as u64 == CALLS, true);
     }
-    Ok(expect_same_at(rt, CALLS, answered(&world) as u64, CALLS))
+    expect_same_at(rt, CALLS, answered(&world) as u64, CALLS);
 }
 
 #[test]
-fn rounds_of_managing_nodes(rt: HostRuntime) -> Result<(), Fail> {
-    check_rounds(&rt, &TRIO)
+fn rounds_of_managing_nodes(rt: HostRuntime) {
+    check_rounds(&rt, &TRIO);
 }
 
 #[test]
-fn rounds_of_hints(rt: HostRuntime) -> Result<(), Fail> {
+fn rounds_of_hints(rt: HostRuntime) {
     let config = Config {
         manager: Kind::Dynamic,
         ..TRIO
     };
-    check_rounds(&rt, &config)
+    check_rounds(&rt, &config);
 }

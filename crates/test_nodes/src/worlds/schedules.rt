@@ -1,14 +1,10 @@
 //! Accesses that are refused, schedules that are, worlds that are, and a request that is forwarded.
-use crate::worlds::common::{
-    IDLE, LOADS, PAIR, Run, Stage, TRIO, check_run, deliver, expect_same, expect_same_at, play,
-    world,
-};
+use crate::common::{PAIR, TRIO, expect_same_at};
+use crate::worlds::common::{IDLE, Run, check_run, moves_of, play, world};
 use ivy_model::{Call, Config, Fault, Kind, Record};
-use ivy_wire::FrameKind;
-use ivy_world::{Move, World};
-use std::alloc::{Allocator, Global};
-use std::process::Abort;
-use std::test::Fail;
+use ivy_world::{World, parse};
+use std::alloc::Global;
+use test_support::LOADS;
 
 const ACCESSES: &str = "node 0
 set r1 120
@@ -24,132 +20,84 @@ load 8 r2 r1
 node 1
 ";
 
+/// A load that is refused by a number, in the value of a constant.
+macro_rules! refused_load {
+    ($width:expr, $addr:expr, $fault:expr) => {
+        refused!(
+            0,
+            Call::Load {
+                width: $width,
+                addr: $addr,
+            },
+            $fault
+        )
+    };
+}
+
 const LOADED: [Record; 5] = [
     loaded!(0, 120, 0),
-    refused!(
-        0,
-        Call::Load {
-            width: 8,
-            addr: 121
-        },
-        3
-    ),
-    refused!(
-        0,
-        Call::Load {
-            width: 1,
-            addr: 128
-        },
-        4
-    ),
-    refused!(0, Call::Load { width: 1, addr: 0 }, 5),
-    refused!(
-        0,
-        Call::Load {
-            width: 8,
-            addr: 129
-        },
-        3
-    ),
+    refused_load!(8, 121, 3),
+    refused_load!(1, 128, 4),
+    refused_load!(1, 0, 5),
+    refused_load!(8, 129, 3),
 ];
 
 static ACCESSES_RUN: Run<'static> = Run {
     text: ACCESSES,
-    stages: &[(&[Move::Turn(0); 10], 0)],
+    stages: &[("0*10", 0)],
     nodes: &[ended!(0, &LOADED, &[])],
     ..IDLE
 };
 
 #[test]
-fn refused_accesses(rt: HostRuntime) -> Result<(), Fail> {
-    check_run(&rt, &ACCESSES_RUN)
+fn refused_accesses(rt: HostRuntime) {
+    check_run(&rt, &ACCESSES_RUN);
 }
 
 /// The request goes to node 1 and on to node 0, and its answer comes to node 2.
-const FORWARDED_MOVES: [Stage; 2] = [
-    (
-        &[
-            Move::Turn(2),
-            Move::Turn(2),
-            Move::Deliver { index: 0, to: 1 },
-            Move::Deliver { index: 1, to: 0 },
-        ],
-        3,
-    ),
-    (
-        &[
-            Move::Deliver { index: 2, to: 2 },
-            Move::Turn(2),
-            Move::Turn(2),
-        ],
-        3,
-    ),
-];
-
 static FORWARDED: Run<'static> = Run {
     config: TRIO,
     text: "node 0\nnode 1\nnode 2\nset r1 64\nload 8 r2 r1\nprint r2\n",
-    stages: &FORWARDED_MOVES,
-    kinds: &[
-        (FrameKind::ReadReq, 2, 1),
-        (FrameKind::ReadReq, 1, 0),
-        (FrameKind::ReadRep, 0, 2),
-    ],
+    stages: &[("2*2 0>1,0", 3), ("2>2 2*2", 3)],
+    kinds: "ReadReq:2>1 ReadReq:1>0 ReadRep:0>2",
     nodes: &[ended!(2, &[loaded!(2, 64, 0)], &[0])],
     ..IDLE
 };
 
 /// The managing node of the page hands the request on to the node that owns it.
 #[test]
-fn forwarded_read(rt: HostRuntime) -> Result<(), Fail> {
-    check_run(&rt, &FORWARDED)
+fn forwarded_read(rt: HostRuntime) {
+    check_run(&rt, &FORWARDED);
 }
 
-/// Makes moves of which the one at this place names nothing. Those before it are made.
-fn check_refused<A: Allocator + Copy>(
-    rt: &impl Abort,
-    world: &mut World<A>,
-    moves: &[Move],
-    place: usize,
-    sent: usize,
-) {
-    expect_same(rt, play(world, moves), Err((place, Fault::NoSuchFrame)));
-    expect_same(rt, world.sent().len(), sent);
-}
-
-/// A node, a string or a pulse that is not there.
-const NAMES: [Move; 5] = [
-    Move::Turn(2),
-    Move::Deliver { index: 0, to: 0 },
-    Move::Pulse { from: 0, to: 0 },
-    Move::Pulse { from: 0, to: 2 },
-    Move::Pulse { from: 2, to: 0 },
+/// Moves of which the one at a place names nothing, and how many strings were sent before it: a node, a string or a pulse
+/// that is not there.
+const NAMING_NOTHING: [(&str, usize, usize); 6] = [
+    ("2", 0, 0),
+    ("0>0", 0, 0),
+    ("0~0", 0, 0),
+    ("0~2", 0, 0),
+    ("2~0", 0, 0),
+    ("1*2 1>1", 2, 1),
 ];
 
-fn check_names<A: Allocator + Copy>(rt: &impl Abort, world: &mut World<A>) {
-    for step in NAMES {
-        check_refused(rt, world, &[step], 0, 0);
-    }
-}
-
-/// The moves before the one that names a string not sent are made.
+/// The moves before the one that names nothing are made.
 #[test]
-fn moves_that_name_nothing(rt: HostRuntime) -> Result<(), Fail> {
-    let mut world = world(rt.alloc(), PAIR, LOADS)?;
-    check_names(&rt, &mut world);
-    check_refused(
-        &rt,
-        &mut world,
-        &[Move::Turn(1), Move::Turn(1), deliver(1, 1)],
-        2,
-        1,
-    );
-    Ok(())
+fn moves_that_name_nothing(rt: HostRuntime) {
+    let mut world = world(&rt, rt.alloc(), PAIR, LOADS);
+    for (words, place, sent) in NAMING_NOTHING {
+        let made = play(&mut world, &moves_of(&rt, rt.alloc(), words));
+        expect_same_at(&rt, words, made, Err((place, Fault::NoSuchFrame)));
+        expect_same_at(&rt, words, world.sent().len(), sent);
+    }
 }
 
 /// The answer to a world of this configuration and these programs.
 fn refusal(alloc: Global, config: Config, text: &str) -> Option<Fault> {
-    world(alloc, config, text).err()
+    match parse(alloc, text) {
+        Ok(programs) => World::new(alloc, config, programs).err(),
+        Err(fault) => Some(fault),
+    }
 }
 
 const NINE: &str = "node 0\nnode 1\nnode 2\nnode 3\nnode 4\nnode 5\nnode 6\nnode 7\nnode 8\n";

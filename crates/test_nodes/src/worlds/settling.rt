@@ -1,16 +1,14 @@
 //! Worlds that settle: what they come to, after how many moves, what they wait for then, and each growth of it
 //! refused in turn.
-use crate::worlds::common::{
-    HAS_LOADED, LOADS, PAIR, STUCK, Shown, TRIO, expect_same, expect_same_at, play, shows, world,
-};
-use crate::worlds::counts::{GIVEN_NOTICE, NOTICE, NOTICED};
+use crate::common::{PAIR, Refusable, TRIO, expect_same, expect_same_at, met, refuse_each};
+use crate::worlds::common::{HAS_LOADED, STUCK, Shown, moves_of, play, shows, world};
+use crate::worlds::counts::{GIVEN_NOTICE, NOTICED};
 use crate::worlds::growths_of_worlds::same_worlds;
 use ivy_model::{Config, Fault, Kind};
-use ivy_world::{Move, Rest, World};
+use ivy_world::{Rest, World};
 use std::alloc::{Allocator, Global};
 use std::process::Abort;
-use std::test::Fail;
-use test_support::Failing;
+use test_support::{Failing, LOADS, NOTICE};
 
 /// More moves than any run here needs.
 const ENOUGH: u64 = 200;
@@ -55,7 +53,7 @@ fn settle<A: Allocator + Copy>(world: &mut World<A>, moves: u64) -> Result<Rest,
 #[derive(Clone, Copy)]
 enum Step<'a> {
     /// It makes these moves.
-    Plays(&'a [Move]),
+    Plays(&'a str),
     /// It settles in so many moves at most. What it comes to.
     Settles(u64, Rest),
     /// A node shows this, and awaits a count to be at least so much.
@@ -65,18 +63,23 @@ enum Step<'a> {
 }
 
 /// Whether the step goes as it says.
-fn goes<A: Allocator + Copy>(world: &mut World<A>, step: &Step) -> bool {
+fn goes<A: Allocator + Copy>(rt: &impl Abort, alloc: A, world: &mut World<A>, step: &Step) -> bool {
     match step {
-        Step::Plays(moves) => play(world, moves).is_ok(),
+        Step::Plays(words) => play(world, &moves_of(rt, alloc, words)).is_ok(),
         Step::Settles(moves, rest) => settle(world, *moves) == Ok(*rest),
         Step::Shows(shown, least) => { shows(world, shown) && awaits(world, shown.node) == *least }
         Step::Sent(count) => world.sent().len() == *count,
     }
 }
 
-fn check_steps<A: Allocator + Copy>(rt: &impl Abort, world: &mut World<A>, steps: &[Step]) {
+fn check_steps<A: Allocator + Copy>(
+    rt: &impl Abort,
+    alloc: A,
+    world: &mut World<A>,
+    steps: &[Step],
+) {
     for (index, step) in steps.iter().enumerate() {
-        expect_same_at(rt, index, goes(world, step), true);
+        expect_same_at(rt, index, goes(rt, alloc, world, step), true);
     }
 }
 
@@ -88,10 +91,9 @@ struct Scene<'a> {
     steps: &'a [Step<'a>],
 }
 
-fn check<R: Abort + AllocGlobal>(rt: &R, scene: &Scene) -> Result<(), Fail> {
-    let mut world = world(rt.alloc(), scene.config, scene.text)?;
-    check_steps(rt, &mut world, scene.steps);
-    Ok(())
+fn check(rt: &(impl Abort + AllocGlobal), scene: &Scene) {
+    let mut world = world(rt, rt.alloc(), scene.config, scene.text);
+    check_steps(rt, rt.alloc(), &mut world, scene.steps);
 }
 
 /// Two nodes under the dynamic manager.
@@ -101,11 +103,10 @@ const HINTS: Config = Config {
 };
 
 /// The same under either manager.
-fn check_both<R: Abort + AllocGlobal>(rt: &R, scene: &Scene) -> Result<(), Fail> {
+fn check_both(rt: &(impl Abort + AllocGlobal), scene: &Scene) {
     for config in [PAIR, HINTS] {
-        check(rt, &Scene { config, ..*scene })?;
+        check(rt, &Scene { config, ..*scene });
     }
-    Ok(())
 }
 
 static CROSSED_SCENE: Scene<'static> = Scene {
@@ -119,8 +120,8 @@ static CROSSED_SCENE: Scene<'static> = Scene {
 };
 
 #[test]
-fn awaits_that_cross(rt: HostRuntime) -> Result<(), Fail> {
-    check_both(&rt, &CROSSED_SCENE)
+fn awaits_that_cross(rt: HostRuntime) {
+    check_both(&rt, &CROSSED_SCENE);
 }
 
 static NOTICE_SCENE: Scene<'static> = Scene {
@@ -135,8 +136,8 @@ static NOTICE_SCENE: Scene<'static> = Scene {
 
 /// Node 0 is answered what node 1 stored before it advanced the count.
 #[test]
-fn notice_to_its_end(rt: HostRuntime) -> Result<(), Fail> {
-    check_both(&rt, &NOTICE_SCENE)
+fn notice_to_its_end(rt: HostRuntime) {
+    check_both(&rt, &NOTICE_SCENE);
 }
 
 static TOO_FEW: Scene<'static> = Scene {
@@ -152,8 +153,8 @@ static TOO_FEW: Scene<'static> = Scene {
 
 /// Two nodes end, and the third one awaits a count that was advanced once, to be two.
 #[test]
-fn one_too_few(rt: HostRuntime) -> Result<(), Fail> {
-    check(&rt, &TOO_FEW)
+fn one_too_few(rt: HostRuntime) {
+    check(&rt, &TOO_FEW);
 }
 
 /// The other node is not kept from its end.
@@ -168,8 +169,8 @@ static NEVER: Scene<'static> = Scene {
 };
 
 #[test]
-fn never_at_rest(rt: HostRuntime) -> Result<(), Fail> {
-    check(&rt, &NEVER)
+fn never_at_rest(rt: HostRuntime) {
+    check(&rt, &NEVER);
 }
 
 static AT_REST: Scene<'static> = Scene {
@@ -186,8 +187,8 @@ static AT_REST: Scene<'static> = Scene {
 
 /// A world of two nodes that stands still is found so after two moves, and not before.
 #[test]
-fn moves_of_a_world_at_rest(rt: HostRuntime) -> Result<(), Fail> {
-    check(&rt, &AT_REST)
+fn moves_of_a_world_at_rest(rt: HostRuntime) {
+    check(&rt, &AT_REST);
 }
 
 const FIRST_LOAD: Scene = Scene {
@@ -204,35 +205,28 @@ const FIRST_LOAD: Scene = Scene {
 /// two deliveries, and node 1 records; in the fourth it prints; and the fifth, in which no turn does anything, is
 /// the last one.
 #[test]
-fn moves_of_the_first_load(rt: HostRuntime) -> Result<(), Fail> {
+fn moves_of_the_first_load(rt: HostRuntime) {
     for short in 0..12 {
+        let steps = [Step::Settles(short, Rest::Going)];
         check(
             &rt,
             &Scene {
-                steps: &[Step::Settles(short, Rest::Going)],
+                steps: &steps,
                 ..FIRST_LOAD
             },
-        )?;
+        );
     }
-    check(&rt, &FIRST_LOAD)
+    check(&rt, &FIRST_LOAD);
 }
 
 /// The request is sent three times. The first answer comes to the wrong node, and the first request, too.
-const REPEATS: [Move; 7] = [
-    Move::Turn(1),
-    Move::Turn(1),
-    Move::Pulse { from: 1, to: 0 },
-    Move::Pulse { from: 1, to: 0 },
-    Move::Deliver { index: 1, to: 0 },
-    Move::Deliver { index: 0, to: 1 },
-    Move::Deliver { index: 2, to: 0 },
-];
+const REPEATS: &str = "1*2 1~0 1~0 1>0 0>1 2>0";
 
 /// The answer, behind three requests, is all that is under way. Then three rounds: node 1 records, and prints, and
 /// nothing happens.
 static AFTER_REPEATS: Scene<'static> = Scene {
     steps: &[
-        Step::Plays(&REPEATS),
+        Step::Plays(REPEATS),
         Step::Sent(4),
         Step::Settles(7, Rest::Still),
         Step::Shows(HAS_LOADED, None),
@@ -242,8 +236,8 @@ static AFTER_REPEATS: Scene<'static> = Scene {
 
 /// What was repeated and came too early before is settled as well.
 #[test]
-fn settled_after_repeats(rt: HostRuntime) -> Result<(), Fail> {
-    check(&rt, &AFTER_REPEATS)
+fn settled_after_repeats(rt: HostRuntime) {
+    check(&rt, &AFTER_REPEATS);
 }
 
 /// Settles two worlds, and asserts what they come to and that they show the same.
@@ -268,8 +262,7 @@ fn refused_of<A: Allocator + Copy>(
 ) -> bool {
     memory.refuse(n);
     let answer = settle(refused, ENOUGH);
-    let met = memory.asked(n) >= n;
-    memory.refuse(0);
+    let met = met(memory, n);
     let Err((made, fault)) = answer else {
         expect_same(rt, answer, Ok(Rest::Still));
         return met;
@@ -282,20 +275,18 @@ fn refused_of<A: Allocator + Copy>(
     true
 }
 
-fn refused_at(rt: &impl Abort, memory: &Failing<Global>, n: u64) -> Result<bool, Fail> {
-    let mut refused = world(memory, PAIR, NOTICE)?;
-    let mut twin = world(memory, PAIR, NOTICE)?;
-    Ok(refused_of(rt, memory, n, &mut refused, &mut twin))
+/// Two nodes settle.
+struct Settling;
+
+impl Refusable for Settling {
+    fn is_met(&self, rt: &impl Abort, memory: &Failing<Global>, n: u64) -> bool {
+        let mut refused = world(rt, memory, PAIR, NOTICE);
+        let mut twin = world(rt, memory, PAIR, NOTICE);
+        refused_of(rt, memory, n, &mut refused, &mut twin)
+    }
 }
 
 #[test]
-fn growths_of_settling(rt: HostRuntime) -> Result<(), Fail> {
-    let memory = Failing::new(rt.alloc());
-    for n in 1..ENOUGH {
-        if !refused_at(&rt, &memory, n)? {
-            assert!(rt; n > 1);
-            return Ok(());
-        }
-    }
-    Err("no end of growths".into())
+fn growths_of_settling(rt: HostRuntime) {
+    refuse_each(&rt, &Settling);
 }

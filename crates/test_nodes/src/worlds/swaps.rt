@@ -1,9 +1,6 @@
 //! Swaps: of words that the node has to fault for first, and of each width.
-use crate::worlds::common::{IDLE, Run, Stage, check_run};
+use crate::worlds::common::{IDLE, Run, WRITES, check_run};
 use ivy_model::{Call, Reply};
-use ivy_wire::FrameKind;
-use ivy_world::Move;
-use std::test::Fail;
 
 /// A swap of a number into a place, in the value of a constant.
 macro_rules! swap {
@@ -26,23 +23,8 @@ swap 8 r3 r1 r2
 load 8 r3 r1
 ";
 
-/// The page comes between the turns in which the first swap asks and is answered.
-const TWICE_MOVES: [Stage; 3] = [
-    (&[Move::Turn(1); 3], 1),
-    (
-        &[
-            Move::Deliver { index: 0, to: 0 },
-            Move::Deliver { index: 1, to: 1 },
-        ],
-        2,
-    ),
-    (&[Move::Turn(1); 4], 2),
-];
-
 static TWICE_RUN: Run<'static> = Run {
     text: TWICE,
-    stages: &TWICE_MOVES,
-    kinds: &[(FrameKind::WriteReq, 1, 0), (FrameKind::WriteRep, 0, 1)],
     nodes: &[ended!(
         1,
         &[
@@ -52,13 +34,13 @@ static TWICE_RUN: Run<'static> = Run {
         ],
         &[]
     )],
-    ..IDLE
+    ..WRITES
 };
 
 /// The first swap asks for the page as a store does. The second one has it.
 #[test]
-fn swaps_of_a_page_that_comes(rt: HostRuntime) -> Result<(), Fail> {
-    check_run(&rt, &TWICE_RUN)
+fn swaps_of_a_page_that_comes(rt: HostRuntime) {
+    check_run(&rt, &TWICE_RUN);
 }
 
 const WIDTHS: &str = "node 0
@@ -83,7 +65,7 @@ node 1
 
 static WIDTHS_RUN: Run<'static> = Run {
     text: WIDTHS,
-    stages: &[(&[Move::Turn(0); 16], 0)],
+    stages: &[("0*16", 0)],
     nodes: &[ended!(
         0,
         &[
@@ -101,6 +83,6 @@ static WIDTHS_RUN: Run<'static> = Run {
 
 /// A swap of one byte leaves those beside it. One that is refused keeps its register.
 #[test]
-fn widths_of_swaps(rt: HostRuntime) -> Result<(), Fail> {
-    check_run(&rt, &WIDTHS_RUN)
+fn widths_of_swaps(rt: HostRuntime) {
+    check_run(&rt, &WIDTHS_RUN);
 }

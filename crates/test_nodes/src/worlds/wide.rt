@@ -1,5 +1,6 @@
 //! Worlds of more than 256 pages: which are opened, and the last word of their heap.
-use crate::worlds::common::{PAIR, Shown, expect_same, expect_same_at, shows};
+use crate::common::{PAIR, expect_same, expect_same_at};
+use crate::worlds::common::{Shown, shows};
 use ivy_model::{Call, Config, Fault};
 use ivy_world::{Rest, World, parse};
 use std::alloc::{Allocator, Global};

@@ -2,4 +2,4 @@ use Rattle.std.proofs.Common.{◌≡◌, length}
 use Rattle.test_layers.proofs.link.keep_many.Given as goal
 
 abbrev pub invariant-loop : goal.invariant-loop
-invariant-loop l = length l.link.peers ≡ 3
+invariant-loop g l = length l.link.peers ≡ 3
