@@ -14,6 +14,8 @@ time, are not counted. Of each line the mean over all seeds is printed.
 |---|---|
 | `count`, `words`, `tree` | they meet: by an eventcount, by two words on two pages, by a tree of four |
 | `reduce count`, `reduce words`, `reduce tree` | each stores a number, they meet, and each loads all numbers |
+| `give count` | one stores a number, they meet, and each loads it |
+| `fold` | they add up their numbers by a tree of four, and each gets the sum: a number of node 0 reaches all by the same calls |
 | `spin`, `tickets`, `places` | each adds 1 to a word of the same page, under a lock: by swaps, by tickets and a count, by places |
 """
 import ctypes
@@ -152,6 +154,35 @@ def reduces(meet):
     return program
 
 
+def gives(me, nodes, first, last):
+    for phase in range(first, last):
+        if me == 0:
+            yield store(80 * PAGE, phase)
+        yield from by_count(me, nodes, 2 * phase - 1)
+        found = yield load(80 * PAGE)
+        assert found == phase
+        yield from by_count(me, nodes, 2 * phase)
+
+
+def folds(me, nodes, first, last):
+    raised, opened = 3 * PAGE, 40 * PAGE
+    for phase in range(first, last):
+        children = range(4 * me + 1, min(4 * me + 5, nodes))
+        for child in children:
+            yield from look(raised + PAGE * child, phase)
+        part = phase
+        for child in children:
+            part += yield load(raised + PAGE * child + 8)
+        yield store(raised + PAGE * me + 8, part)
+        yield store(raised + PAGE * me, phase)
+        if me:
+            yield from look(opened + PAGE * ((me - 1) // 4), phase)
+            part = yield load(opened + PAGE * ((me - 1) // 4) + 8)
+        yield store(opened + PAGE * me + 8, part)
+        yield store(opened + PAGE * me, phase)
+        assert part == phase * nodes
+
+
 def spin(me, nodes, turn):
     while (yield (SWAP, 8, 81 * PAGE, 1, 0)):
         pass
@@ -184,6 +215,7 @@ def adds(lock):
 def tables(library, seeds, wanted):
     lines = {"count": meets(by_count), "words": meets(by_words), "tree": meets(by_tree),
              "reduce count": reduces(by_count), "reduce words": reduces(by_words), "reduce tree": reduces(by_tree),
+             "give count": gives, "fold": folds,
              "spin": adds(spin), "tickets": adds(tickets), "places": adds(places)}
     print("| Line, manager | " + " | ".join(f"{n} nodes" for n in NODES) + " |")
     print("|---" * (1 + len(NODES)) + "|")

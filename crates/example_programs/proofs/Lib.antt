@@ -18,3 +18,4 @@ pub mod Reading
 pub mod Ringing
 pub mod Counting
 pub mod Bidding
+pub mod Folding

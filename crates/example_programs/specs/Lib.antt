@@ -17,3 +17,4 @@ pub mod Ring
 pub mod Rings
 pub mod InOrder
 pub mod Highest
+pub mod Trees

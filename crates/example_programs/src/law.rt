@@ -9,6 +9,7 @@ ghost use Rattle.example_programs.specs.Pipeline.{PipelinesMap};
 ghost use Rattle.example_programs.specs.Product.{ProductsByRows};
 ghost use Rattle.example_programs.specs.Rings.{TreeRingsMeet, TreeRingsTurn, WordRingsMeet, WordRingsTurn};
 ghost use Rattle.example_programs.specs.RollCall.{AllAreCalled};
+ghost use Rattle.example_programs.specs.Trees.{AllHearNode0, AllNameTheHighestByTree};
 ghost use Rattle.example_programs.specs.Turns.{OneTicketAtATime, OneTurnAtATime};
 
 /// All nodes read the sum of their numbers.
@@ -84,4 +85,14 @@ pub fn all_are_counted()
 /// All nodes name the highest bid.
 pub fn all_name_the_highest()
     ensures { AllNameTheHighest }
+{}
+
+/// All nodes name the highest bid, where they bid by a tree.
+pub fn all_name_the_highest_by_tree()
+    ensures { AllNameTheHighestByTree }
+{}
+
+/// All nodes give node 0's number, which a tree brings to them.
+pub fn all_hear_node_0()
+    ensures { AllHearNode0 }
 {}

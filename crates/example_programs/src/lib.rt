@@ -22,6 +22,7 @@ mod product;
 mod readers_writer;
 mod rings;
 mod roll_call;
+mod trees;
 mod turns;
 mod work_queue;
 
@@ -31,10 +32,10 @@ pub use farm::Farm;
 pub use highest::Highest;
 pub use in_order::InOrder;
 pub use law::{
-    all_are_called, all_are_counted, all_name_the_highest, all_read_the_sum, each_job_once,
-    made_locks_exclude, one_place_at_a_time, one_ticket_at_a_time, one_turn_at_a_time,
-    pipelines_map, products_by_rows, tree_rings_meet, tree_rings_turn, word_rings_meet,
-    word_rings_turn,
+    all_are_called, all_are_counted, all_hear_node_0, all_name_the_highest,
+    all_name_the_highest_by_tree, all_read_the_sum, each_job_once, made_locks_exclude,
+    one_place_at_a_time, one_ticket_at_a_time, one_turn_at_a_time, pipelines_map, products_by_rows,
+    tree_rings_meet, tree_rings_turn, word_rings_meet, word_rings_turn,
 };
 pub use made_lock::MadeLock;
 pub use matrix::Matrices;
@@ -44,5 +45,6 @@ pub use product::Product;
 pub use readers_writer::{Ledger, ReadersWriter};
 pub use rings::{TreeRing, WordRing};
 pub use roll_call::RollCall;
+pub use trees::{Herald, HighestByTree};
 pub use turns::{ByNumbers, ByTickets};
 pub use work_queue::{Squares, WorkQueue};

@@ -1,10 +1,13 @@
 //! Whole programs. The other nodes run before the one that is tried, or their calls are made by hand.
 use crate::sync::common::{AsNode, expect_same, small};
 use example_programs::{
-    AddsUp, Farm, Highest, InOrder, Pipeline, Product, Stage, TreeRing, WordRing,
+    AddsUp, Farm, Herald, Highest, HighestByTree, InOrder, Pipeline, Product, Stage, TreeRing,
+    WordRing,
 };
 use ivy_calls::{SharedMemory, Work, advance_count, fetch_add, store};
-use ivy_sync::{ArrayLock, Barrier, Lock, Queue, Reduction, TreeBarrier, WordBarrier};
+use ivy_sync::{
+    ArrayLock, Barrier, Lock, Queue, Reduction, TreeBarrier, TreeReduction, WordBarrier,
+};
 use std::process::Abort;
 use std::test::Fail;
 
@@ -198,4 +201,48 @@ fn the_highest_of_two(rt: HostRuntime) {
     expect_same(&rt, store(&mut memory, 72, 5u64), Ok(()));
     expect_same(&rt, advance_count(&mut memory, 0), Ok(()));
     let _memory = expect_given(&rt, &work, 0, memory, 7);
+}
+
+/// The words of two nodes, four each.
+const BOTH: TreeReduction = TreeReduction {
+    tree: TreeBarrier {
+        raised: 64,
+        opened: 72,
+        apart: 32,
+        nodes: 2,
+        passed: 0,
+    },
+    part: 80,
+    given: 88,
+};
+
+#[test]
+fn the_higher_by_a_tree(rt: HostRuntime) {
+    let mut memory = small(&rt, rt.alloc());
+    let mut bids = [0; 32];
+    bids[0] = 5;
+    bids[1] = 7;
+    let work = HighestByTree {
+        bids,
+        reduction: BOTH,
+    };
+    // node 1 has bid
+    expect_same(&rt, store(&mut memory, 112, 7u64), Ok(()));
+    expect_same(&rt, store(&mut memory, 96, 1u64), Ok(()));
+    let _memory = expect_given(&rt, &work, 0, memory, 7);
+}
+
+#[test]
+fn what_node_0_tells(rt: HostRuntime) {
+    let mut memory = small(&rt, rt.alloc());
+    let mut numbers = [0; 32];
+    numbers[1] = 4;
+    let work = Herald {
+        numbers,
+        reduction: BOTH,
+    };
+    // node 0 has told 9
+    expect_same(&rt, store(&mut memory, 88, 9u64), Ok(()));
+    expect_same(&rt, store(&mut memory, 72, 1u64), Ok(()));
+    let _memory = expect_given(&rt, &work, 1, memory, 9);
 }

@@ -5,7 +5,7 @@ use ivy_calls::{CallError, SharedMemory, advance_count, alloc, fetch_add, free, 
 use ivy_model::{Call, Fault};
 use ivy_sync::{
     ArrayLock, Barrier, Broadcast, Lock, Once, Queue, Receiver, Reduction, Sender, SharedSender,
-    SyncError, TicketLock, TreeBarrier, WordBarrier, touch,
+    SyncError, TicketLock, TreeBarrier, TreeReduction, WordBarrier, touch,
 };
 use std::process::Abort;
 
@@ -169,6 +169,68 @@ fn a_barrier_by_a_tree(rt: HostRuntime) {
         spent.wait(&mut memory, 0),
         Err(SyncError::Spent { place: 64 }),
     );
+}
+
+/// The words of six nodes, four each: raised, opened, part and given.
+const FOLD: TreeReduction = TreeReduction {
+    tree: TreeBarrier {
+        raised: 64,
+        opened: 72,
+        apart: 32,
+        nodes: 6,
+        passed: 0,
+    },
+    part: 80,
+    given: 88,
+};
+
+#[test]
+fn a_reduction_by_a_tree(rt: HostRuntime) {
+    let mut memory = small(&rt, rt.alloc());
+    // node 1 has child 5, which leaves 9, and node 0 the nodes 1 to 4
+    for (addr, value) in [
+        (240, 9u64),
+        (224, 1),
+        (144, 3),
+        (128, 1),
+        (176, 20),
+        (160, 1),
+    ] {
+        expect_same(&rt, store(&mut memory, addr, value), Ok(()));
+    }
+    for (addr, value) in [(208, 7u64), (192, 1), (88, 50), (72, 1)] {
+        expect_same(&rt, store(&mut memory, addr, value), Ok(()));
+    }
+    let mut child = FOLD;
+    let given = child.fold(&mut memory, 1, 4, |most: u64, other: u64| most.max(other));
+    expect_same(&rt, given, Ok(50));
+    for (addr, wanted) in [(112, 9u64), (96, 1), (120, 50), (104, 1)] {
+        expect_same(&rt, load(&mut memory, addr), Ok(wanted));
+    }
+    let mut root = FOLD;
+    let given = root.fold(&mut memory, 0, 11, |most: u64, other: u64| most.max(other));
+    expect_same(&rt, given, Ok(20));
+    expect_same(&rt, load(&mut memory, 88), Ok(20u64));
+    expect_same(&rt, (root.tree.passed, child.tree.passed), (1, 1));
+}
+
+#[test]
+fn a_broadcast_by_a_tree(rt: HostRuntime) {
+    let mut memory = small(&rt, rt.alloc());
+    let mut alone = FOLD;
+    alone.tree.nodes = 1;
+    expect_same(&rt, alone.share(&mut memory, 0, 5), Ok(5));
+    expect_same(&rt, alone.share(&mut memory, 0, 6), Ok(6));
+    expect_same(&rt, load(&mut memory, 72), Ok(2u64));
+    // node 5 has no child, and node 1 is its parent
+    let mut leaf = FOLD;
+    expect_same(&rt, store(&mut memory, 120, 8u64), Ok(()));
+    expect_same(&rt, store(&mut memory, 104, 1u64), Ok(()));
+    expect_same(&rt, leaf.share(&mut memory, 5, 4), Ok(8));
+    expect_same(&rt, load(&mut memory, 248), Ok(8u64));
+    leaf.tree.passed = u64::MAX;
+    let spent = Err(SyncError::Spent { place: 64 });
+    expect_same(&rt, leaf.share(&mut memory, 5, 4), spent);
 }
 
 #[test]
