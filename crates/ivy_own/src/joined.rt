@@ -2,7 +2,7 @@
 ghost use Rattle.std.specs.Prelude.{◌≡◌, ◌<◌, ◌≤◌, ℕ, Some, IfErr, IfOk, IfSome, length, slice_get, vec_len, vec_capacity};
 ghost use Rattle.ivy_workers.specs.Stops.{IsStop};
 ghost use Rattle.ivy_own.specs.Ended.{HasEnded};
-ghost use Rattle.ivy_own.specs.Faults.{IsOwnStop};
+ghost use Rattle.ivy_own.specs.Faults.{IsNamedIn, IsOwnStop};
 
 use crate::fault::OwnFault;
 use crate::{Half, Naming};
@@ -79,7 +79,8 @@ pub(crate) fn first_given_up<T: Drop, J: Naming>(
     all: &[Result<Ended<T, J>, GivenUp>],
 ) -> Option<OwnFault>
     requires { length all.now < 256 }
-    ensures { IfSome result (IsOwnStop (length all.now)) }
+    ensures named { IfSome result (IsNamedIn all.now) }
+    ensures stop { IfSome result (IsOwnStop (length all.now)) }
 {
     let mut node = 0u8;
     for given in all {

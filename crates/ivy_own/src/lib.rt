@@ -28,6 +28,7 @@ mod owned;
 mod places;
 mod report;
 mod session;
+mod side;
 mod tie;
 mod workers;
 

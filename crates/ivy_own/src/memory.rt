@@ -7,7 +7,8 @@ ghost use Rattle.ivy_workers.specs.Stops.{IsStop};
 ghost use Rattle.ivy_own.specs.OwnSeats.{grown, grown_by};
 
 use crate::owned::OwnSeat;
-use crate::{Half, Naming, Tie};
+use crate::side::Side;
+use crate::{Half, Naming};
 use ivy_calls::{Answer, SharedMemory};
 use ivy_model::{Call, Fault, Reply, Row};
 use ivy_workers::{ProgramWorker, Turnstile};
@@ -21,22 +22,17 @@ use std::sync::Wait;
 #[derive(Drop)]
 pub(crate) struct OwnMemory<'r, 's, 'g, 'a, 't, T, J: Naming, A: Allocator, R, G> {
     worker: ProgramWorker<'r, 's, 'g, 'a, T, A, R, G>,
-    tie: &'t Tie<Answer, J, A>,
-    mine: Half<Answer, J>,
-    me: u8,
+    side: Side<'t, J, A>,
 }
 
 impl<'r, 's, 'g, 'a, 't, T, J: Naming, A: Allocator, R, G> Model
     for OwnMemory<'r, 's, 'g, 'a, 't, T, J, A, R, G> {
-    ghost use Rattle.std.specs.Prelude.{◌≡◌};
     ghost use Rattle.ivy_own.specs.Known.{Listed};
     ghost use Rattle.ivy_calls.specs.declared.answer.Answer.{Answer};
 
     ghost Value = { Listed Answer };
 
-    ghost view = { λ m. m.mine };
-
-    ghost invariant = { λ m. m.mine.number ≡ m.me };
+    ghost view = { λ m. m.side };
 }
 
 impl<'r, 's, 'g, 'a, 't, T, J, A, R, G> OwnMemory<'r, 's, 'g, 'a, 't, T, J, A, R, G>
@@ -47,42 +43,29 @@ where
     R: Wait,
     G: Turnstile,
 {
-    /// The memory of node `me`, by its worker, where `mine` is the worker's half of the list of its answers.
+    /// The memory of a node, by its worker, with the worker's side of the list of its answers.
     pub(crate) fn new(
         worker: ProgramWorker<'r, 's, 'g, 'a, T, A, R, G>,
-        tie: &'t Tie<Answer, J, A>,
-        mine: Half<Answer, J>,
-        me: u8,
+        side: Side<'t, J, A>,
     ) -> Self
-        requires { mine.number ≡ me }
-        ensures { result ≡ mine }
+        ensures { result ≡ side.entry }
     {
-        OwnMemory {
-            worker,
-            tie,
-            mine,
-            me,
-        }
+        OwnMemory { worker, side }
     }
 
     /// The worker's half of the list.
     pub(crate) fn into_mine(self) -> Half<Answer, J>
         ensures { result ≡ self.entry }
     {
-        let OwnMemory {
-            worker: _,
-            tie: _,
-            mine,
-            me: _,
-        } = self;
-        mine
+        let OwnMemory { worker: _, side } = self;
+        side.into_mine()
     }
 
     /// The number of the node.
     pub(crate) fn me(&self) -> u8
         ensures { result ≡ self.now.number }
     {
-        self.me
+        self.side.me()
     }
 
     /// The first turn for a call [1, 17, 21]. It gives the reply, where that is there then.
@@ -95,7 +78,7 @@ where
         let Some(mut seat) = self.worker.enter() else {
             return Err(Fault::TurnLimit);
         };
-        let came = seat.begin(self.tie, &mut self.mine, self.me, call);
+        let came = seat.begin(&mut self.side, call);
         self.worker.leave(seat, matches!(came, Ok(None)));
         came
     }
@@ -108,7 +91,7 @@ where
         let Some(mut seat) = self.worker.enter() else {
             return Err(Fault::TurnLimit);
         };
-        let came = seat.go_on(self.tie, &mut self.mine, self.me, call);
+        let came = seat.go_on(&mut self.side, call);
         self.worker.leave(seat, matches!(came, Ok(None)));
         came
     }
@@ -140,7 +123,7 @@ where
             let Some(mut seat) = self.worker.enter() else {
                 return 0;
             };
-            let words = seat.take_loads(self.tie, &mut self.mine, self.me, addr, into);
+            let words = seat.take_loads(&mut self.side, addr, into);
             self.worker.leave(seat, words == 0);
             if words > 0 {
                 return words;
@@ -160,7 +143,7 @@ where
             let Some(mut seat) = self.worker.enter() else {
                 return 0;
             };
-            let words = seat.take_stores(self.tie, &mut self.mine, self.me, addr, from);
+            let words = seat.take_stores(&mut self.side, addr, from);
             self.worker.leave(seat, words == 0);
             if words > 0 {
                 return words;
@@ -199,8 +182,8 @@ where
         let Some(mut seat) = self.worker.enter() else {
             return 0;
         };
-        let words = seat.load_row(self.tie, &mut self.mine, self.me, addr, into);
-        let waits = words == 0 && seat.call_row(self.me, Row::Loads, addr, into);
+        let words = seat.load_row(&mut self.side, addr, into);
+        let waits = words == 0 && seat.call_row(self.side.me(), Row::Loads, addr, into);
         self.worker.leave(seat, waits);
         if waits {
             return self.wait_for_loads(addr, into);
@@ -213,8 +196,8 @@ where
         let Some(mut seat) = self.worker.enter() else {
             return 0;
         };
-        let words = seat.store_row(self.tie, &mut self.mine, self.me, addr, from);
-        let waits = words == 0 && seat.call_row(self.me, Row::Stores, addr, from);
+        let words = seat.store_row(&mut self.side, addr, from);
+        let waits = words == 0 && seat.call_row(self.side.me(), Row::Stores, addr, from);
         self.worker.leave(seat, waits);
         if waits {
             return self.wait_for_stores(addr, from);

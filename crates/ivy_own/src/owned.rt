@@ -8,7 +8,8 @@ ghost use Rattle.ivy_calls.specs.BlockAnswers.{in_row};
 ghost use Rattle.ivy_workers.specs.Stops.{IsStop};
 ghost use Rattle.ivy_own.specs.OwnSeats.{IsOwned, IsReady, IsAsked, TurnsOwn, grown, grown_by, last_reply_in};
 
-use crate::{Half, Naming, Tells, Tie};
+use crate::side::Side;
+use crate::{Half, Naming, Tie};
 use ivy_calls::Answer;
 use ivy_ether::Setup;
 use ivy_model::{Call, Fault, Reply, Row};
@@ -22,56 +23,26 @@ use std::sync::Wait;
 /// node's answers.
 pub(crate) trait OwnSeat<J: Naming, A: Allocator>: Seat {
     /// The worker of node `me` makes a call, and its first turn [1, 17, 21]. It gives the reply, where that is there then.
-    fn begin(
-        &mut self,
-        tie: &Tie<Answer, J, A>,
-        mine: &mut Half<Answer, J>,
-        me: u8,
-        call: Call,
-    ) -> Result<Option<Reply>, Fault>
+    fn begin(&mut self, side: &mut Side<'_, J, A>, call: Call) -> Result<Option<Reply>, Fault>
         requires width { HasWidth call }
-        requires mine { mine.old.number ≡ me }
-        ensures grows { MatchResult result (λ reply. mine.new ≡ grown call reply mine.old) (λ _. mine.new ≡ mine.old) }
+        ensures grows { MatchResult result (λ reply. side.new ≡ grown call reply side.old) (λ _. side.new ≡ side.old) }
         ensures stop { IfErr result IsStop };
 
     /// One turn more for the call of node `me` that is in progress [1, 17, 21]. It gives the reply, where that is there then.
-    fn go_on(
-        &mut self,
-        tie: &Tie<Answer, J, A>,
-        mine: &mut Half<Answer, J>,
-        me: u8,
-        call: Call,
-    ) -> Result<Option<Reply>, Fault>
-        requires mine { mine.old.number ≡ me }
-        ensures grows { MatchResult result (λ reply. mine.new ≡ grown call reply mine.old) (λ _. mine.new ≡ mine.old) }
+    fn go_on(&mut self, side: &mut Side<'_, J, A>, call: Call) -> Result<Option<Reply>, Fault>
+        ensures grows { MatchResult result (λ reply. side.new ≡ grown call reply side.old) (λ _. side.new ≡ side.old) }
         ensures stop { IfErr result IsStop };
 
     /// The worker of node `me` reads words of 8 bytes in a row, from `addr` on: as many as are at hand at once, which it says.
-    fn load_row(
-        &mut self,
-        tie: &Tie<Answer, J, A>,
-        mine: &mut Half<Answer, J>,
-        me: u8,
-        addr: u64,
-        into: &mut [u8],
-    ) -> usize
-        requires mine { mine.old.number ≡ me }
-        ensures grows { mine.new ≡ grown_by (in_row Row.Loads addr (numbers_in result into.new)) mine.old }
+    fn load_row(&mut self, side: &mut Side<'_, J, A>, addr: u64, into: &mut [u8]) -> usize
+        ensures grows { side.new ≡ grown_by (in_row Row.Loads addr (numbers_in result into.new)) side.old }
         ensures fits { 8 * result ≤ length into.old }
         ensures sized { length into.new ≡ length into.old };
 
     /// The worker of node `me` writes words of 8 bytes in a row, from `addr` on: as many as are at hand at once, which it
     /// says.
-    fn store_row(
-        &mut self,
-        tie: &Tie<Answer, J, A>,
-        mine: &mut Half<Answer, J>,
-        me: u8,
-        addr: u64,
-        from: &[u8],
-    ) -> usize
-        requires mine { mine.old.number ≡ me }
-        ensures grows { mine.new ≡ grown_by (in_row Row.Stores addr (numbers_in result from.now)) mine.old }
+    fn store_row(&mut self, side: &mut Side<'_, J, A>, addr: u64, from: &[u8]) -> usize
+        ensures grows { side.new ≡ grown_by (in_row Row.Stores addr (numbers_in result from.now)) side.old }
         ensures fits { 8 * result ≤ length from.now };
 
     /// The worker of node `me` makes the calls of words of 8 bytes in a row together, from `addr` on, where the first has
@@ -80,31 +51,15 @@ pub(crate) trait OwnSeat<J: Naming, A: Allocator>: Seat {
 
     /// The worker of node `me` takes the replies to the loads in a row from `addr` on that are in progress: so many, which
     /// it says; none where they are not there.
-    fn take_loads(
-        &mut self,
-        tie: &Tie<Answer, J, A>,
-        mine: &mut Half<Answer, J>,
-        me: u8,
-        addr: u64,
-        into: &mut [u8],
-    ) -> usize
-        requires mine { mine.old.number ≡ me }
-        ensures grows { mine.new ≡ grown_by (in_row Row.Loads addr (numbers_in result into.new)) mine.old }
+    fn take_loads(&mut self, side: &mut Side<'_, J, A>, addr: u64, into: &mut [u8]) -> usize
+        ensures grows { side.new ≡ grown_by (in_row Row.Loads addr (numbers_in result into.new)) side.old }
         ensures fits { 8 * result ≤ length into.old }
         ensures sized { length into.new ≡ length into.old };
 
     /// The worker of node `me` takes the replies to the stores of these bytes in a row from `addr` on that are in progress:
     /// so many, which it says; none where they are not there.
-    fn take_stores(
-        &mut self,
-        tie: &Tie<Answer, J, A>,
-        mine: &mut Half<Answer, J>,
-        me: u8,
-        addr: u64,
-        from: &[u8],
-    ) -> usize
-        requires mine { mine.old.number ≡ me }
-        ensures grows { mine.new ≡ grown_by (in_row Row.Stores addr (numbers_in result from.now)) mine.old }
+    fn take_stores(&mut self, side: &mut Side<'_, J, A>, addr: u64, from: &[u8]) -> usize
+        ensures grows { side.new ≡ grown_by (in_row Row.Stores addr (numbers_in result from.now)) side.old }
         ensures fits { 8 * result ≤ length from.now };
 }
 
@@ -153,42 +108,23 @@ fn turn_once<S: Setup, A: Allocator + Copy>(
     Ok(last_reply(seated.site()))
 }
 
-/// Both halves of the list of a node's answers know the reply to a call, where it has one.
-#[inline(always)]
-fn tell<J: Naming, A: Allocator + Copy>(
-    tie: &Tie<Answer, J, A>,
-    half: &mut Half<Answer, J>,
-    mine: &mut Half<Answer, J>,
-    call: Call,
-    came: Option<Reply>,
-)
-    requires mine { mine.old.number ≡ half.old.number }
-    ensures half { half.new ≡ grown call came half.old }
-    ensures mine { mine.new ≡ grown call came mine.old }
-{
-    if let Some(reply) = came {
-        tie.push(half, mine, &Answer { call, reply });
-    }
-}
-
 /// One turn for the call, after which both halves of the list of the node's answers know the reply.
 fn turn<S: Setup, J: Naming, A: Allocator + Copy>(
     seated: &mut Seated<'_, S, A>,
     half: &mut Half<Answer, J>,
-    tie: &Tie<Answer, J, A>,
-    mine: &mut Half<Answer, J>,
+    side: &mut Side<'_, J, A>,
     call: Call,
 ) -> Result<Option<Reply>, Fault>
     requires owned { IsOwned seated.old.site half.old }
     requires asked { seated.old.site.node.core.memory.asked ≡ Some call }
-    requires mine { mine.old.number ≡ half.old.number }
+    requires same { side.old.number ≡ half.old.number }
     ensures ether { seated.new.ether ≡ seated.old.ether }
     ensures owned { IsOwned seated.new.site half.new }
-    ensures grows { MatchResult result (λ reply. mine.new ≡ grown call reply mine.old) (λ _. mine.new ≡ mine.old) }
+    ensures grows { MatchResult result (λ reply. side.new ≡ grown call reply side.old) (λ _. side.new ≡ side.old) }
     ensures stop { IfErr result IsStop }
 {
     let came = turn_once(seated, call)?;
-    tell(tie, half, mine, call, came);
+    side.tell(half, call, came);
     Ok(came)
 }
 
@@ -212,68 +148,22 @@ fn is_asked<A: Allocator + Copy>(site: &Site<A>, me: u8, call: Call) -> bool
 fn begin_at<S: Setup, J: Naming, A: Allocator + Copy>(
     seated: &mut Seated<'_, S, A>,
     half: &mut Half<Answer, J>,
-    tie: &Tie<Answer, J, A>,
-    mine: &mut Half<Answer, J>,
-    me: u8,
+    side: &mut Side<'_, J, A>,
     call: Call,
 ) -> Result<Option<Reply>, Fault>
     requires owned { IsOwned seated.old.site half.old }
     requires width { HasWidth call }
-    requires mine { mine.old.number ≡ me }
     ensures ether { seated.new.ether ≡ seated.old.ether }
     ensures owned { IsOwned seated.new.site half.new }
-    ensures grows { MatchResult result (λ reply. mine.new ≡ grown call reply mine.old) (λ _. mine.new ≡ mine.old) }
+    ensures grows { MatchResult result (λ reply. side.new ≡ grown call reply side.old) (λ _. side.new ≡ side.old) }
     ensures stop { IfErr result IsStop }
 {
-    if !is_ready(seated.site(), me) {
+    if !is_ready(seated.site(), side.me()) {
         return Err(Fault::TurnLimit);
     }
     let came = begin_once(seated, call)?;
-    tell(tie, half, mine, call, came);
+    side.tell(half, call, came);
     Ok(came)
-}
-
-/// Calls on words of 8 bytes in a row from `addr` on, whose bytes these are.
-#[derive(Drop)]
-struct InRow<'a> {
-    kind: Row,
-    addr: u64,
-    words: usize,
-    bytes: &'a [u8],
-}
-
-/// What each call of a row is answered is told of the row.
-struct AnsweredInRow;
-
-impl<'a> Tells<Answer, InRow<'a>> for AnsweredInRow {
-    ghost use Rattle.ivy_model.specs.Rows.{numbers_in};
-    ghost use Rattle.ivy_calls.specs.BlockAnswers.{in_row};
-
-    ghost items = { λ r. in_row r.kind r.addr (numbers_in r.words r.bytes.now) };
-}
-
-/// Both halves of the list of a node's answers know what the calls of a row were answered.
-#[inline(always)]
-fn tell_row<J: Naming, A: Allocator + Copy>(
-    tie: &Tie<Answer, J, A>,
-    half: &mut Half<Answer, J>,
-    mine: &mut Half<Answer, J>,
-    kind: Row,
-    addr: u64,
-    words: usize,
-    bytes: &[u8],
-)
-    requires mine { mine.old.number ≡ half.old.number }
-    ensures half { half.new ≡ grown_by (in_row kind addr (numbers_in words bytes.now)) half.old }
-    ensures mine { mine.new ≡ grown_by (in_row kind addr (numbers_in words bytes.now)) mine.old }
-{
-    let row = InRow {
-        kind,
-        addr,
-        words,
-        bytes,
-    };
-    tie.push_told::<InRow<'_>, AnsweredInRow>(half, mine, &row);
 }
 
 /// The owner of node `me` reads words of 8 bytes in a row, from `addr` on, as many as are at hand at once. None where the
@@ -282,25 +172,22 @@ fn tell_row<J: Naming, A: Allocator + Copy>(
 fn load_row_at<S: Setup, J: Naming, A: Allocator + Copy>(
     seated: &mut Seated<'_, S, A>,
     half: &mut Half<Answer, J>,
-    tie: &Tie<Answer, J, A>,
-    mine: &mut Half<Answer, J>,
-    me: u8,
+    side: &mut Side<'_, J, A>,
     addr: u64,
     into: &mut [u8],
 ) -> usize
     requires owned { IsOwned seated.old.site half.old }
-    requires mine { mine.old.number ≡ me }
     ensures ether { seated.new.ether ≡ seated.old.ether }
     ensures owned { IsOwned seated.new.site half.new }
-    ensures grows { mine.new ≡ grown_by (in_row Row.Loads addr (numbers_in result into.new)) mine.old }
+    ensures grows { side.new ≡ grown_by (in_row Row.Loads addr (numbers_in result into.new)) side.old }
     ensures fits { 8 * result ≤ length into.old }
     ensures sized { length into.new ≡ length into.old }
 {
-    if seated.site().me() != me {
+    if seated.site().me() != side.me() {
         return 0;
     }
     let words = seated.load_row(addr, into);
-    tell_row(tie, half, mine, Row::Loads, addr, words, into);
+    side.tell_row(half, Row::Loads, addr, words, into);
     words
 }
 
@@ -310,24 +197,21 @@ fn load_row_at<S: Setup, J: Naming, A: Allocator + Copy>(
 fn store_row_at<S: Setup, J: Naming, A: Allocator + Copy>(
     seated: &mut Seated<'_, S, A>,
     half: &mut Half<Answer, J>,
-    tie: &Tie<Answer, J, A>,
-    mine: &mut Half<Answer, J>,
-    me: u8,
+    side: &mut Side<'_, J, A>,
     addr: u64,
     from: &[u8],
 ) -> usize
     requires owned { IsOwned seated.old.site half.old }
-    requires mine { mine.old.number ≡ me }
     ensures ether { seated.new.ether ≡ seated.old.ether }
     ensures owned { IsOwned seated.new.site half.new }
-    ensures grows { mine.new ≡ grown_by (in_row Row.Stores addr (numbers_in result from.now)) mine.old }
+    ensures grows { side.new ≡ grown_by (in_row Row.Stores addr (numbers_in result from.now)) side.old }
     ensures fits { 8 * result ≤ length from.now }
 {
-    if seated.site().me() != me {
+    if seated.site().me() != side.me() {
         return 0;
     }
     let words = seated.store_row(addr, from);
-    tell_row(tie, half, mine, Row::Stores, addr, words, from);
+    side.tell_row(half, Row::Stores, addr, words, from);
     words
 }
 
@@ -361,25 +245,22 @@ fn call_row_at<S: Setup, J: Naming, A: Allocator + Copy>(
 fn take_loads_at<S: Setup, J: Naming, A: Allocator + Copy>(
     seated: &mut Seated<'_, S, A>,
     half: &mut Half<Answer, J>,
-    tie: &Tie<Answer, J, A>,
-    mine: &mut Half<Answer, J>,
-    me: u8,
+    side: &mut Side<'_, J, A>,
     addr: u64,
     into: &mut [u8],
 ) -> usize
     requires owned { IsOwned seated.old.site half.old }
-    requires mine { mine.old.number ≡ me }
     ensures ether { seated.new.ether ≡ seated.old.ether }
     ensures owned { IsOwned seated.new.site half.new }
-    ensures grows { mine.new ≡ grown_by (in_row Row.Loads addr (numbers_in result into.new)) mine.old }
+    ensures grows { side.new ≡ grown_by (in_row Row.Loads addr (numbers_in result into.new)) side.old }
     ensures fits { 8 * result ≤ length into.old }
     ensures sized { length into.new ≡ length into.old }
 {
-    if seated.site().me() != me {
+    if seated.site().me() != side.me() {
         return 0;
     }
     let taken = seated.take_loads(addr, into);
-    tell_row(tie, half, mine, Row::Loads, addr, taken, into);
+    side.tell_row(half, Row::Loads, addr, taken, into);
     taken
 }
 
@@ -388,24 +269,21 @@ fn take_loads_at<S: Setup, J: Naming, A: Allocator + Copy>(
 fn take_stores_at<S: Setup, J: Naming, A: Allocator + Copy>(
     seated: &mut Seated<'_, S, A>,
     half: &mut Half<Answer, J>,
-    tie: &Tie<Answer, J, A>,
-    mine: &mut Half<Answer, J>,
-    me: u8,
+    side: &mut Side<'_, J, A>,
     addr: u64,
     from: &[u8],
 ) -> usize
     requires owned { IsOwned seated.old.site half.old }
-    requires mine { mine.old.number ≡ me }
     ensures ether { seated.new.ether ≡ seated.old.ether }
     ensures owned { IsOwned seated.new.site half.new }
-    ensures grows { mine.new ≡ grown_by (in_row Row.Stores addr (numbers_in result from.now)) mine.old }
+    ensures grows { side.new ≡ grown_by (in_row Row.Stores addr (numbers_in result from.now)) side.old }
     ensures fits { 8 * result ≤ length from.now }
 {
-    if seated.site().me() != me {
+    if seated.site().me() != side.me() {
         return 0;
     }
     let taken = seated.take_stores(addr, from);
-    tell_row(tie, half, mine, Row::Stores, addr, taken, from);
+    side.tell_row(half, Row::Stores, addr, taken, from);
     taken
 }
 
@@ -413,22 +291,19 @@ fn take_stores_at<S: Setup, J: Naming, A: Allocator + Copy>(
 fn go_on_at<S: Setup, J: Naming, A: Allocator + Copy>(
     seated: &mut Seated<'_, S, A>,
     half: &mut Half<Answer, J>,
-    tie: &Tie<Answer, J, A>,
-    mine: &mut Half<Answer, J>,
-    me: u8,
+    side: &mut Side<'_, J, A>,
     call: Call,
 ) -> Result<Option<Reply>, Fault>
     requires owned { IsOwned seated.old.site half.old }
-    requires mine { mine.old.number ≡ me }
     ensures ether { seated.new.ether ≡ seated.old.ether }
     ensures owned { IsOwned seated.new.site half.new }
-    ensures grows { MatchResult result (λ reply. mine.new ≡ grown call reply mine.old) (λ _. mine.new ≡ mine.old) }
+    ensures grows { MatchResult result (λ reply. side.new ≡ grown call reply side.old) (λ _. side.new ≡ side.old) }
     ensures stop { IfErr result IsStop }
 {
-    if !is_asked(seated.site(), me, call) {
+    if !is_asked(seated.site(), side.me(), call) {
         return Err(Fault::TurnLimit);
     }
-    turn(seated, half, tie, mine, call)
+    turn(seated, half, side, call)
 }
 
 /// A seated site whose program is own code, with one half of the list of its answers. The node's worker has the other.
@@ -522,73 +397,33 @@ impl<'e, S: Setup, H: Home, J: Naming, A: Allocator + Copy> Seat for Owned<'e, S
 impl<'e, S: Setup, H: Home, J: Naming, A: Allocator + Copy> OwnSeat<J, A>
     for Owned<'e, S, H, J, A> {
     #[inline(always)]
-    fn begin(
-        &mut self,
-        tie: &Tie<Answer, J, A>,
-        mine: &mut Half<Answer, J>,
-        me: u8,
-        call: Call,
-    ) -> Result<Option<Reply>, Fault> {
-        begin_at(&mut self.seated, &mut self.half, tie, mine, me, call)
+    fn begin(&mut self, side: &mut Side<'_, J, A>, call: Call) -> Result<Option<Reply>, Fault> {
+        begin_at(&mut self.seated, &mut self.half, side, call)
     }
 
-    fn go_on(
-        &mut self,
-        tie: &Tie<Answer, J, A>,
-        mine: &mut Half<Answer, J>,
-        me: u8,
-        call: Call,
-    ) -> Result<Option<Reply>, Fault> {
-        go_on_at(&mut self.seated, &mut self.half, tie, mine, me, call)
+    fn go_on(&mut self, side: &mut Side<'_, J, A>, call: Call) -> Result<Option<Reply>, Fault> {
+        go_on_at(&mut self.seated, &mut self.half, side, call)
     }
 
     #[inline(always)]
-    fn load_row(
-        &mut self,
-        tie: &Tie<Answer, J, A>,
-        mine: &mut Half<Answer, J>,
-        me: u8,
-        addr: u64,
-        into: &mut [u8],
-    ) -> usize {
-        load_row_at(&mut self.seated, &mut self.half, tie, mine, me, addr, into)
+    fn load_row(&mut self, side: &mut Side<'_, J, A>, addr: u64, into: &mut [u8]) -> usize {
+        load_row_at(&mut self.seated, &mut self.half, side, addr, into)
     }
 
     #[inline(always)]
-    fn store_row(
-        &mut self,
-        tie: &Tie<Answer, J, A>,
-        mine: &mut Half<Answer, J>,
-        me: u8,
-        addr: u64,
-        from: &[u8],
-    ) -> usize {
-        store_row_at(&mut self.seated, &mut self.half, tie, mine, me, addr, from)
+    fn store_row(&mut self, side: &mut Side<'_, J, A>, addr: u64, from: &[u8]) -> usize {
+        store_row_at(&mut self.seated, &mut self.half, side, addr, from)
     }
 
     fn call_row(&mut self, me: u8, kind: Row, addr: u64, bytes: &[u8]) -> bool {
         call_row_at(&mut self.seated, &self.half, me, kind, addr, bytes)
     }
 
-    fn take_loads(
-        &mut self,
-        tie: &Tie<Answer, J, A>,
-        mine: &mut Half<Answer, J>,
-        me: u8,
-        addr: u64,
-        into: &mut [u8],
-    ) -> usize {
-        take_loads_at(&mut self.seated, &mut self.half, tie, mine, me, addr, into)
+    fn take_loads(&mut self, side: &mut Side<'_, J, A>, addr: u64, into: &mut [u8]) -> usize {
+        take_loads_at(&mut self.seated, &mut self.half, side, addr, into)
     }
 
-    fn take_stores(
-        &mut self,
-        tie: &Tie<Answer, J, A>,
-        mine: &mut Half<Answer, J>,
-        me: u8,
-        addr: u64,
-        from: &[u8],
-    ) -> usize {
-        take_stores_at(&mut self.seated, &mut self.half, tie, mine, me, addr, from)
+    fn take_stores(&mut self, side: &mut Side<'_, J, A>, addr: u64, from: &[u8]) -> usize {
+        take_stores_at(&mut self.seated, &mut self.half, side, addr, from)
     }
 }

@@ -20,8 +20,8 @@ use crate::owned::Owned;
 use crate::{Half, Naming, Starter, Tie};
 use ivy_calls::{Answer, Work};
 use ivy_ether::{Ether, Pass, Setup, Wired};
-use ivy_model::{Config, Fault};
-use ivy_seating::{Home, Keep, Seated, Site, close_seat};
+use ivy_model::Fault;
+use ivy_seating::{Home, Keep, Plan, Seated, Site, close_seat};
 use std::alloc::Allocator;
 use std::sync::{Mutex, Wait};
 
@@ -34,40 +34,37 @@ pub(crate) struct Places<'e, S: Setup, H: Home, J: Naming, A: Allocator> {
 
 /// Seats a node with own code [1, 21]: its seat is issued and taken, and its site is made, which keeps these lists of its
 /// own past.
-fn seat_one<'e, S: Setup, A: Allocator + Copy, R: Wait>(
-    rt: &R,
-    alloc: A,
+fn seat_one<'e, S: Setup, A: Allocator + Copy, R: Wait, G>(
+    plan: &Plan<'_, '_, A, R, G>,
     ether: &'e Ether<S, A>,
-    config: &Config,
     starter: &mut Pass<Wired<A>>,
     pass: Pass<Wired<A>>,
     node: u8,
-    keep: Keep,
 ) -> Result<Seated<'e, S, A>, Fault>
-    requires config { config.now ≡ S.config }
-    requires limits { IsConfig config.now }
+    requires config { plan.now.config ≡ S.config }
+    requires limits { IsConfig plan.now.config }
     requires programs { S.programs ≡ all_open S.config }
     requires starter { (starter.old.ether ≡ ether.now) × (starter.old.known.starts ≡ true) }
     requires pass { IsNewcomer ether.now pass }
-    requires node { node < config.now.nodes }
+    requires node { node < plan.now.config.nodes }
     requires new { times node starter.old.known.issued ≡ 0 }
     ensures starter { starter.new.ether ≡ starter.old.ether }
     ensures issued { IfOk result (λ _. starter.new.known ≡ with_issued starter.old.known node) }
     ensures ether { IfOk result (λ seated. seated.ether ≡ ether.now) }
-    ensures site { IfOk result (λ seated. seated.site ≡ first_keeping keep config.now node (Called [])) }
+    ensures site { IfOk result (λ seated. seated.site ≡ first_keeping plan.now.keep plan.now.config node (Called [])) }
     ensures stop { IfErr result IsStop }
 {
     let mut pass = pass;
-    if !ether.issue_seat(rt, starter, node) {
+    if !ether.issue_seat(plan.rt, starter, node) {
         return Err(Fault::TurnLimit);
     }
-    let Some(found) = ether.take_seat(rt, &mut pass) else {
+    let Some(found) = ether.take_seat(plan.rt, &mut pass) else {
         return Err(Fault::TurnLimit);
     };
     if found != node {
         return Err(Fault::TurnLimit);
     }
-    let site = Site::open_keeping(alloc, config, node, keep)?;
+    let site = Site::open_keeping(plan.alloc, &plan.config, node, plan.keep)?;
     Ok(Seated::new(ether, site, pass))
 }
 
@@ -90,104 +87,86 @@ fn place_one<'e, S: Setup, H: Home, J: Naming, A: Allocator + Copy>(
     (Owned::new(seated, half), mine)
 }
 
-/// Seats all nodes [1, 21], with a pass for each. Each keeps these lists of its own past.
-pub(crate) fn seat_all<'e, S: Setup, H: Home, J: Naming, A: Allocator + Copy, R: Wait>(
-    rt: &R,
-    alloc: A,
+/// Seats all nodes [1, 21], with a pass for each. Each keeps the lists of its own past that the plan says.
+pub(crate) fn seat_all<'e, S: Setup, H: Home, J: Naming, A: Allocator + Copy, R: Wait, G>(
+    plan: &Plan<'_, '_, A, R, G>,
     ether: &'e Ether<S, A>,
     tie: &Tie<Answer, J, A>,
     lists: &mut Starter<Answer, J>,
-    config: &Config,
     starter: &mut Pass<Wired<A>>,
     passes: Vec<Pass<Wired<A>>, A>,
-    keep: Keep,
 ) -> Result<Places<'e, S, H, J, A>, Fault>
     requires home { ether.now ≡ H.ether }
-    requires config { config.now ≡ S.config }
-    requires limits { IsConfig config.now }
+    requires config { plan.now.config ≡ S.config }
+    requires limits { IsConfig plan.now.config }
     requires programs { S.programs ≡ all_open S.config }
     requires lists { lists.old ≡ 0 }
     requires starter { (starter.old.ether ≡ ether.now) × (starter.old.known ≡ beginner) }
     requires passes { All (IsNewcomer ether.now) passes.items }
-    requires enough { vec_len passes ≡ config.now.nodes }
+    requires enough { vec_len passes ≡ plan.now.config.nodes }
     ensures starter { starter.new.ether ≡ starter.old.ether }
-    ensures mines { IfOk result (λ places. vec_len places.mines ≡ config.now.nodes) }
+    ensures mines { IfOk result (λ places. vec_len places.mines ≡ plan.now.config.nodes) }
     ensures fresh { IfOk result (λ places. AreFresh places.mines.items) }
     ensures stop { IfErr result IsStop }
 {
     let mut passes = passes;
-    let mut seats = Vec::new(alloc);
-    let mut mines = Vec::new(alloc);
-    for node in 0..config.nodes {
+    let mut seats = Vec::new(plan.alloc);
+    let mut mines = Vec::new(plan.alloc);
+    for node in 0..plan.config.nodes {
         let Some(pass) = passes.pop() else {
             unreachable!()
         };
         seats.reserve(1)?;
         mines.reserve(1)?;
-        let seated = seat_one(rt, alloc, ether, config, starter, pass, node, keep)?;
-        let (owned, mine) = place_one(tie, lists, seated, node, keep);
+        let seated = seat_one(plan, ether, starter, pass, node)?;
+        let (owned, mine) = place_one(tie, lists, seated, node, plan.keep);
         seats.push_reserved(Mutex::new(owned));
         mines.push_reserved(mine);
     }
     Ok(Places { seats, mines })
 }
 
-/// Closes a node that keeps these lists, and hands out its site [21], whose answers the worker's half knows.
-fn close_one<S: Setup, H: Home, J: Naming, A: Allocator + Copy>(
-    ether: &Ether<S, A>,
-    starter: &mut Pass<Wired<A>>,
-    tie: &Tie<Answer, J, A>,
-    owned: Owned<'_, S, H, J, A>,
-    mine: Half<Answer, J>,
-    node: u8,
-    keep: Keep,
-) -> Result<Site<A>, Fault>
-    requires home { ether.now ≡ H.ether }
-    requires starter { starter.old.ether ≡ ether.now }
-    requires mine { mine.number ≡ node }
-    ensures ether { starter.new.ether ≡ starter.old.ether }
-    ensures told { IfOk result (λ site. TellsOf S.config S.programs starter.old.known node (report_of site) starter.new.known) }
-    ensures keep { IfOk result (λ site. site.keep ≡ keep) }
-    ensures answers { IfOk result (λ site. mine.list ≡ answers site.node.core.history) }
-    ensures stop { IfErr result IsStop }
-{
-    let homed = owned.agree(tie, mine, node)?;
-    close_seat(ether, starter, homed, node, keep)
+/// The places of the nodes whose works have ended, and what these gave.
+#[derive(Drop)]
+pub(crate) struct Worked<'e, S: Setup, H: Home, J: Naming, A: Allocator, T> {
+    pub(crate) seats: Vec<Mutex<Owned<'e, S, H, J, A>>, A>,
+    pub(crate) all: Vec<Ended<T, J>, A>,
 }
 
-/// Closes all nodes, each of which keeps these lists, and hands out their sites with what their works gave [1, 21].
-pub(crate) fn close_all<S: Setup, H: Home, J: Naming, A: Allocator + Copy, W: Work>(
-    alloc: A,
+/// Closes all nodes, each of which keeps the lists that the plan says, and hands out their sites with what their works gave
+/// [1, 21].
+pub(crate) fn close_all<S: Setup, H: Home, J: Naming, A: Allocator + Copy, R, G, W: Work>(
+    plan: &Plan<'_, '_, A, R, G>,
     ether: &Ether<S, A>,
     starter: &mut Pass<Wired<A>>,
     tie: &Tie<Answer, J, A>,
     work: &W,
-    seats: Vec<Mutex<Owned<'_, S, H, J, A>>, A>,
-    all: Vec<Ended<W::Out, J>, A>,
-    keep: Keep,
+    worked: Worked<'_, S, H, J, A, W::Out>,
 ) -> Result<(Vec<Site<A>, A>, Vec<W::Out, A>), Fault>
     requires home { ether.now ≡ H.ether }
     requires starter { starter.old.ether ≡ ether.now }
-    requires few { vec_len all < 256 }
-    requires done { (i : ℕ) (e : _) → slice_get all.items i ≡ Some e → HasEnded (W.done work.now) i e.mine e.out }
+    requires few { vec_len worked.all < 256 }
+    requires done { (i : ℕ) (e : _) → slice_get worked.all.items i ≡ Some e → HasEnded (W.done work.now) i e.mine e.out }
     ensures starter { starter.new.ether ≡ starter.old.ether }
-    ensures all { IfOk result (λ r. (vec_len r.0 ≡ vec_len all) × (vec_len r.1 ≡ vec_len all)) }
+    ensures all { IfOk result (λ r. (vec_len r.0 ≡ vec_len worked.entry.all) × (vec_len r.1 ≡ vec_len worked.entry.all)) }
     ensures told { IfOk result (λ r. AreTold S.config S.programs starter.new.known (map report_of r.0.items)) }
-    ensures keep { IfOk result (λ r. AllKeep keep (map report_of r.0.items)) }
+    ensures keep { IfOk result (λ r. AllKeep plan.now.keep (map report_of r.0.items)) }
     ensures done { IfOk result (λ r. AreClosed (W.done work.now) (map report_of r.0.items) r.1.items) }
     ensures stop { IfErr result IsStop }
 {
     let _ = work;
+    let Worked { seats, all } = worked;
     let mut seats = seats.into_iter();
-    let mut sites = Vec::with_capacity(alloc, all.len())?;
-    let mut outs = Vec::with_capacity(alloc, all.len())?;
+    let mut sites = Vec::with_capacity(plan.alloc, all.len())?;
+    let mut outs = Vec::with_capacity(plan.alloc, all.len())?;
     let mut node = 0u8;
     for ended in all {
         let Some(seat) = seats.next() else {
             return Err(Fault::TurnLimit);
         };
         let Ended { mine, out } = ended;
-        let site = close_one(ether, starter, tie, seat.into_inner(), mine, node, keep)?;
+        let homed = seat.into_inner().agree(tie, mine, node)?;
+        let site = close_seat(ether, starter, homed, node, plan.keep)?;
         sites.push_reserved(site);
         outs.push_reserved(out);
         node = node.wrapping_add(1);

@@ -13,14 +13,14 @@ ghost use Rattle.ivy_own.specs.Reports.{IsOwnReport, all_open};
 use crate::fault::OwnFault;
 use crate::joined::{Ended, first_given_up, take_ended};
 use crate::owned::{OwnSeat, Owned};
-use crate::places::{Places, close_all, seat_all};
+use crate::places::{Places, Worked, close_all, seat_all};
 use crate::report::OwnReport;
 use crate::workers::run_crew;
 use crate::{Half, Naming, Opened, Tie};
 use ivy_calls::{Answer, Work};
 use ivy_ether::{Ether, Pass, Setup, Wired};
 use ivy_model::{Config, Fault};
-use ivy_seating::{Home, Keep, Report};
+use ivy_seating::{Home, Keep, Plan, Report};
 use ivy_workers::{Crew, Gate, Limits, Shared};
 use std::alloc::Allocator;
 use std::marker::Brand;
@@ -29,14 +29,11 @@ use std::thread::Threads;
 
 /// Runs the workers of all nodes [1, 17, 21], and gives what their works gave.
 fn run_workers<T, J, A, R, G, W>(
-    rt: &R,
-    alloc: A,
+    plan: &Plan<'_, '_, A, R, G>,
     tie: &Tie<Answer, J, A>,
     work: &W,
     seats: &[Mutex<T>],
     mines: Vec<Half<Answer, J>, A>,
-    limits: Limits,
-    gate: &G,
 ) -> Result<Vec<Ended<W::Out, J>, A>, OwnFault>
 where
     T: OwnSeat<J, A> + Send,
@@ -51,15 +48,15 @@ where
     ensures done { IfOk result (λ all. (i : ℕ) (e : _) → slice_get all.items i ≡ Some e → HasEnded (W.done work.now) i e.mine e.out) }
     ensures fault { IfErr result (IsOwnStop (vec_len mines)) }
 {
-    let shared = Shared::new(rt, alloc, seats.len(), limits)?;
+    let shared = Shared::new(plan.rt, plan.alloc, seats.len(), plan.limits)?;
     let crew = Crew {
-        rt,
+        rt: plan.rt,
         seats,
-        gate,
+        gate: plan.gate,
         shared: &shared,
-        limits,
+        limits: plan.limits,
     };
-    let joined = run_crew(&crew, alloc, tie, work, mines);
+    let joined = run_crew(&crew, plan.alloc, tie, work, mines);
     let stop = shared.into_stop();
     let all = joined?;
     if let Some(given_up) = first_given_up(&all) {
@@ -68,33 +65,31 @@ where
     if let Some(fault) = stop {
         return Err(OwnFault::Session(fault));
     }
-    let all = take_ended(alloc, work, all)?;
+    let all = take_ended(plan.alloc, work, all)?;
     Ok(all)
 }
 
 /// Closes the nodes, and hands out what their sites tell together, with what their works gave [1, 21].
-fn collect<S: Setup, H: Home, J: Naming, A: Allocator + Copy, W: Work>(
-    alloc: A,
+fn collect<S: Setup, H: Home, J: Naming, A: Allocator + Copy, R, G, W: Work>(
+    plan: &Plan<'_, '_, A, R, G>,
     ether: &Ether<S, A>,
     starter: Pass<Wired<A>>,
     tie: &Tie<Answer, J, A>,
     work: &W,
-    seats: Vec<Mutex<Owned<'_, S, H, J, A>>, A>,
-    all: Vec<Ended<W::Out, J>, A>,
-    keep: Keep,
+    worked: Worked<'_, S, H, J, A, W::Out>,
 ) -> Result<OwnReport<W::Out, A>, Fault>
     requires limits { IsConfig S.config }
     requires programs { S.programs ≡ all_open S.config }
     requires home { ether.now ≡ H.ether }
     requires starter { starter.ether ≡ ether.now }
-    requires nodes { vec_len all ≡ S.config.nodes }
-    requires done { (i : ℕ) (e : _) → slice_get all.items i ≡ Some e → HasEnded (W.done work.now) i e.mine e.out }
+    requires nodes { vec_len worked.all ≡ S.config.nodes }
+    requires done { (i : ℕ) (e : _) → slice_get worked.all.items i ≡ Some e → HasEnded (W.done work.now) i e.mine e.out }
     ensures report { IfOk result (λ report. IsOwnReport S.config (W.done work.now) report.nodes report.outs.items) }
-    ensures keep { IfOk result (λ report. AllKeep keep report.nodes) }
+    ensures keep { IfOk result (λ report. AllKeep plan.now.keep report.nodes) }
     ensures stop { IfErr result IsStop }
 {
     let mut starter = starter;
-    let (sites, outs) = close_all(alloc, ether, &mut starter, tie, work, seats, all, keep)?;
+    let (sites, outs) = close_all(plan, ether, &mut starter, tie, work, worked)?;
     let nodes = Report::new(sites);
     ether.learn(&mut starter);
     Ok(OwnReport { nodes, outs })
@@ -102,17 +97,12 @@ fn collect<S: Setup, H: Home, J: Naming, A: Allocator + Copy, W: Work>(
 
 /// Seats the nodes at their ether, runs their workers, and closes them [1, 17, 21].
 fn play_tied<S, H, J, A, R, G, W>(
-    rt: &R,
-    alloc: A,
-    config: &Config,
+    plan: &Plan<'_, '_, A, R, G>,
     ether: &Ether<S, A>,
     opened: Opened<Answer, A>,
     starter: Pass<Wired<A>>,
     passes: Vec<Pass<Wired<A>>, A>,
     work: &W,
-    limits: Limits,
-    gate: &G,
-    keep: Keep,
 ) -> Result<OwnReport<W::Out, A>, OwnFault>
 where
     S: Setup + Send + Sync,
@@ -122,51 +112,44 @@ where
     R: Threads + Wait + Sync,
     G: Gate,
     W: Work + Sync,
-    requires config { config.now ≡ S.config }
-    requires limits { IsConfig config.now }
+    requires config { plan.now.config ≡ S.config }
+    requires limits { IsConfig plan.now.config }
     requires programs { S.programs ≡ all_open S.config }
     requires home { ether.now ≡ H.ether }
     requires named { opened ≡ J.table }
     requires starter { (starter.ether ≡ ether.now) × (starter.known ≡ beginner) }
     requires passes { All (IsNewcomer ether.now) passes.items }
-    requires enough { vec_len passes ≡ config.now.nodes }
+    requires enough { vec_len passes ≡ plan.now.config.nodes }
     ensures report { IfOk result (λ report. IsOwnReport S.config (W.done work.now) report.nodes report.outs.items) }
-    ensures keep { IfOk result (λ report. AllKeep keep report.nodes) }
+    ensures keep { IfOk result (λ report. AllKeep plan.now.keep report.nodes) }
     ensures fault { IfErr result (IsOwnStop S.config.nodes) }
 {
     let (tie, mut lists) = opened.named::<J>();
     let mut starter = starter;
-    let Places { seats, mines } = seat_all::<S, H, J, A, R>(
-        rt,
-        alloc,
+    let Places { seats, mines } = seat_all::<S, H, J, A, R, G>(
+        plan,
         ether,
         &tie,
         &mut lists,
-        config,
         &mut starter,
         passes,
-        keep,
     )?;
-    let all = run_workers(rt, alloc, &tie, work, &seats, mines, limits, gate)?;
+    let all = run_workers(plan, &tie, work, &seats, mines)?;
     if let Some(first) = seats.first() {
-        first.lock(rt).drain(rt, limits.capacity);
+        first.lock(plan.rt).drain(plan.rt, plan.limits.capacity);
     }
-    let report = collect(alloc, ether, starter, &tie, work, seats, all, keep)?;
+    let worked = Worked { seats, all };
+    let report = collect(plan, ether, starter, &tie, work, worked)?;
     Ok(report)
 }
 
 /// Begins the lists of the nodes' answers, and runs the works of the nodes at their ether [1, 17, 21].
 fn play_at<S, H, A, R, G, W>(
-    rt: &R,
-    alloc: A,
-    config: &Config,
+    plan: &Plan<'_, '_, A, R, G>,
     ether: &Ether<S, A>,
     starter: Pass<Wired<A>>,
     passes: Vec<Pass<Wired<A>>, A>,
     work: &W,
-    limits: Limits,
-    gate: &G,
-    keep: Keep,
 ) -> Result<OwnReport<W::Out, A>, OwnFault>
 where
     S: Setup + Send + Sync,
@@ -175,34 +158,27 @@ where
     R: Threads + Wait + Sync,
     G: Gate,
     W: Work + Sync,
-    requires config { config.now ≡ S.config }
-    requires limits { IsConfig config.now }
+    requires config { plan.now.config ≡ S.config }
+    requires limits { IsConfig plan.now.config }
     requires programs { S.programs ≡ all_open S.config }
     requires home { ether.now ≡ H.ether }
     requires starter { (starter.ether ≡ ether.now) × (starter.known ≡ beginner) }
     requires passes { All (IsNewcomer ether.now) passes.items }
-    requires enough { vec_len passes ≡ config.now.nodes }
+    requires enough { vec_len passes ≡ plan.now.config.nodes }
     ensures report { IfOk result (λ report. IsOwnReport S.config (W.done work.now) report.nodes report.outs.items) }
-    ensures keep { IfOk result (λ report. AllKeep keep report.nodes) }
+    ensures keep { IfOk result (λ report. AllKeep plan.now.keep report.nodes) }
     ensures fault { IfErr result (IsOwnStop S.config.nodes) }
 {
-    let Ok(opened) = Opened::new(alloc) else {
+    let Ok(opened) = Opened::new(plan.alloc) else {
         return Err(OwnFault::Session(Fault::Memory));
     };
-    play_tied::<S, H, Brand, A, R, G, W>(
-        rt, alloc, config, ether, opened, starter, passes, work, limits, gate, keep,
-    )
+    play_tied::<S, H, Brand, A, R, G, W>(plan, ether, opened, starter, passes, work)
 }
 
 /// Lays the ether, and runs the works of the nodes there [1, 17, 21].
 fn play<S, A, R, G, W>(
-    rt: &R,
-    alloc: A,
-    config: &Config,
+    plan: &Plan<'_, '_, A, R, G>,
     work: &W,
-    limits: Limits,
-    gate: &G,
-    keep: Keep,
 ) -> Result<OwnReport<W::Out, A>, OwnFault>
 where
     S: Setup + Send + Sync,
@@ -210,23 +186,21 @@ where
     R: Threads + Wait + Sync,
     G: Gate,
     W: Work + Sync,
-    requires config { config.now ≡ S.config }
-    requires limits { IsConfig config.now }
+    requires config { plan.now.config ≡ S.config }
+    requires limits { IsConfig plan.now.config }
     requires programs { S.programs ≡ all_open S.config }
-    requires capacity { 0 < limits.capacity }
+    requires capacity { 0 < plan.now.limits.capacity }
     ensures report { IfOk result (λ report. IsOwnReport S.config (W.done work.now) report.nodes report.outs.items) }
-    ensures keep { IfOk result (λ report. AllKeep keep report.nodes) }
+    ensures keep { IfOk result (λ report. AllKeep plan.now.keep report.nodes) }
     ensures fault { IfErr result (IsOwnStop S.config.nodes) }
 {
-    let capacity = limits.capacity as usize;
-    let passes = usize::from(config.nodes) + 1;
-    let (ether, mut passes) = Ether::<S, A>::open(alloc, config, capacity, passes)?;
+    let capacity = plan.limits.capacity as usize;
+    let passes = usize::from(plan.config.nodes) + 1;
+    let (ether, mut passes) = Ether::<S, A>::open(plan.alloc, &plan.config, capacity, passes)?;
     let Some(starter) = passes.pop() else {
         unreachable!()
     };
-    play_at::<S, Brand, A, R, G, W>(
-        rt, alloc, config, &ether, starter, passes, work, limits, gate, keep,
-    )
+    play_at::<S, Brand, A, R, G, W>(plan, &ether, starter, passes, work)
 }
 
 /// Runs the work of each node in a thread of its own, over one shared memory, until all have done theirs
@@ -279,5 +253,13 @@ where
     if config.check_wide().is_err() || !limits.are_valid() {
         return Err(OwnFault::Session(Fault::BadConfig));
     }
-    play::<Brand, A, R, G, W>(rt, alloc, &config, work, limits, gate, keep)
+    let plan = Plan {
+        rt,
+        alloc,
+        config,
+        limits,
+        gate,
+        keep,
+    };
+    play::<Brand, A, R, G, W>(&plan, work)
 }

@@ -7,6 +7,7 @@ ghost use Rattle.ivy_own.specs.Ended.{AreFresh, HasEnded};
 use crate::joined::{Ended, GivenUp, Works, join_all};
 use crate::memory::OwnMemory;
 use crate::owned::OwnSeat;
+use crate::side::Side;
 use crate::{Half, Naming, Tie};
 use ivy_calls::{Answer, Work};
 use ivy_model::Fault;
@@ -69,7 +70,7 @@ where
     let Some(worker) = crew.program_worker(seat, me) else {
         return Err(Fault::TurnLimit);
     };
-    let mut memory = OwnMemory::new(worker, tie, mine, me);
+    let mut memory = OwnMemory::new(worker, Side::new(tie, mine, me));
     let out = work.work(me, &mut memory)?;
     if memory.me() != me {
         return Err(Fault::TurnLimit);

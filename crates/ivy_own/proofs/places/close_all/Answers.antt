@@ -6,6 +6,7 @@ use Rattle.std.specs.Vec.Iter.{into_iter_len}
 use Rattle.ivy_calls.specs.Answers.{answers}
 use Rattle.ivy_seating.specs.Reports.{NodeReport, report_of, AllKeep}
 use Rattle.ivy_seating.proofs.Collected.{told_more, told_none}
+use Rattle.ivy_site.specs.SiteView.{SiteView}
 use Rattle.ivy_own.specs.Ended.{HasEnded, AreClosed}
 use Rattle.ivy_own.proofs.Each.{left_all, left_first, left_more, closed_more}
 use Rattle.ivy_own.proofs.places.close_all.Goals as goal
@@ -22,17 +23,17 @@ loop-ended-init g c =
       room = search rules;
       ether = c.requires.starter;
       left = left_all (λ i e. HasEnded (g.W.Work.done c.args.work.now) i e.mine e.out)
-          (vec_len c.in_ok-sites.sites) _ c.args.all.items empty gives.0 c.requires.done;
+          (vec_len c.in_ok-sites.sites) _ c.args.worked.all.items empty gives.0 c.requires.done;
       told = told_none g.S.Setup.config g.S.Setup.programs c.args.starter.now.known
           (map report_of c.in_ok-sites.sites.items) (ap (map report_of) none);
-      kept = subst (AllKeep c.args.keep) (sym (ap (map report_of) none))
-          (All-nil (λ (n : NodeReport). n.keep ≡ c.args.keep));
+      kept = subst (AllKeep c.args.plan.now.keep) (sym (ap (map report_of) none))
+          (All-nil (λ (n : NodeReport). n.keep ≡ c.args.plan.now.keep));
       done = λ i n out there its. absurd
           (none-some n (ap (λ l. slice_get (map report_of l) i) (sym none) ∙ there));
     }
 
-pub close_one-requires-clause-mine : goal.close_one-requires-clause-mine
-close_one-requires-clause-mine g c =
+pub agree-requires : goal.agree-requires
+agree-requires g c =
     let was = c.loop-ended.invariant in
     let mine =
     left_first (λ i e. HasEnded (g.W.Work.done c.args.work.now) i e.mine e.out)
@@ -41,6 +42,9 @@ close_one-requires-clause-mine g c =
 
 pub returns-in_default-clause-starter : goal.returns-in_default-clause-starter
 returns-in_default-clause-starter g c = c.loop-ended.invariant.ether ∙ sym c.requires.starter
+
+pub returns-in_err-homed-clause-starter : goal.returns-in_err-homed-clause-starter
+returns-in_err-homed-clause-starter g c = c.loop-ended.invariant.ether ∙ sym c.requires.starter
 
 pub returns-in_err-site-clause-starter : goal.returns-in_err-site-clause-starter
 returns-in_err-site-clause-starter g c =
@@ -78,7 +82,8 @@ loop-ended-preserved g c =
     (answers (report_of site).history) ended.out =
     subst
     (λ l. g.W.Work.done c.args.work.now (length (map report_of at.sites.items)) l ended.out)
-    c.in_ok-site.ensures.answers
+    (c.in_ok-homed.ensures.answers
+    ∙ ap (λ (s : SiteView). answers s.node.core.history) (sym c.in_ok-site.ensures.site))
     (subst (λ i. g.W.Work.done c.args.work.now i ended.mine.list ended.out) here mine.1) in
     record {
       count = omega (arith, count, longer, left);
@@ -90,8 +95,8 @@ loop-ended-preserved g c =
           (vec_len at.sites) (vec_len sites) _ _ _ steps longer was.left;
       told = told_more g.S.Setup.config g.S.Setup.programs _ _ (map report_of at.sites.items) _
           (report_of site) at.node (number ∙ here) mapped c.in_ok-site.ensures.told was.told;
-      kept = subst (AllKeep c.args.keep) (sym mapped)
-          (All-push (λ (n : NodeReport). n.keep ≡ c.args.keep) (map report_of at.sites.items)
+      kept = subst (AllKeep c.args.plan.now.keep) (sym mapped)
+          (All-push (λ (n : NodeReport). n.keep ≡ c.args.plan.now.keep) (map report_of at.sites.items)
           (report_of site) was.kept c.in_ok-site.ensures.keep);
       done = subst (λ l. AreClosed (g.W.Work.done c.args.work.now) (map report_of sites.items) l)
           (sym c.push_reserved-in-loop-ended.ensures.items)

@@ -1,4 +1,4 @@
-use Rattle.std.proofs.Common.{rules, arith, ◌≡◌, length, Some, [], ◌∷◌, ◌++◌, ap, ◌∙◌}
+use Rattle.std.proofs.Common.{rules, arith, ◌≡◌, length, Some, [], ◌∷◌, ◌++◌, sym, ap, ◌∙◌}
 use Rattle.std.proofs.lemmas.List.Elements.{All-pop}
 use Rattle.ivy_calls.specs.declared.answer.Answer.{Answer}
 use Rattle.ivy_own.specs.Known.{Listed, listed}
@@ -28,6 +28,13 @@ seat_one-requires-clause-pass g c =
 
 pub seat_one-requires-clause-new : goal.seat_one-requires-clause-new
 seat_one-requires-clause-new g c = c.loop-node.invariant.5 c.loop-node.node (omega arith)
+
+pub returns-in_err-seated-clause-starter : goal.returns-in_err-seated-clause-starter
+returns-in_err-seated-clause-starter g c =
+    c.in_err-seated.ensures.starter ∙ (c.loop-node.invariant.3 ∙ sym c.requires.starter.0)
+
+pub place_one-owned-requires-clause-site : goal.place_one-owned-requires-clause-site
+place_one-owned-requires-clause-site g c = (c.args.plan.now.config, c.in_ok-seated.ensures.site)
 
 pub loop-node-preserved : goal.loop-node-preserved
 loop-node-preserved g c =

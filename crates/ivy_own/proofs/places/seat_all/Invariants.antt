@@ -11,4 +11,4 @@ invariant-loop-node g l =
     × (l.starter.ether ≡ l.ether) × (l.starter.known.starts ≡ true)
     × ((j : ℕ) → l.node ≤ j → times j l.starter.known.issued ≡ 0)
     × All (IsNewcomer l.ether) l.passes.items
-    × (vec_len l.passes + l.node ≡ l.config.nodes)
+    × (vec_len l.passes + l.node ≡ l.plan.config.nodes)

@@ -21,7 +21,7 @@ pub new-requires : goal.new-requires
 new-requires g c =
     let found : c.in-Some.found ≡ c.args.node = search rules in
     let first : c.in_ok-site.site
-    ≡ first_keeping c.args.keep c.args.config.now c.args.node (Called []) =
+    ≡ first_keeping c.args.plan.now.keep c.args.plan.now.config c.args.node (Called []) =
     c.in_ok-site.ensures.first in
     let me : c.in_ok-site.site.me ≡ c.args.node = ap (λ (x : SiteView). x.me) first in
     let keep = ap (λ (x : SiteView). x.keep) first in

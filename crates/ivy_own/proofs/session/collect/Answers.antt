@@ -30,4 +30,4 @@ returns-clause-report g c =
 
 pub returns-clause-keep : goal.returns-clause-keep
 returns-clause-keep g c =
-    subst (AllKeep c.args.keep) (sym c.new-nodes.ensures) c.in_ok-sites.ensures.keep
+    subst (AllKeep c.args.plan.now.keep) (sym c.new-nodes.ensures) c.in_ok-sites.ensures.keep
