@@ -240,7 +240,9 @@ impl Embedded {
         asked_of(&self.site.config(), call)
     }
 
-    /// Whether a call may be made, as its page is lent.
+    /// Whether a call may be made, as its page is lent. Hits at other pages do not ask, so it is compiled apart from them.
+    #[cold]
+    #[inline(never)]
     fn may_call(&self, call: Call) -> bool
         requires { HasWidth call }
         ensures { result ≡ may_call self.now call }
