@@ -240,9 +240,7 @@ impl Embedded {
         asked_of(&self.site.config(), call)
     }
 
-    /// Whether a call may be made, as its page is lent. Hits at other pages do not ask, so it is compiled apart from them.
-    #[cold]
-    #[inline(never)]
+    /// Whether a call may be made, as its page is lent.
     fn may_call(&self, call: Call) -> bool
         requires { HasWidth call }
         ensures { result ≡ may_call self.now call }
