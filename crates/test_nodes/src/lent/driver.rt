@@ -20,6 +20,7 @@ pub(crate) const STORE: u32 = 1;
 pub(crate) const FETCH_AND_ADD: u32 = 4;
 
 /// A node, with the images of some pages and what these are lent for.
+#[derive(Drop)]
 pub(crate) struct Driven {
     pub(crate) node: Embedded,
     last: u32,
@@ -36,6 +37,7 @@ pub(crate) struct Shape {
 }
 
 /// All nodes of a configuration, and the strings under way.
+#[derive(Drop)]
 pub(crate) struct Drive {
     pub(crate) nodes: Vec<Driven, Global>,
     wire: Vec<Vec<u8, Global>, Global>,
