@@ -1,5 +1,5 @@
 //! Nodes, their images, and a wire that loses, repeats and reorders.
-use ivy_embedded::{Embedded, Lending, Declined, TakenString, Want, call_of, config_of};
+use ivy_embedded::{Declined, Embedded, Lending, TakenString, Want, call_of, config_of};
 use ivy_model::{Config, Fault, Reply};
 use rand_core::utils::NextWord;
 use rand_pcg::Lcg64Xsh32;
@@ -45,12 +45,7 @@ pub(crate) struct Drive {
 }
 
 /// The nodes of this shape.
-pub(crate) fn opened(
-    rt: &impl Abort,
-    alloc: Global,
-    shape: Shape,
-    generator: Lcg64Xsh32,
-) -> Drive {
+pub(crate) fn opened(rt: &impl Abort, alloc: Global, shape: Shape, generator: Lcg64Xsh32) -> Drive {
     let config: Config = config_of(shape.nodes, shape.pages, SIZE as u32, shape.manager).expect(
         rt,
         "a configuration",

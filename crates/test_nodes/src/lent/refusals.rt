@@ -1,6 +1,6 @@
 //! What is refused where pages are lent.
 use crate::lent::driver::{LOAD, PAGES, SIZE, STORE, address};
-use ivy_embedded::{Embedded, Lending, Declined, call_of, config_of};
+use ivy_embedded::{Declined, Embedded, Lending, call_of, config_of};
 use ivy_model::{Fault, Reply};
 use std::alloc::Global;
 use std::process::Abort;
