@@ -31,11 +31,11 @@ impl Place {
     }
 }
 
-/// A byte is drawn, of all pages that have images but the first, or but the second too, where there are three.
+/// A byte is drawn, of all pages that have images but the first. Of three pages the second and the last have one.
 fn place_of(drawn: u8, pages: u32) -> Place {
-    let from = if pages == 3 { 2 } else { 1 };
+    let page = 1 + usize::from(drawn) % (PAGES - 1);
     Place {
-        page: from + usize::from(drawn) % (PAGES - from),
+        page: if pages == 3 && page == 2 { 3 } else { page },
         byte: usize::from(drawn / 4) % SIZE,
     }
 }
