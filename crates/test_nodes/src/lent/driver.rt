@@ -76,10 +76,10 @@ pub(crate) fn address(page: u32) -> u64 {
 impl Driven {
     /// The number of the page that has its image in this place.
     pub(crate) fn number(&self, page: usize) -> u32 {
-        if page + 1 == PAGES {
-            self.last
-        } else {
+        if page < PAGES - 1 {
             page as u32
+        } else {
+            self.last
         }
     }
 
@@ -94,8 +94,9 @@ impl Driven {
 
     /// What stands in the image of a page that is lent to be written is kept.
     fn keep(&mut self, rt: &impl Abort, page: usize) {
+        let at = address(self.number(page));
         let image = self.images.get(page).expect(rt, "a page");
-        let stored = self.node.store_row(address(self.number(page)), image);
+        let stored = self.node.store_row(at, image);
         assert!(rt; stored == Ok(SIZE / 8), "page {page} was not kept");
     }
 
@@ -113,7 +114,8 @@ impl Driven {
         if self.node.is_free() && self.lent.get(page) == Some(&Lending::ToWrite) {
             self.keep(rt, page);
         }
-        assert!(rt; self.node.give_back(self.number(page), on).is_ok());
+        let number = self.number(page);
+        assert!(rt; self.node.give_back(number, on).is_ok());
         *self.lent.get_mut(page).expect(rt, "a page") = on;
     }
 
@@ -195,6 +197,9 @@ impl Drive {
         let count = self.wire.len();
         let place = self.drawn(count) % count;
         let fate = self.drawn(8);
+        if place >= self.wire.len() {
+            return;
+        }
         let string = self.wire.swap_remove(place);
         if fate > 0 {
             self.deliver(rt, &string);
