@@ -245,7 +245,8 @@ typedef enum ivy_verdict {
 } ivy_verdict;
 
 /* A string comes. IVY_DONE, with the verdict; WANTED, 267 to 273, MEMORY, CLOSED: nothing changed, and nothing is
- * acknowledged. After WANTED, ivy_wanted says which page to give back; then the same string is delivered again. */
+ * acknowledged. After WANTED, ivy_wanted says which page to give back; then the same string is delivered again. After
+ * IVY_NEXT the node goes on with what it holds, up to a string that would take a lent page, or is refused (ivy_go_on). */
 uint32_t ivy_deliver(ivy_node *node, const uint8_t *bytes, size_t len, uint32_t *verdict);
 
 /* The first string that waits is written to `buffer` and waits no more: IVY_DONE, with its length and the node that it
@@ -277,7 +278,8 @@ uint32_t ivy_pulse(ivy_node *node, uint8_t peer);
  *   d. After each ivy_give_back, and after an ivy_deliver while pages are lent, ivy_go_on for each peer, until it says
  *      IVY_DONE; after its WANTED once the page was given back. The strings that wait are taken as after any call.
  *
- * Then the calls of all nodes, and all accesses to images, are of one flat memory. Without d nodes may stand still, and no
+ * Then the calls of all nodes, and all accesses to images, are of one flat memory. Threads of one process see one another's
+ * accesses as their machine makes them; the order across nodes adds nothing weaker. Without d nodes may stand still, and no
  * answer is wrong. A string that answered WANTED was not delivered: until it is, whoever waits for it waits on. A page is
  * given back also while a call is in progress, but blocks do nothing then: so a driver keeps what was written before it
  * begins a call that may wait, and lets no program write until it is over.

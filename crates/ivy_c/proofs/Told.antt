@@ -1,5 +1,5 @@
 -- What the functions tell, at a handle that has a node.
-use Rattle.std.proofs.Common.{◌≡◌, ◌≢◌, ◌⊎◌, inl, inr, ℕ, ◌/◌, List, length, Option, Some, None, refl}
+use Rattle.std.proofs.Common.{◌≡◌, ◌≢◌, ◌⊎◌, inl, inr, ℕ, ◌/◌, List, length, Option, Some, None, refl, arith}
 use Rattle.ivy_model.specs.declared.Row.{Row}
 use Rattle.ivy_link.specs.declared.Verdict.{Verdict}
 use Rattle.ivy_site.specs.Calls.{MayCallTogether, row_together}
@@ -11,9 +11,10 @@ use Rattle.ivy_embedded.specs.declared.lending.Want.{Want}
 use Rattle.ivy_embedded.specs.Blocks.{BeginsAll}
 use Rattle.ivy_embedded.specs.Exports.{Answers, Delivers, HasNoCall, OfSite, RefusesString, verdict_number}
 use Rattle.ivy_embedded.specs.Lending.{IsWanted, row_lending}
-use Rattle.ivy_embedded.specs.LentPages.{TellsWanted}
-use Rattle.ivy_embedded.specs.Lends.{IsRowRefusal}
+use Rattle.ivy_embedded.specs.LentPages.{DeliversFarAt, TellsWanted}
+use Rattle.ivy_embedded.specs.Lends.{DeliversFar, IsRowRefusal}
 use Rattle.ivy_embedded.specs.Nodes.{Embedded}
+use Rattle.ivy_embedded.specs.declared.status.TheConstants.{DONE}
 use Rattle.ivy_embedded.specs.Numbers.{IsRefusalStatus}
 
 -- so many calls of a row were made, or none
@@ -50,6 +51,28 @@ pub string_delivered : (bytes : List ℕ) (what : ℕ) (v : Verdict) (held new :
     → Answers 0 held new (Delivers bytes 0 what) (RefusesString bytes 0)
 string_delivered bytes what v held new s t at to is of none =
     rw (at, to) (inl (refl, v, is, of, λ takes. none takes.0 takes.1))
+
+-- and the node went on as far as it goes
+pub delivered_far : (bytes : List ℕ) (what : ℕ) (v : Verdict) (held new : Option Embedded)
+    (s t : Embedded) → held ≡ Some s → new ≡ Some t → what ≡ verdict_number v
+    → DeliversFar bytes v s t → DeliversFarAt bytes 0 what held new
+delivered_far bytes what v held new s t at to is far = rw (at, to) (λ done. (v, is, far))
+
+-- a refusal is none
+not_done : (status : ℕ) (refusal : Declined) → IsRefusalStatus status refusal → status ≢ DONE
+not_done status (why.Fault fault) is done = omega (arith, is, done)
+not_done status why.Lent is done = omega (arith, is, done)
+not_done status (why.Wanted want) is done = omega (arith, is, done)
+not_done status why.NotHere is done = omega (arith, is, done)
+not_done status why.NoSuchLending is done = omega (arith, is, done)
+
+pub refused_far : (bytes : List ℕ) (status what : ℕ) (refusal : Declined)
+    (held new : Option Embedded) → IsRefusalStatus status refusal
+    → DeliversFarAt bytes status what held new
+refused_far bytes status what refusal None new is = tt
+refused_far bytes status what refusal (Some s) None is = tt
+refused_far bytes status what refusal (Some s) (Some t) is =
+    λ done. absurd (not_done status refusal is done)
 
 -- no page is wanted
 pub none_told : (bytes : List ℕ) (page on : ℕ) (held new : Option Embedded) (s : Embedded)

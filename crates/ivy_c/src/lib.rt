@@ -8,10 +8,10 @@ ghost use Rattle.std.specs.Mem.{manually_drop_value};
 ghost use Rattle.ivy_model.specs.declared.Config.{Config};
 ghost use Rattle.ivy_model.specs.declared.Row.TheVariants.{Loads, Stores};
 ghost use Rattle.ivy_embedded.specs.Nodes.{first_embedded};
-ghost use Rattle.ivy_embedded.specs.Blocks.{BeginsAll, LoadsAll, RefusesBlock, RefusesStores, StoresAll, TakesAll};
-ghost use Rattle.ivy_embedded.specs.Exports.{Answers, Begins, BeginsBlock, CarriesOut, Delivers, IsRequest, Polls, Pulses, RefusesCall, RefusesPoll, RefusesPulse, RefusesString, TakesAt, TakesBlock};
+ghost use Rattle.ivy_embedded.specs.Blocks.{BeginsAll, HasWordsAt, LoadsAll, RefusesBlock, RefusesStores, StoresAll, StoresNoneRead, TakesAll};
+ghost use Rattle.ivy_embedded.specs.Exports.{Answers, Begins, BeginsBlock, CarriesOut, Delivers, IsRequest, Polls, Pulses, RefusesCall, RefusesPoll, RefusesPulse, RefusesString, TakesAt, TakesBlock, marks_at};
 ghost use Rattle.ivy_embedded.specs.Lending.{LendsSoundly};
-ghost use Rattle.ivy_embedded.specs.LentPages.{GivesBack, GoesOnFor, IsTold, Lends, RefusesGiveBack, RefusesLend, RefusesPeer, TellsWanted};
+ghost use Rattle.ivy_embedded.specs.LentPages.{DeliversFarAt, GivesBack, GoesOnFor, IsTold, Lends, RefusesGiveBack, RefusesLend, RefusesPeer, TellsWanted};
 ghost use Rattle.ivy_embedded.specs.declared.lending.Want.{Want};
 ghost use Rattle.ivy_embedded.specs.Openings.{Names, RefusesOpening};
 ghost use Rattle.ivy_embedded.specs.Peers.{KeepsFor, OwesTo, TellsThose};
@@ -183,6 +183,7 @@ pub extern "C" fn ivy_load_block(
 ) -> u32
     ensures loads { Answers result handle.old.held handle.new.held (CarriesOut Loads addr into.new result words.new) (λ _. ⊥) }
     ensures many { LoadsAll addr (length into.old) words.new handle.old.held }
+    ensures words { HasWordsAt addr result words.new into.new handle.new.held }
     ensures sized { length into.new ≡ length into.old }
     ensures lent { IfSome handle.new.held LendsSoundly }
 {
@@ -206,6 +207,8 @@ pub extern "C" fn ivy_store_block(
 ) -> u32
     ensures stores { Answers result handle.old.held handle.new.held (CarriesOut Stores addr from.now result words.new) (RefusesStores addr result) }
     ensures many { StoresAll addr (length from.now) result words.new handle.old.held }
+    ensures unread { StoresNoneRead addr result words.new handle.old.held }
+    ensures words { HasWordsAt addr result words.new from.now handle.new.held }
     ensures lent { IfSome handle.new.held LendsSoundly }
 {
     let Some(mut node) = take(alloc, handle) else {
@@ -382,6 +385,7 @@ pub extern "C" fn ivy_deliver(
     what: &mut u32,
 ) -> u32
     ensures answers { Answers result handle.old.held handle.new.held (Delivers bytes.now result what.new) (RefusesString bytes.now result) }
+    ensures far { DeliversFarAt bytes.now result what.new handle.old.held handle.new.held }
     ensures lent { IfSome handle.new.held LendsSoundly }
 {
     let Some(mut node) = take(alloc, handle) else {
@@ -410,6 +414,7 @@ pub extern "C" fn ivy_next_frame(
     dest: &mut u32,
 ) -> u32
     ensures answers { TakesAt result buffer.new len.new dest.new handle.old.held handle.new.held }
+    ensures marks { marks_at handle.new.held ≡ marks_at handle.old.held }
     ensures lent { IfSome handle.new.held LendsSoundly }
 {
     let Some(mut node) = take(alloc, handle) else {

@@ -15,7 +15,7 @@ use Rattle.ivy_moves.specs.Parts.{pulse_marks}
 use Rattle.ivy_site.specs.Calls.{AreAnswered, AreTaken, BeginsRow}
 use Rattle.ivy_site.specs.Inside.{Holds, Receives}
 use Rattle.ivy_site.specs.SiteView.{SiteView, after_pulse_to}
-use Rattle.ivy_site.specs.Sites.{SiteTurns, SiteDelivers, GoesOnOnce, SiteGoesOn, FollowsDelivery, AfterDelivery}
+use Rattle.ivy_site.specs.Sites.{SiteTurns, SiteDelivers, GoesOnOnce}
 use Rattle.ivy_embedded.specs.Turns.{turns_in, CountsTurns}
 
 one_more : (events : List Mark) → turns_in (events ++ Turn ∷ []) ≡ turns_in events + 1
@@ -137,29 +137,7 @@ delivers bytes verdict.Repeat old new d =
 delivers bytes verdict.Ahead old new d =
     ap (λ (s : SiteView). turns_in s.events) d.after ∙ heard bytes old.events
 
-goes_on : (source : ℕ) (more : List (List ℕ)) (old new : SiteView) → SiteGoesOn source more old new
-    → turns_in new.events ≡ turns_in old.events
-goes_on source [] old new same = ap (λ (s : SiteView). turns_in s.events) same
-goes_on source (bytes ∷ more) old new g =
-    goes_on source more g.0 new g.2
-    ∙ (ap (λ (s : SiteView). turns_in s.events) g.1.next.after ∙ heard bytes old.events)
-
-follows : (v : Verdict) (f : Frame) (bytes : List ℕ) (mid new : SiteView)
-    → FollowsDelivery v f bytes mid new → turns_in new.events ≡ turns_in mid.events
-follows verdict.NotMine f bytes mid new same = ap (λ (s : SiteView). turns_in s.events) same
-follows verdict.Repeat f bytes mid new same = ap (λ (s : SiteView). turns_in s.events) same
-follows verdict.Ahead f bytes mid new same = ap (λ (s : SiteView). turns_in s.events) same
-follows verdict.Next f bytes mid new went = goes_on f.source went.0 mid new went.1
-
--- a delivery is no turn
-pub counted_delivery : (bytes : List ℕ) (v : Verdict) (old new : SiteView)
-    → AfterDelivery bytes v old new → (count : ℕ) → CountsTurns count old.events
-    → CountsTurns count new.events
-counted_delivery bytes v old new d count counts =
-    counts ∙ ap (λ n. n % 2 ^ 64) (sym (follows v d.first.frame bytes d.mid new d.follows
-    ∙ delivers bytes v old d.mid d.first))
-
--- nor is a pulse
+-- a pulse is no turn
 pub counted_pulse : (to : ℕ) (old new : SiteView) → new ≡ after_pulse_to old to (pulsing old.node to)
     → (count : ℕ) → CountsTurns count old.events → CountsTurns count new.events
 counted_pulse to old new same count counts =

@@ -36,7 +36,7 @@ pub record IsOwn (n : Host Managed) : Type 0 where
   pub asking : IsAskingHost n
 
 -- what a turn of a site comes to
-turned_core : (old new : SiteView) → (t : SiteTurns old new) → t.outcome.after ≡ core_of new
+pub turned_core : (old new : SiteView) → (t : SiteTurns old new) → t.outcome.after ≡ core_of new
 turned_core old new t =
     sym (posting-core old.node t.outcome.after t.outcome.posted t.effect t.sent)
     ∙ ap core_of (sym t.after)

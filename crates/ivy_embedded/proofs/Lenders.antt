@@ -1,11 +1,10 @@
 -- Each event keeps what holds of what a node lends.
-use Rattle.std.proofs.Common.{◌≡◌, ◌≢◌, ◌⊎◌, inl, inr, ℕ, zero, suc, ◌+◌, ◌*◌, ◌%◌, ◌/◌, ◌<◌, ◌≤◌, Bool, true, false, List, [], ◌∷◌, append-nil, length, replicate, set, slice_get, slice_set, get_or, Option, Some, None, refl, sym, ap, ◌∙◌, subst, arith}
+use Rattle.std.proofs.Common.{◌≡◌, ◌≢◌, inl, inr, ℕ, zero, suc, ◌<◌, true, List, [], ◌∷◌, append-nil, length, replicate, set, slice_get, Option, Some, None, refl, sym, ap, ◌∙◌, subst, arith}
 use Rattle.std.proofs.lemmas.Bool.{cases_Bool}
 use Rattle.std.proofs.lemmas.Bool.Decides.{eqb_tells}
 use Rattle.std.proofs.lemmas.List.{get_or-set_other, get_or-set_same, length-replicate, length-set}
 use Rattle.std.proofs.lemmas.Option.{none-some, slice_get_past}
 use Rattle.ivy_model.specs.declared.Call.{Call}
-use Rattle.ivy_model.specs.declared.Call.TheVariants.{Load}
 use Rattle.ivy_model.specs.declared.Config.{Config}
 use Rattle.ivy_model.specs.declared.Record.{Record}
 use Rattle.ivy_model.specs.declared.Reply.{Reply}
@@ -24,14 +23,13 @@ use Rattle.ivy_memory.specs.stated.Sound.{IsSoundMemory}
 use Rattle.ivy_program.specs.OwnCode.{IsFree}
 use Rattle.ivy_program.specs.stated.Programs.{Called}
 use Rattle.ivy_moves.specs.declared.Keep.TheVariants.{Nothing}
-use Rattle.ivy_host.specs.stated.Hosts.{Host}
-use Rattle.ivy_host.specs.stated.Managers.{Managed, managed_ops}
+use Rattle.ivy_host.specs.stated.Managers.{managed_ops}
 use Rattle.ivy_host.proofs.WellBehaved.{IsAskingHost}
 use Rattle.ivy_site.specs.Calls.{AreAnswered, AreTaken, BeginsTogether}
 use Rattle.ivy_site.specs.Handed.{site_handed}
 use Rattle.ivy_site.specs.SiteView.{SiteView}
 use Rattle.ivy_site.specs.Inside.{Holds, Receives}
-use Rattle.ivy_site.specs.Sites.{AfterDelivery, GoesOnOnce, IsSite, SiteDelivers, first_keeping, without_ready}
+use Rattle.ivy_site.specs.Sites.{GoesOnOnce, IsSite, SiteDelivers, first_keeping, without_ready}
 use Rattle.ivy_wire.specs.stated.Data.{Frame}
 use Rattle.ivy_link.specs.declared.Verdict.{Verdict}
 use Rattle.ivy_link.specs.declared.Verdict.TheVariants as verdict
@@ -40,13 +38,13 @@ use Rattle.ivy_embedded.specs.declared.lending.Lending.TheVariants.{Unlent, ToRe
 use Rattle.ivy_embedded.specs.declared.lending.Want.{Want}
 use Rattle.ivy_embedded.specs.Calls.{IsLender}
 use Rattle.ivy_embedded.specs.Exports.{AfterBegin, AfterCall}
-use Rattle.ivy_embedded.specs.Lending.{HasUnanswered, IsWanted, LendsSoundly, is_had, is_more, left_for, lending_asked, lending_in, may_ask, page_asked, permits}
+use Rattle.ivy_embedded.specs.Lending.{HasUnanswered, IsWanted, LendsSoundly, is_had, is_more, left_for, lending_in, may_ask, page_asked, permits}
 use Rattle.ivy_embedded.specs.Nodes.{Embedded}
-use Rattle.ivy_embedded.proofs.Delivering.{IsSameProgram, TakesNone, delivers_held, delivers_program, delivery_program}
-use Rattle.ivy_embedded.proofs.Going.{GoesOn, IsBegun, IsOwn, IsSettled, answered_config, answered_settled, asked_config, asked_on, begun_config, begun_none, begun_some, core_of, handed_own, may_wait, taken_config, taken_on, turned_config, turned_on}
+use Rattle.ivy_embedded.proofs.Delivering.{IsSameProgram, TakesNone, delivers_held, delivers_program}
+use Rattle.ivy_embedded.proofs.Going.{GoesOn, IsOwn, IsSettled, answered_config, answered_settled, asked_config, asked_on, begun_config, begun_none, begun_some, core_of, handed_own, may_wait, taken_config, taken_on, turned_config, turned_on}
 use Rattle.ivy_embedded.proofs.Holding.{had_unlent}
 use Rattle.ivy_embedded.proofs.RowCalls.{IsWordOf}
-use Rattle.ivy_embedded.proofs.Unanswered.{IsAnswered, free_answered, handed_or}
+use Rattle.ivy_embedded.proofs.Unanswered.{free_answered, handed_or}
 
 -- so the pages of a node are lent
 pub soundly : (s : Embedded) (page : ℕ) → IsLender s.site s.lent page → LendsSoundly s
@@ -72,7 +70,7 @@ module _ (old : SiteView) (lent : List Lending) (page : ℕ) (l : IsLender old l
   own : IsOwn (core_of old)
   own = record { called = l.own; asking = k.asking }
 
-  settled : IsFree (core_of old).process → IsSettled lent old
+  pub settled : IsFree (core_of old).process → IsSettled lent old
   settled free = record {
     own = own;
     none = free_answered (core_of old).process free l.wide;
@@ -200,15 +198,6 @@ module _ (old : SiteView) (lent : List Lending) (page : ℕ) (l : IsLender old l
         at = λ call h.
             ap (λ c. page_asked (asked_of c call)) same.config ∙ l.at call (less call h);
       }
-
-  -- no page is lent
-  pub delivered_lender : (bytes : List ℕ) (v : Verdict) (new : SiteView)
-      → ((p : ℕ) → lending_in lent p ≡ Unlent) → AfterDelivery bytes v old new
-      → IsLender new lent page
-  delivered_lender bytes v new none d =
-      by_program new (delivery_program bytes v old new k.limits d)
-      (λ p. had_unlent (access_at (entry_at (core_of new).memory.coherence.table p))
-      (lending_in lent p) (none p))
 
   entries_long : length lent ≡ length (core_of old).memory.coherence.table.entries
   entries_long = l.each ∙ sym k.entries

@@ -12,6 +12,8 @@ pub mod LentPages
 pub mod Lenders
 pub mod Onward
 pub mod Unlent
+pub mod Stored
+pub mod RowBytes
 pub mod Kept
 pub mod Wanting
 pub mod Strings

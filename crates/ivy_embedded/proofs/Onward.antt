@@ -1,5 +1,5 @@
 -- Strings that a node held, and went on with up to one that would take what is lent.
-use Rattle.std.proofs.Common.{◌≡◌, ◌≢◌, inl, inr, ℕ, ◌+◌, List, [], ◌∷◌, ◌++◌, length, length-append, None, refl, sym, ap, ◌∙◌, subst}
+use Rattle.std.proofs.Common.{◌≡◌, ◌≢◌, inl, inr, ℕ, ◌+◌, List, [], None, refl, sym, ◌∙◌, subst}
 use Rattle.std.specs.Prelude.{Result, Ok, Err}
 use Rattle.ivy_link.specs.declared.Verdict.{Verdict}
 use Rattle.ivy_link.specs.declared.Verdict.TheVariants as verdict
@@ -10,7 +10,7 @@ use Rattle.ivy_site.specs.SiteView.{SiteView, holding_at}
 use Rattle.ivy_site.specs.Sites.{AfterDelivery, SiteGoesOn}
 use Rattle.ivy_site.proofs.Receiving.{WentSoOften, went_more}
 use Rattle.ivy_embedded.specs.declared.embedded.Declined.{Declined}
-use Rattle.ivy_embedded.specs.Lends.{GoesOnBy, StopsAt, WentOn}
+use Rattle.ivy_embedded.specs.Lends.{DeliversFar, GoesOnBy, StopsAt, WentOn}
 use Rattle.ivy_embedded.specs.Nodes.{Embedded}
 
 -- the node went on so many times
@@ -75,3 +75,26 @@ rests_delivery bytes verdict.Repeat from old new other r =
     record { mid = r.mid; first = r.first; follows = r.holds }
 rests_delivery bytes verdict.Ahead from old new other r =
     record { mid = r.mid; first = r.first; follows = r.holds }
+
+-- the string was received, and the node went on
+pub far_next : (bytes : List ℕ) (v : Verdict) (from : ℕ) (s t : Embedded) (mid : SiteView)
+    (result : Result (Unit {0}) Declined) → Receives bytes v from s.site mid
+    → WentOn from result (record s { site = mid }) t → v ≡ verdict.Next → DeliversFar bytes v s t
+far_next bytes verdict.NotMine from s t mid result r on next = absurd cc
+far_next bytes verdict.Repeat from s t mid result r on next = absurd cc
+far_next bytes verdict.Ahead from s t mid result r on next = absurd cc
+far_next bytes verdict.Next from s t mid result r on next = record {
+  mid = r.mid;
+  first = r.first;
+  on = λ is. (
+    result,
+    subst (λ x. WentOn r.first.frame.source result (record s { site = x }) t) r.holds
+        (subst (λ i. WentOn i result (record s { site = mid }) t) (sym r.from) on),
+  );
+}
+
+-- or it had nothing to go on with
+pub far_rests : (bytes : List ℕ) (v : Verdict) (from : ℕ) (s t : Embedded) (mid : SiteView)
+    → Receives bytes v from s.site mid → v ≢ verdict.Next → DeliversFar bytes v s t
+far_rests bytes v from s t mid r other =
+    record { mid = r.mid; first = r.first; on = λ next. absurd (other next) }

@@ -1,7 +1,7 @@
 -- Strings that an embedded node takes in while pages are lent: what is lent, and what is counted.
-use Rattle.std.proofs.Common.{◌≡◌, ◌≢◌, ℕ, List, Option, Some, None, refl, sym, ap, ◌∙◌, subst}
+use Rattle.std.proofs.Common.{◌≡◌, ℕ, List, Option, Some, None, refl, sym, ◌∙◌, subst}
 use Rattle.std.specs.Prelude.{Result, Ok, Err, MatchResult}
-use Rattle.std.proofs.lemmas.Option.{none-some, same_Some}
+use Rattle.std.proofs.lemmas.Option.{same_Some}
 use Rattle.ivy_model.specs.declared.Fault.{Fault}
 use Rattle.ivy_link.specs.declared.Verdict.{Verdict}
 use Rattle.ivy_link.specs.declared.Verdict.TheVariants as verdict
@@ -9,15 +9,12 @@ use Rattle.ivy_link.specs.Holding.{ready_of}
 use Rattle.ivy_site.specs.Inside.{AfterOnce, Receives}
 use Rattle.ivy_moves.specs.stated.Nodes.{pulsing}
 use Rattle.ivy_site.specs.SiteView.{SiteView, after_pulse_to, holding_at}
-use Rattle.ivy_site.specs.Sites.{AfterDelivery, GoesOnOnce}
 use Rattle.ivy_embedded.specs.declared.lending.Lending.{Lending}
-use Rattle.ivy_embedded.specs.declared.lending.Lending.TheVariants.{Unlent}
 use Rattle.ivy_embedded.specs.Calls.{IsLender}
-use Rattle.ivy_embedded.specs.Lending.{lending_in}
 use Rattle.ivy_embedded.specs.Turns.{CountsTurns}
-use Rattle.ivy_embedded.proofs.Counting.{counted_delivery, counted_once, counted_pulse, counted_received}
+use Rattle.ivy_embedded.proofs.Counting.{counted_once, counted_pulse, counted_received}
 use Rattle.ivy_embedded.proofs.Delivering.{TakesNone}
-use Rattle.ivy_embedded.proofs.Lenders.{IsKnown, delivered_lender, gone_lender, other_strings, received_lender}
+use Rattle.ivy_embedded.proofs.Lenders.{IsKnown, gone_lender, other_strings, received_lender}
 
 -- what a node keeps: what it lends is had, and its turns are counted
 abbrev pub Keeps : List Lending → ℕ → ℕ → SiteView → Type 0
@@ -25,17 +22,7 @@ Keeps lent page turns s = CountsTurns turns s.events × IsLender s lent page
 
 module _ (old new : SiteView) (lent : List Lending) (page turns : ℕ) (l : Keeps lent page turns old)
     (k : IsKnown old) where
-  -- a string was delivered where no page is lent
-  pub delivered_kept : (r : Result Verdict Fault) (bytes : List ℕ)
-      → ((p : ℕ) → lending_in lent p ≡ Unlent)
-      → MatchResult r (λ v. AfterDelivery bytes v old new) (λ _. new ≡ old) → Keeps lent page turns new
-  delivered_kept (Ok v) bytes none d = (
-    counted_delivery bytes v old new d turns l.0,
-    delivered_lender old lent page l.1 k bytes v new none d,
-  )
-  delivered_kept (Err fault) bytes none same = rw same l
-
-  -- or received, which takes nothing that is lent
+  -- a string was received, which takes nothing that is lent
   pub received_kept : (bytes : List ℕ) (v : Verdict) (from : ℕ) → TakesNone lent old bytes
       → Receives bytes v from old new → Keeps lent page turns new
   received_kept bytes v from none r = (

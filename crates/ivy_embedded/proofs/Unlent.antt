@@ -1,5 +1,5 @@
 -- A call whose first number is no address in a page that is lent may be made.
-use Rattle.std.proofs.Common.{◌≡◌, ℕ, ◌/◌, ◌^◌, true, List, Option, Some, None, refl, sym, ap, ◌∙◌}
+use Rattle.std.proofs.Common.{◌≡◌, ◌<◌, ℕ, ◌/◌, ◌^◌, true, List, length, Option, Some, None, refl, sym, ap, subst, ◌∙◌}
 use Rattle.std.specs.Prelude.{Result, Ok, Err}
 use Rattle.std.specs.Int.Count.{count_trailing_zeros}
 use Rattle.ivy_model.specs.declared.Call.{Call}
@@ -11,7 +11,11 @@ use Rattle.ivy_model.specs.stated.Serves.{access_refusal}
 use Rattle.ivy_event.specs.stated.Counts.{word_of_count}
 use Rattle.ivy_pagetable.specs.declared.Word.{Word}
 use Rattle.ivy_pagetable.specs.declared.Word.TheVariants as word
+use Rattle.ivy_model.specs.stated.Legal.{HasWidth}
+use Rattle.ivy_memory.specs.Asking.{CanAsk}
+use Rattle.ivy_memory.specs.declared.asked.Asked.TheVariants as asked
 use Rattle.ivy_memory.specs.stated.Asking.{asked_of, count_asked, word_unless}
+use Rattle.ivy_memory.proofs.serving.Asking.{can_ask}
 use Rattle.ivy_memory.proofs.serving.Placing as placing
 use Rattle.ivy_embedded.specs.declared.lending.Lending.{Lending}
 use Rattle.ivy_embedded.specs.declared.lending.Lending.TheVariants.{Unlent}
@@ -63,3 +67,12 @@ pub other_may : (s : SiteView) (lent : List Lending) (page : ℕ) (call : Call) 
     → may_ask lent (asked_of s.config call) ≡ true
 other_may s lent page call l at is unlent =
     by_page s.config lent call l.first (ap (lending_in lent) (sym is) ∙ unlent)
+
+-- the page of a word that is asked for has its mark
+pub has_mark : (s : SiteView) (lent : List Lending) (at : ℕ) (c : Config) (call : Call) (page : ℕ)
+    (w : Word) → IsLender s lent at → c ≡ s.config → IsConfig c → HasWidth call
+    → asked_of c call ≡ asked.Word page w → page < length lent
+has_mark s lent at c call page w l same config width is =
+    let asks : CanAsk c (asked.Word page w) =
+    subst (CanAsk c) is (can_ask c call config width) in
+    subst (λ n. page < n) (ap (λ (k : Config). k.pages) same ∙ sym l.each) asks.0

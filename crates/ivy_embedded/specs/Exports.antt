@@ -25,6 +25,7 @@ use Rattle.ivy_site.specs.Calls.{AreAnswered, AreTaken, BeginsRow, IsCallOf}
 use Rattle.ivy_site.specs.Handed.{site_handed}
 use Rattle.ivy_site.specs.SiteView.{SiteView, after_pulse_to}
 use Rattle.ivy_site.specs.Sites.{AfterDelivery, SiteTurns}
+use Rattle.ivy_embedded.specs.declared.lending.Lending.{Lending}
 use Rattle.ivy_embedded.specs.declared.lending.Want.{Want}
 use Rattle.ivy_embedded.specs.Lending.{IsWanted, may_call}
 use Rattle.ivy_embedded.specs.Nodes.{Embedded, waiting_in}
@@ -244,3 +245,8 @@ abbrev pub TakesAt : ℕ → List ℕ → ℕ → ℕ → Option Embedded → Op
 TakesAt status buffer len dest None new = (status ≡ CLOSED) × (new ≡ None)
 TakesAt status buffer len dest (Some s) None = ⊥
 TakesAt status buffer len dest (Some s) (Some t) = Takes status buffer len dest s t
+
+-- what is lent of the node of a handle
+abbrev pub marks_at : Option Embedded → List Lending
+marks_at None = []
+marks_at (Some e) = e.lent

@@ -5,11 +5,13 @@ use Rattle.ivy_model.specs.declared.Row.{Row}
 use Rattle.ivy_model.specs.Rows.{calls_of, numbers_in, row}
 use Rattle.ivy_model.specs.Wants.{RanOut}
 use Rattle.ivy_wire.specs.stated.DecodeErrors.{checked}
+use Rattle.ivy_link.specs.declared.Verdict.{Verdict}
+use Rattle.ivy_link.specs.declared.Verdict.TheVariants as verdict
 use Rattle.ivy_link.specs.Holding.{ready_of}
 use Rattle.ivy_site.specs.Calls.{row_together}
 use Rattle.ivy_site.specs.Handed.{site_handed}
-use Rattle.ivy_site.specs.SiteView.{holding_at}
-use Rattle.ivy_site.specs.Sites.{GoesOnOnce, HasNoneReady, SiteGoesOn, IsSpentTurn}
+use Rattle.ivy_site.specs.SiteView.{SiteView, holding_at}
+use Rattle.ivy_site.specs.Sites.{GoesOnOnce, HasNoneReady, SiteDelivers, SiteGoesOn, IsSpentTurn}
 use Rattle.ivy_embedded.specs.declared.embedded.Declined.{Declined}
 use Rattle.ivy_embedded.specs.declared.embedded.Declined.TheVariants as why
 use Rattle.ivy_embedded.specs.declared.lending.Lending.{Lending}
@@ -95,3 +97,11 @@ pub record WentOn (from : ℕ) (result : Result (Unit {0}) Declined) (s t : Embe
   pub more : List (List ℕ)
   pub on : OfSite (SiteGoesOn from more) s t
   pub ends : EndsGoing from more result t
+
+-- the string is delivered, and where it was the next one of its source the node goes on with those
+-- that it holds: up to one that would take a page that is lent, or is refused, or is not due yet
+pub record DeliversFar (bytes : List ℕ) (v : Verdict) (s t : Embedded) : Type 0 where
+  pub mid : SiteView
+  pub first : SiteDelivers bytes v s.site mid
+  pub on : v ≡ verdict.Next → (result : Result (Unit {0}) Declined)
+      × WentOn first.frame.source result (record s { site = mid }) t

@@ -1,14 +1,15 @@
 -- What the exports that lend pages answer, and what they do to the node of a handle.
-use Rattle.std.specs.Prelude.{◌≡◌, ◌⊎◌, ℕ, ◌≤◌, true, false, List, Result, Ok, Err}
+use Rattle.std.specs.Prelude.{◌≡◌, ◌⊎◌, ℕ, ◌≤◌, true, false, List, Option, Some, None, Result, Ok, Err}
+use Rattle.ivy_link.specs.declared.Verdict.{Verdict}
 use Rattle.ivy_embedded.specs.declared.embedded.Declined.{Declined}
 use Rattle.ivy_embedded.specs.declared.embedded.Declined.TheVariants as why
 use Rattle.ivy_embedded.specs.declared.lending.Lending.{Lending}
 use Rattle.ivy_embedded.specs.declared.lending.Lending.TheVariants.{ToWrite}
 use Rattle.ivy_embedded.specs.declared.lending.Want.{Want}
 use Rattle.ivy_embedded.specs.declared.status.TheConstants.{BAD_ARGUMENT, DONE, MEMORY, NO_PAGE, WANTED}
-use Rattle.ivy_embedded.specs.Exports.{TakesLent}
+use Rattle.ivy_embedded.specs.Exports.{TakesLent, verdict_number}
 use Rattle.ivy_embedded.specs.Lending.{IsWanted, is_more, lending_at}
-use Rattle.ivy_embedded.specs.Lends.{CanBeLent, IsNotHere, MayLend, WentOn, with_lending}
+use Rattle.ivy_embedded.specs.Lends.{CanBeLent, DeliversFar, IsNotHere, MayLend, WentOn, with_lending}
 use Rattle.ivy_embedded.specs.Nodes.{Embedded}
 use Rattle.ivy_embedded.specs.Numbers.{IsRefusalStatus, lending_number}
 
@@ -61,3 +62,10 @@ GoesOnFor peer status page on s t = (result : Result (Unit {0}) Declined)
 abbrev pub RefusesPeer : ℕ → ℕ → Embedded → Type 0
 RefusesPeer peer status s = (status ≡ BAD_ARGUMENT)
     × ((s.site.config.nodes ≤ peer) ⊎ (peer ≡ s.site.me))
+
+-- the string was delivered at an open handle, and the node went on as far as it goes
+abbrev pub DeliversFarAt : List ℕ → ℕ → ℕ → Option Embedded → Option Embedded → Type 0
+DeliversFarAt bytes status what (Some s) (Some t) = status ≡ DONE
+    → (v : Verdict) × (what ≡ verdict_number v) × DeliversFar bytes v s t
+DeliversFarAt bytes status what (Some s) None = Unit {0}
+DeliversFarAt bytes status what None new = Unit {0}

@@ -1,5 +1,5 @@
 //! A node with own code, and the string that its owner looked at and has not taken.
-ghost use Rattle.std.specs.Prelude.{◌≡◌, ◌≢◌, ◌↔◌, ◌≤◌, ◌⊎◌, ◌-◌, ◌*◌, ◌/◌, ◌∷◌, [], ◌<◌, None, Some, Ok, Err, true, false, take, length, slice_get, OnOk, OnErr, IfOk, IfErr, IsTrue, IsFalse, MatchOption, MatchResult, IsOkUnless};
+ghost use Rattle.std.specs.Prelude.{◌≡◌, ◌≢◌, ◌↔◌, ◌≤◌, ◌⊎◌, ◌-◌, ◌*◌, ◌/◌, ◌%◌, ◌∷◌, [], ◌<◌, None, Some, Ok, Err, true, false, take, length, slice_get, OnOk, OnErr, IfOk, IfErr, IsTrue, IsFalse, MatchOption, MatchResult, IsOkUnless};
 ghost use Rattle.ivy_model.specs.stated.Config.{IsConfig};
 ghost use Rattle.ivy_model.specs.stated.Legal.{HasWidth};
 ghost use Rattle.ivy_model.specs.Rows.{calls_of, numbers_in, row};
@@ -21,7 +21,8 @@ ghost use Rattle.ivy_embedded.specs.Exports.{AfterCall, AfterBegin, ChangesWaiti
 ghost use Rattle.ivy_embedded.specs.Turns.{CountsTurns};
 ghost use Rattle.ivy_embedded.specs.Peers.{AreThose, KeepsFor, OwesTo};
 ghost use Rattle.ivy_embedded.specs.Lending.{IsWanted, LendsSoundly, WaitsFor, access_to, is_had, is_more, lending_at, may_call, page_asked, row_lending};
-ghost use Rattle.ivy_embedded.specs.Lends.{GoesOnBy, IsDeliveryRefusal, IsRowRefusal, MayLend, RefusesLending, StopsAt, WentOn, with_lending};
+ghost use Rattle.ivy_embedded.specs.Blocks.{HasWords, NoneIsRead};
+ghost use Rattle.ivy_embedded.specs.Lends.{DeliversFar, GoesOnBy, IsDeliveryRefusal, IsRowRefusal, MayLend, RefusesLending, StopsAt, WentOn, with_lending};
 ghost use Rattle.ivy_embedded.specs.declared.lending.Want.{Want};
 ghost use Rattle.ivy_embedded.specs.declared.lending.Lending.TheVariants.{Unlent, ToRead, ToWrite};
 ghost use Rattle.ivy_link.specs.Holding.{ready_of};
@@ -245,8 +246,9 @@ impl Embedded {
         requires { HasWidth call }
         ensures { result ≡ may_call self.now call }
     {
-        match self.asked(call) {
-            Asked::Word { page, word } => permits(self.lendings.at(page), word),
+        let config = self.site.config();
+        match asked_of(&config, call) {
+            Asked::Word { page, word } => permits(self.lendings.of(page), word),
             Asked::Refused(_) | Asked::Heap(_) => true,
         }
     }
@@ -268,6 +270,19 @@ impl Embedded {
         ensures { result ≡ addr / self.now.site.config.page_size }
     {
         addr >> self.site.config().page_size.trailing_zeros()
+    }
+
+    /// The bytes for which the page of an address has room, from there on.
+    #[tactic(auto, using(crate::proofs::Stored::room_by_mask))]
+    fn inside_page<'a>(&self, addr: u64, bytes: &'a [u8]) -> &'a [u8]
+        ensures { result.now ≡ take (self.now.site.config.page_size - addr % self.now.site.config.page_size) bytes.now }
+    {
+        let size = u64::from(self.site.config().page_size);
+        let room = (size - (addr & (size - 1))) as usize;
+        if bytes.len() <= room {
+            return bytes;
+        }
+        &bytes[..room]
     }
 
     /// What the page is lent for at which a row of words of 8 bytes begins, if a word of the heap is at the address.
@@ -330,6 +345,7 @@ impl Embedded {
     pub fn load_row(&mut self, addr: u64, into: &mut [u8]) -> usize
         ensures many { MayCallInRow self.old.site addr (length into.old) → result ≡ row_at_hand self.old.site.node.core.memory Loads addr (length into.old) }
         ensures loads { OfSite (AreAnswered (row Loads self.old.site.me addr (numbers_in result into.new))) self.old self.new }
+        ensures words { HasWords addr result into.new self.new }
         ensures fits { 8 * result ≤ length into.new }
         ensures sized { length into.new ≡ length into.old }
         ensures waiting { waiting_in self.new ≡ waiting_in self.old }
@@ -353,6 +369,8 @@ impl Embedded {
         ensures waiting { waiting_in self.new ≡ waiting_in self.old }
         ensures refused { IfErr result (λ why. (why ≡ Declined.Lent) × IsFree self.old.site.node.core.process × (row_lending self.old addr ≡ ToRead)) }
         ensures lent { IsFree self.old.site.node.core.process → row_lending self.old addr ≡ ToRead → result ≡ Err Declined.Lent }
+        ensures unread { IfOk result (NoneIsRead self.old addr) }
+        ensures words { IfOk result (λ n. HasWords addr n from.now self.new) }
     {
         if !self.site.is_free() {
             return Ok(0);
@@ -361,7 +379,8 @@ impl Embedded {
             return Err(Declined::Lent);
         }
         self.site.sound();
-        let words = self.site.store_row(addr, from);
+        let inside = self.inside_page(addr, from);
+        let words = self.site.store_row(addr, inside);
         self.turns = self.turns.wrapping_add(words as u64);
         Ok(words)
     }
@@ -511,10 +530,11 @@ impl Embedded {
         Ok(())
     }
 
-    /// A string comes, as [`Embedded::deliver`] says, while pages are lent.
+    /// A string comes, as [`Embedded::deliver`] says, that takes no page that is lent.
     fn deliver_past(&mut self, bytes: &[u8]) -> Result<Verdict, Fault>
         requires { (want : Want) → IsWanted self.old bytes.now want → ⊥ }
         ensures done { MatchResult result (λ verdict. OfSite (AfterDelivery bytes.now verdict) self.old self.new) (λ _. self.new ≡ self.old) }
+        ensures far { IfOk result (λ verdict. DeliversFar bytes.now verdict self.old self.new) }
         ensures refused { MatchResult (checked self.old.site.config bytes.now) (λ _. IfErr result RanOut) (λ fault. result ≡ Err fault) }
     {
         self.site.sound();
@@ -527,17 +547,15 @@ impl Embedded {
     }
 
     /// A string comes, any bytes at all [1, 11 to 17]. One that would take a page that is lent is refused, and changes
-    /// nothing. After the next one of its source the node goes on, as [`Embedded::go_on`] does.
+    /// nothing. After the next one of its source the node goes on, as [`Embedded::go_on`] does, and no less far.
     pub fn deliver(&mut self, bytes: &[u8]) -> Result<Verdict, Declined>
         ensures done { MatchResult result (λ verdict. OfSite (AfterDelivery bytes.now verdict) self.old self.new) (λ _. self.new ≡ self.old) }
+        ensures far { IfOk result (λ verdict. DeliversFar bytes.now verdict self.old self.new) }
         ensures wanted { (want : Want) → IsWanted self.old bytes.now want → result ≡ Err (Declined.Wanted want) }
         ensures refused { IfErr result (λ why. IsDeliveryRefusal why bytes.now self.old) }
         ensures fault { IfErr (checked self.old.site.config bytes.now) (λ fault. result ≡ Err (Declined.Fault fault)) }
     {
         self.site.sound();
-        if self.lendings.is_none() {
-            return told(self.site.deliver(bytes));
-        }
         match self.wanted(bytes) {
             Some(want) => Err(Declined::Wanted(want)),
             None => told(self.deliver_past(bytes)),
@@ -642,6 +660,7 @@ impl Embedded {
     fn look(&mut self)
         ensures waiting { waiting_in self.new ≡ waiting_in self.old }
         ensures node { ChangesWaiting self.old self.new }
+        ensures lent { self.new.lent ≡ self.old.lent }
         ensures none { self.new.first ≡ None → waiting_in self.new ≡ [] }
     {
         if self.first.is_none() {
@@ -652,7 +671,8 @@ impl Embedded {
     /// The first string that waits is written to the head of the buffer, where it fits, and waits
     /// no more.
     pub fn take_into(&mut self, buffer: &mut [u8]) -> TakenString
-        ensures { IsTaken result buffer.new self.old self.new }
+        ensures taken { IsTaken result buffer.new self.old self.new }
+        ensures lent { self.new.lent ≡ self.old.lent }
     {
         self.look();
         let Some(string) = &self.first else {

@@ -139,6 +139,14 @@ impl Lendings {
         }
     }
 
+    /// What a page that is there is lent for.
+    pub(crate) fn of(&self, page: u32) -> Lending
+        requires { page < length self.now }
+        ensures { result ≡ lending_in self.now page }
+    {
+        self.each[page as usize]
+    }
+
     /// Sets what a page is lent for.
     pub(crate) fn set(&mut self, page: u32, lending: Lending)
         requires { page < length self.old }

@@ -1,29 +1,31 @@
 -- What each function of a node does, by acts of its site, or what it does beside.
-use Rattle.std.proofs.Common.{◌≡◌, ◌⊎◌, inl, inr, ℕ, ◌+◌, true, List, [], ◌∷◌, ◌++◌, drop, length, map, Contains, append-nil, append_assoc, refl, sym, ap, subst, ◌∙◌, ⊎_elim}
+use Rattle.std.proofs.Common.{◌≡◌, ◌≢◌, ◌⊎◌, inl, inr, ℕ, ◌+◌, ◌*◌, ◌<◌, true, List, [], ◌∷◌, Contains, refl, sym, ap, subst, ◌∙◌, ⊎_elim}
 use Rattle.ivy_model.specs.declared.Call.{Call}
+use Rattle.ivy_model.specs.declared.Call.TheVariants.{Load}
 use Rattle.ivy_model.specs.declared.Config.{Config}
 use Rattle.ivy_model.specs.declared.Record.{Record}
 use Rattle.ivy_model.specs.declared.Row.TheVariants.{Loads, Stores}
 use Rattle.ivy_model.specs.stated.Config.{IsConfig}
 use Rattle.ivy_model.specs.Rows.{calls_of, numbers_in, row}
+use Rattle.ivy_model.proofs.Rows.{length-numbers_in}
 use Rattle.ivy_memory.specs.stated.Asking.{asked_of}
 use Rattle.ivy_program.specs.stated.Programs.{Program}
-use Rattle.ivy_site.specs.Calls.{AreAnswered, BeginsRow}
+use Rattle.ivy_site.specs.Calls.{BeginsRow}
 use Rattle.ivy_site.specs.Handed.{site_handed}
 use Rattle.ivy_site.specs.SiteView.{SiteView}
 use Rattle.ivy_site.specs.Sites.{SiteGoesOn}
 use Rattle.ivy_embedded.specs.declared.lending.Lending.{Lending as Mark}
+use Rattle.ivy_embedded.specs.declared.lending.Lending.TheVariants.{ToRead}
 use Rattle.ivy_embedded.specs.Exports.{Takes}
-use Rattle.ivy_embedded.specs.Lending.{LendsSoundly, may_ask}
+use Rattle.ivy_embedded.specs.Lending.{LendsSoundly, lending_asked, may_ask}
 use Rattle.ivy_embedded.specs.Nodes.{Embedded}
 use Rattle.ivy_embedded.proofs.Delivering.{delivery_program}
 use Rattle.ivy_embedded.proofs.Going.{IsOwn, asked_config, begun_config, core_of, turned_config}
-use Rattle.proof_lent.proofs.Members.{In, drop_front, in_contains, in_map}
+use Rattle.proof_lent.proofs.Members.{In}
 use Rattle.proof_embedded.specs.Driven.{Request, Begin, Reply, LoadBlock, StoreBlock, BeginLoadBlock, BeginStoreBlock, TakeLoadBlock, TakeStoreBlock, Deliver, NextFrame, Pulse, TakesOut, Does}
-use Rattle.proof_embedded.specs.Mapped.{StoresNoneRead}
 use Rattle.proof_embedded.proofs.Acting.{Act, Goes, own_on}
 use Rattle.proof_embedded.proofs.Lifted.{Extends, acts_config, extends_back}
-use Rattle.proof_embedded.proofs.Quiet.{AllAct, AreQuiet, Chain, IsQuiet, load_quiet, may_quiet, sound_held, sound_quiet}
+use Rattle.proof_embedded.proofs.Quiet.{AllAct, AreQuiet, Chain, IsQuiet, load_quiet, may_quiet, sound_held, sound_quiet, stores_quiet}
 use Rattle.proof_embedded.proofs.Requests.{answered, begun, delivered, gone_on, nothing_done, polled, pulsed, taken, together}
 
 -- what holds of a node at each moment
@@ -59,27 +61,30 @@ loads_quiet c lent me addr (number ∷ more) r (inl e) =
     subst (λ (q : Record). IsQuiet c lent q.call) e (load_quiet c lent 8 addr)
 loads_quiet c lent me addr (number ∷ more) r (inr h) = loads_quiet c lent me (addr + 8) more r h
 
--- rows that are answered are recorded
-answered_grows : (rs : List Record) (a b : SiteView) → AreAnswered rs a b → (more : List Record)
-    × ((core_of b).history ≡ (core_of a).history ++ more) × (calls_of more ≡ calls_of rs)
-answered_grows [] a b same =
-    ([], ap (λ (s : SiteView). (core_of s).history) same ∙ sym (append-nil (core_of a).history), refl)
-answered_grows (r ∷ rs) a b h =
-    let rest = answered_grows rs h.0 b h.2 in
-    let one : Record = record { node = _; call = r.call; reply = r.reply } in (
-      one ∷ rest.0,
-      rest.1 ∙ ap (λ l. l ++ rest.0) h.1.recorded ∙ append_assoc (core_of a).history (one ∷ []) rest.0,
-      ap (λ l. r.call ∷ l) rest.2,
-    )
-
-stored_among : (rs : List Record) (a b : SiteView) → AreAnswered rs a b → (r : Record) → In rs r
-    → Contains (map (λ (q : Record). q.call) (drop (length (core_of a).history) (core_of b).history)) r.call
-stored_among rs a b h r among =
-    let grown = answered_grows rs a b h in
-    in_contains (calls_of (drop (length (core_of a).history) (core_of b).history)) r.call
-    (subst (λ l. In (calls_of l) r.call)
-    (sym (ap (drop (length (core_of a).history)) grown.1 ∙ drop_front (core_of a).history grown.0))
-    (subst (λ l. In l r.call) (sym grown.2) (in_map (λ (q : Record). q.call) rs r among)))
+-- what is lent stays so
+pub asked_lent : (request : Request) (strings more : List (List ℕ)) (s t : Embedded)
+    → Does request strings s t more → t.lent ≡ s.lent
+asked_lent (Begin kind width place operand expected) strings more s t h =
+    ⊎_elim (λ does. does.4.2) (λ refused. ap (λ (e : Embedded). e.lent) refused.1) h.1.3
+asked_lent Reply strings more s t h =
+    ⊎_elim (λ does. does.2.2) (λ refused. ap (λ (e : Embedded). e.lent) refused.1) h.1.3
+asked_lent (LoadBlock addr) strings more s t h =
+    ⊎_elim (λ does. does.3.2) (λ none. absurd none.0) h.1.3
+asked_lent (StoreBlock addr bytes) strings more s t h =
+    ⊎_elim (λ does. does.3.2) (λ refused. ap (λ (e : Embedded). e.lent) refused.1) h.1.2
+asked_lent (BeginLoadBlock addr bytes) strings more s t h =
+    ⊎_elim (λ does. does.2.2) (λ refused. ap (λ (e : Embedded). e.lent) refused.1) h.1.2
+asked_lent (BeginStoreBlock addr bytes) strings more s t h =
+    ⊎_elim (λ does. does.2.2) (λ refused. ap (λ (e : Embedded). e.lent) refused.1) h.1.2
+asked_lent (TakeLoadBlock addr) strings more s t h =
+    ⊎_elim (λ does. does.4.2) (λ none. absurd none.0) h.1.3
+asked_lent (TakeStoreBlock addr bytes) strings more s t h =
+    ⊎_elim (λ does. does.4.2) (λ none. absurd none.0) h.1.2
+asked_lent (Deliver bytes) strings more s t h =
+    ⊎_elim (λ does. does.3.2) (λ refused. ap (λ (e : Embedded). e.lent) refused.1) h.2.2
+asked_lent NextFrame strings more s t h = h.6
+asked_lent (Pulse to) strings more s t h =
+    ⊎_elim (λ does. does.3.2) (λ refused. ap (λ (e : Embedded). e.lent) refused.1) h.1.1
 
 module _ (c : Config) (limits : IsConfig c) (strings : List (List ℕ)) (s t : Embedded)
     (kept : IsKept c s) (sound : LendsSoundly t) (lent : t.lent ≡ s.lent) where
@@ -118,8 +123,8 @@ module _ (c : Config) (limits : IsConfig c) (strings : List (List ℕ)) (s t : E
   }
 
   pub effect : (request : Request) (more : List (List ℕ)) → Does request strings s t more
-      → StoresNoneRead request s t → HasEffect c strings s t more
-  effect (Begin kind width place operand expected) more h stores = inl (
+      → HasEffect c strings s t more
+  effect (Begin kind width place operand expected) more h = inl (
     ⊎_elim
         (λ does. record {
           first = does.4.0;
@@ -130,7 +135,7 @@ module _ (c : Config) (limits : IsConfig c) (strings : List (List ℕ)) (s t : E
         (λ refused. unchanged refused.1) h.1.3,
     h.0,
   )
-  effect Reply more h stores = inl (
+  effect Reply more h = inl (
     ⊎_elim
         (λ does. record {
           first = does.2.0;
@@ -140,7 +145,7 @@ module _ (c : Config) (limits : IsConfig c) (strings : List (List ℕ)) (s t : E
         (λ refused. unchanged refused.1) h.1.3,
     h.0,
   )
-  effect (LoadBlock addr) more h stores = inl (
+  effect (LoadBlock addr) more h = inl (
     ⊎_elim
         (λ does. record {
           first = does.3.0;
@@ -151,21 +156,21 @@ module _ (c : Config) (limits : IsConfig c) (strings : List (List ℕ)) (s t : E
         (λ none. absurd none.0) h.1.3,
     h.0,
   )
-  effect (StoreBlock addr bytes) more h stores = inl (
+  effect (StoreBlock addr bytes) more h = inl (
     ⊎_elim
         (λ does. record {
           first = does.3.0;
           chain = answered c s.lent strings (row Stores s.site.me addr (numbers_in h.1.1 bytes)) s.site
               t.site does.3.1 kept.own (sound_held s kept.sound) before
-              (λ r among p w is.
-              stores r.call
-              (stored_among (row Stores s.site.me addr (numbers_in h.1.1 bytes)) s.site t.site does.3.1 r
-              among) p w (ap (λ k. asked_of k r.call) kept.config ∙ is));
+              (stores_quiet c s.lent s.site.me addr (numbers_in h.1.1 bytes)
+              (λ k low.
+              subst (λ x. lending_asked s.lent (asked_of x (Load 8 (addr + 8 * k))) ≢ ToRead) kept.config
+              (h.1.3 does.0 k (subst (λ n. k < n) (length-numbers_in h.1.1 bytes) low))));
         })
         (λ refused. unchanged refused.1) h.1.2,
     h.0,
   )
-  effect (BeginLoadBlock addr bytes) more h stores = inl (
+  effect (BeginLoadBlock addr bytes) more h = inl (
     ⊎_elim
         (λ does. record {
           first = does.2.0;
@@ -174,7 +179,7 @@ module _ (c : Config) (limits : IsConfig c) (strings : List (List ℕ)) (s t : E
         (λ refused. unchanged refused.1) h.1.2,
     h.0,
   )
-  effect (BeginStoreBlock addr bytes) more h stores = inl (
+  effect (BeginStoreBlock addr bytes) more h = inl (
     ⊎_elim
         (λ does. record {
           first = does.2.0;
@@ -183,7 +188,7 @@ module _ (c : Config) (limits : IsConfig c) (strings : List (List ℕ)) (s t : E
         (λ refused. unchanged refused.1) h.1.2,
     h.0,
   )
-  effect (TakeLoadBlock addr) more h stores = inl (
+  effect (TakeLoadBlock addr) more h = inl (
     ⊎_elim
         (λ does. record {
           first = does.4.0;
@@ -193,7 +198,7 @@ module _ (c : Config) (limits : IsConfig c) (strings : List (List ℕ)) (s t : E
         (λ none. absurd none.0) h.1.3,
     h.0,
   )
-  effect (TakeStoreBlock addr bytes) more h stores = inl (
+  effect (TakeStoreBlock addr bytes) more h = inl (
     ⊎_elim
         (λ does. record {
           first = does.4.0;
@@ -203,7 +208,7 @@ module _ (c : Config) (limits : IsConfig c) (strings : List (List ℕ)) (s t : E
         (λ none. absurd none.0) h.1.2,
     h.0,
   )
-  effect (Deliver bytes) more h stores = inl (
+  effect (Deliver bytes) more h = inl (
     ⊎_elim
         (λ does. record {
           first = does.3.0;
@@ -214,7 +219,7 @@ module _ (c : Config) (limits : IsConfig c) (strings : List (List ℕ)) (s t : E
         (λ refused. unchanged refused.1) h.2.2,
     h.0,
   )
-  effect NextFrame more h stores = inr (record {
+  effect NextFrame more h = inr (record {
     status = h.0;
     len = h.1;
     dest = h.2;
@@ -222,7 +227,7 @@ module _ (c : Config) (limits : IsConfig c) (strings : List (List ℕ)) (s t : E
     takes = h.4;
     out = h.5;
   })
-  effect (Pulse to) more h stores = inl (
+  effect (Pulse to) more h = inl (
     ⊎_elim
         (λ does. record {
           first = does.3.0;

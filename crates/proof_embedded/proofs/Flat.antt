@@ -32,6 +32,7 @@ use Rattle.proof_lent.specs.LentWorlds.{GoesOnLent, IsOfOneMemory, LentWorld, ma
 use Rattle.proof_lent.proofs.LentWorlds.{lent_pages_are_flat}
 use Rattle.proof_embedded.specs.Driven.{Driven, first_from, opened, program_in}
 use Rattle.proof_embedded.specs.Mapped.{Mapped, Happening, Ask, Lend, GiveBack, GoOn, Look, Point, HappenTo, HappensSo, AddsMade, AreOfOneMemory, AreOfOneWorld, GrowAsOneMemory, IsGivenBack, IsLent, IsPointed, LeavesImages, NodesThatLendAreFlat, lending_of, lent_by, lent_in}
+use Rattle.proof_embedded.proofs.Effects.{asked_lent}
 use Rattle.proof_embedded.proofs.Acting.{IsNodeSite}
 use Rattle.proof_embedded.proofs.Along.{along, along_own, along_there}
 use Rattle.proof_embedded.proofs.Bridges.{back_shows, gives_back, lent_shows, lends_page, none_added, pointed_image, pointed_shows, touches, world_at}
@@ -210,7 +211,8 @@ module _ (c : Config) (limits : IsConfig c) (ps : List Program) (few : length ps
       (image : ℕ → ℕ → List ℕ) → AreSeen old loans image → Bridge new next loans image
   bridge (Ask i request) of old new h at next loans image seen =
       no_bridge old new i h.asks.before h.asks.after h.asks.there h.asks.nodes next loans image seen
-      h.images h.lent
+      h.images
+      (asked_lent request old.driven.strings new.driven.strings h.asks.before h.asks.after h.asks.does)
   bridge (Lend i page number) of old new h at next loans image seen =
       lend_bridge i page number old new h at next loans image seen
   bridge (GiveBack i page number) of old new h at next loans image seen =

@@ -17,3 +17,4 @@ pub mod Moments
 pub mod Marks
 pub mod Bridges
 pub mod Flat
+pub mod PageBlocks

@@ -1,13 +1,15 @@
 -- Acts of a node's site while its pages are lent: before each, the pages that are lent are had, and by
 -- none is a call made that writes a page which is lent to be read.
-use Rattle.std.proofs.Common.{◌≡◌, inl, inr, ℕ, zero, suc, ◌+◌, ◌/◌, ◌%◌, ◌<◌, Bool, true, false, not, List, [], ◌∷◌, ◌++◌, drop, length, map, slice_get, get_or, Contains, Option, Some, None, refl, sym, ap, subst, ◌∙◌, arith}
+use Rattle.std.proofs.Common.{◌≡◌, ◌≢◌, inl, inr, ℕ, zero, suc, ◌+◌, ◌*◌, ◌/◌, ◌%◌, ◌<◌, Bool, true, false, not, List, [], ◌∷◌, ◌++◌, drop, length, map, slice_get, get_or, Contains, Option, Some, None, refl, sym, ap, subst, ◌∙◌, arith}
 use Rattle.std.proofs.lemmas.Option.{none-some, same_Some, slice_get_past}
 use Rattle.ivy_model.specs.declared.Act.TheVariants as act
 use Rattle.ivy_model.specs.declared.Call.{Call}
-use Rattle.ivy_model.specs.declared.Call.TheVariants.{Load}
+use Rattle.ivy_model.specs.declared.Call.TheVariants.{Load, Store}
 use Rattle.ivy_model.specs.declared.Config.{Config}
 use Rattle.ivy_model.specs.declared.Record.{Record}
 use Rattle.ivy_model.specs.declared.Reply.TheVariants.{Done}
+use Rattle.ivy_model.specs.declared.Row.TheVariants.{Stores}
+use Rattle.ivy_model.specs.Rows.{row}
 use Rattle.ivy_model.specs.stated.Serves.{access_refusal}
 use Rattle.ivy_pagetable.specs.declared.Word.{Word}
 use Rattle.ivy_pagetable.specs.stated.Words.{needs_write, word_with}
@@ -22,7 +24,7 @@ use Rattle.ivy_site.specs.Handed.{site_handed}
 use Rattle.ivy_site.specs.SiteView.{SiteView}
 use Rattle.ivy_embedded.specs.declared.lending.Lending.{Lending}
 use Rattle.ivy_embedded.specs.declared.lending.Lending.TheVariants.{ToRead}
-use Rattle.ivy_embedded.specs.Lending.{HasUnanswered, LendsSoundly, lending_in, may_ask, permits}
+use Rattle.ivy_embedded.specs.Lending.{HasUnanswered, LendsSoundly, lending_asked, lending_in, may_ask, permits}
 use Rattle.ivy_embedded.specs.Nodes.{Embedded}
 use Rattle.ivy_embedded.proofs.Going.{IsOwn, core_of}
 use Rattle.ivy_embedded.proofs.Holding.{IsHeld}
@@ -66,6 +68,39 @@ load_writes_none None page width offset p w is =
 pub load_quiet : (c : Config) (lent : List Lending) (width addr : ℕ) → IsQuiet c lent (Load width addr)
 load_quiet c lent width addr p w is read =
     load_writes_none (access_refusal c width addr) (addr / c.page_size) width (addr % c.page_size) p w is
+
+-- nor does a store, at an address where words are of no page that is lent to be read
+no_word_read : (lent : List Lending) (o : Option ℕ) (page p : ℕ) (w stored loaded : Word)
+    → word_unless o page stored ≡ asked.Word p w → lending_in lent p ≡ ToRead
+    → lending_asked lent (word_unless o page loaded) ≢ ToRead → ⊥
+no_word_read lent (Some code) page p w stored loaded is read not = refused_apart code p w is
+no_word_read lent None page p w stored loaded is read not =
+    let same : page ≡ p = cc in not (ap (lending_in lent) same ∙ read)
+
+store_quiet : (c : Config) (lent : List Lending) (addr value : ℕ)
+    → lending_asked lent (asked_of c (Load 8 addr)) ≢ ToRead → IsQuiet c lent (Store 8 addr value)
+store_quiet c lent addr value not p w is read =
+    absurd (no_word_read lent (access_refusal c 8 addr) (addr / c.page_size) p w
+    (word_with 8 (addr % c.page_size) (act.Store value)) (word_with 8 (addr % c.page_size) act.Load)
+    is read not)
+
+-- nor do the stores of a row
+pub stores_quiet : (c : Config) (lent : List Lending) (me addr : ℕ) (numbers : List ℕ)
+    → ((k : ℕ) → k < length numbers
+    → lending_asked lent (asked_of c (Load 8 (addr + 8 * k))) ≢ ToRead)
+    → (r : Record) → In (row Stores me addr numbers) r → IsQuiet c lent r.call
+stores_quiet c lent me addr [] none r h = absurd h
+stores_quiet c lent me addr (number ∷ more) none r (inl e) =
+    let first : addr + 8 * 0 ≡ addr = omega arith in
+    subst (λ (q : Record). IsQuiet c lent q.call) e
+    (store_quiet c lent addr number
+    (subst (λ a. lending_asked lent (asked_of c (Load 8 a)) ≢ ToRead) first
+    (none 0 (omega arith))))
+stores_quiet c lent me addr (number ∷ more) none r (inr h) =
+    stores_quiet c lent me (addr + 8) more
+    (λ k low. (let on : addr + 8 * suc k ≡ addr + 8 + 8 * k = omega arith in
+    subst (λ a. lending_asked lent (asked_of c (Load 8 a)) ≢ ToRead) on
+    (none (suc k) (omega (arith, low))))) r h
 
 module _ (c : Config) (lent : List Lending) where
   -- the calls without a reply do not

@@ -20,7 +20,7 @@ use Rattle.ivy_embedded.proofs.Going.{IsOwn, core_of}
 use Rattle.proof_embedded.specs.Driven.{Driven, program_in}
 use Rattle.proof_embedded.specs.Mapped.{Mapped, Happening, Ask, Lend, GiveBack, GoOn, Look, Point, HappensSo, HappenTo, IsCalled}
 use Rattle.proof_embedded.proofs.Driving.{done_none, done_short}
-use Rattle.proof_embedded.proofs.Effects.{HasEffect, IsActed, IsEmptied, IsKept, chain_config, chain_extends, chain_own, effect, went_on}
+use Rattle.proof_embedded.proofs.Effects.{HasEffect, IsActed, IsEmptied, IsKept, asked_lent, chain_config, chain_extends, chain_own, effect, went_on}
 use Rattle.proof_embedded.proofs.Lifted.{Extends, program_of}
 use Rattle.proof_embedded.proofs.Requests.{nothing_done}
 
@@ -75,8 +75,9 @@ module _ (c : Config) (limits : IsConfig c) where
     nodes = h.asks.nodes;
     sound = h.sound;
     effect = effect c limits old.driven.strings h.asks.before h.asks.after
-        (kept i h.asks.before h.asks.there) h.sound h.lent request new.driven.strings h.asks.does
-        h.stores;
+        (kept i h.asks.before h.asks.there) h.sound
+        (asked_lent request old.driven.strings new.driven.strings h.asks.before h.asks.after h.asks.does)
+        request new.driven.strings h.asks.does;
   })
   touched (Lend i page number) old new h kept = inr (called c i old new h.call
       (⊎_elim (λ does. same_site c old.driven.strings h.call.before h.call.after _ does.4)

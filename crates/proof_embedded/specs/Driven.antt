@@ -10,9 +10,9 @@ use Rattle.ivy_moves.specs.stated.Nodes.{Node}
 use Rattle.ivy_moves.specs.stated.Worlds.{World}
 use Rattle.ivy_host.specs.stated.Hosts.{Host, host_rules, answered_by}
 use Rattle.ivy_host.specs.stated.Managers.{Managed, managed_ops}
-use Rattle.ivy_embedded.specs.Blocks.{RefusesBlock, RefusesStores}
+use Rattle.ivy_embedded.specs.Blocks.{RefusesBlock, RefusesStores, StoresNoneRead}
 use Rattle.ivy_embedded.specs.Nodes.{Embedded, first_embedded}
-use Rattle.ivy_embedded.specs.Exports.{Answers, Begins, BeginsBlock, CarriesOut, Delivers, IsRequest, Polls, Pulses, RefusesCall, RefusesPoll, RefusesPulse, RefusesString, TakesAt, TakesBlock}
+use Rattle.ivy_embedded.specs.Exports.{Answers, Begins, BeginsBlock, CarriesOut, Delivers, IsRequest, Polls, Pulses, RefusesCall, RefusesPoll, RefusesPulse, RefusesString, TakesAt, TakesBlock, marks_at}
 use Rattle.ivy_embedded.specs.declared.status.TheConstants.{DONE}
 use Rattle.proof_worlds.specs.stated.Keeping.{Keeps}
 
@@ -57,7 +57,8 @@ Does (LoadBlock addr) strings s t more = (more ≡ strings)
     (CarriesOut Loads addr buffer status words) (λ _. ⊥))
 Does (StoreBlock addr bytes) strings s t more = (more ≡ strings)
     × ((status words : ℕ) × Answers status (Some s) (Some t)
-    (CarriesOut Stores addr bytes status words) (RefusesStores addr status))
+    (CarriesOut Stores addr bytes status words) (RefusesStores addr status)
+    × StoresNoneRead addr status words (Some s))
 Does (BeginLoadBlock addr bytes) strings s t more = (more ≡ strings)
     × ((status words : ℕ) × Answers status (Some s) (Some t)
     (BeginsBlock Loads addr bytes status words) (RefusesBlock addr status))
@@ -75,6 +76,7 @@ Does (Deliver bytes) strings s t more = (more ≡ strings) × Contains strings b
     (RefusesString bytes status))
 Does NextFrame strings s t more = (status len dest : ℕ) × (buffer : List ℕ)
     × TakesAt status buffer len dest (Some s) (Some t) × TakesOut status buffer len strings more
+    × (marks_at (Some t) ≡ marks_at (Some s))
 Does (Pulse to) strings s t more = (more ≡ strings)
     × ((status : ℕ) × Answers status (Some s) (Some t) (Pulses to status) (RefusesPulse to status))
 

@@ -1,22 +1,18 @@
 -- Nodes that a program drives by the functions of a C header, and that lend it pages, which it
 -- accesses by pointers.
-use Rattle.std.specs.Prelude.{◌≡◌, ◌≢◌, ℕ, true, false, List, [], ◌∷◌, ◌++◌, drop, length, map, slice_get, slice_set, Option, Some, None, Contains}
-use Rattle.ivy_model.specs.declared.Call.{Call}
+use Rattle.std.specs.Prelude.{◌≡◌, ◌≢◌, ℕ, ◌*◌, ◌/◌, ◌<◌, true, List, [], ◌∷◌, ◌++◌, length, map, slice_get, slice_set, Option, Some, None, All, Contains}
 use Rattle.ivy_model.specs.declared.Config.{Config}
 use Rattle.ivy_model.specs.declared.Record.{Record}
 use Rattle.ivy_model.specs.stated.Config.{IsConfig}
 use Rattle.ivy_model.specs.stated.Explains.{part, IsOwed}
 use Rattle.ivy_model.specs.stated.Memory.{Memory, first}
-use Rattle.ivy_pagetable.specs.declared.Word.{Word}
 use Rattle.ivy_pagetable.specs.stated.Tables.{page_at}
-use Rattle.ivy_pagetable.specs.stated.Words.{needs_write}
-use Rattle.ivy_memory.specs.declared.Asked.TheVariants as asked
-use Rattle.ivy_memory.specs.stated.Asking.{asked_of}
 use Rattle.ivy_moves.specs.stated.Worlds.{World}
 use Rattle.ivy_host.specs.stated.Hosts.{Host, answered_by}
 use Rattle.ivy_host.specs.stated.Managers.{Managed}
 use Rattle.ivy_embedded.specs.declared.lending.Lending.{Lending as Mark}
 use Rattle.ivy_embedded.specs.declared.lending.Lending.TheVariants as mark
+use Rattle.ivy_embedded.specs.Blocks.{HasWords}
 use Rattle.ivy_embedded.specs.Exports.{Answers}
 use Rattle.ivy_embedded.specs.Lending.{LendsSoundly, lending_at}
 use Rattle.ivy_embedded.specs.LentPages.{GivesBack, GoesOnFor, Lends, RefusesGiveBack, RefusesLend, RefusesPeer, TellsWanted}
@@ -24,7 +20,7 @@ use Rattle.ivy_embedded.specs.Nodes.{Embedded}
 use Rattle.proof_worlds.specs.stated.Keeping.{Keeps}
 use Rattle.proof_lent.specs.Lent.{Lending, Unlent, ToRead, ToWrite, Access, writes, Does, IsInside, Made, Pointed, MakesAll, IsApart}
 use Rattle.proof_lent.specs.LentWorlds.{made_as, records_in}
-use Rattle.proof_embedded.specs.Driven.{Request, StoreBlock, Driven, Asks, opened, node_in, program_in}
+use Rattle.proof_embedded.specs.Driven.{Request, Driven, Asks, opened, node_in, program_in}
 
 -- the nodes by number, with the strings that were taken out of them, and of each node and page the
 -- image that the node's program has of it
@@ -61,31 +57,27 @@ lent_in m i page = lent_by (slice_get m.driven.nodes i) page
 abbrev pub bytes_at : Embedded → ℕ → List ℕ
 bytes_at e page = page_at (node_in e).core.memory.coherence.table page
 
+-- a page of so many bytes has these
+abbrev pub AreBytesOf : ℕ → List ℕ → Type 0
+AreBytesOf size bytes = (length bytes ≡ size) × All (λ b. b < 256) bytes
+
+-- The law of blocks: a buffer of a whole page whose words are those of the node has its page's bytes.
+abbrev pub BlocksArePages : Type 0
+BlocksArePages = (c : Config) → IsConfig c → (e : Embedded) → e.site.config ≡ c
+    → (page : ℕ) (buffer : List ℕ) → AreBytesOf c.page_size buffer
+    → AreBytesOf c.page_size (bytes_at e page)
+    → HasWords (page * c.page_size) (c.page_size / 8) buffer e → buffer ≡ bytes_at e page
+
 -- Premise: while a page is lent, nobody changes the image of it but the program, by pointers.
 abbrev pub LeavesImages : Mapped → Mapped → Type 0
 LeavesImages old new =
     (j q : ℕ) → lent_in old j q ≢ Unlent → new.image j q ≡ old.image j q
-
--- the call writes no page that the node lends to be read
-abbrev pub WritesNoneRead : Embedded → Call → Type 0
-WritesNoneRead e call = (p : ℕ) (w : Word) → asked_of e.site.config call ≡ asked.Word p w
-    → lending_at e p ≡ mark.ToRead → needs_write w ≡ false
-
--- the node was answered no store of a page that it lends to be read by a block that it stored
-abbrev pub StoresNoneRead : Request → Embedded → Embedded → Type 0
-StoresNoneRead (StoreBlock addr bytes) s t = (call : Call)
-    → Contains (map (λ (r : Record). r.call)
-    (drop (length (node_in s).core.history) (node_in t).core.history)) call
-    → WritesNoneRead s call
-StoresNoneRead request s t = Unit {0}
 
 -- a function of node i that lends nothing is called
 pub record IsAsked (i : ℕ) (request : Request) (old new : Mapped) : Type 0 where
   pub asks : Asks i request old.driven new.driven
   -- as each function says of the node that it leaves
   pub sound : LendsSoundly asks.after
-  pub lent : asks.after.lent ≡ asks.before.lent
-  pub stores : StoresNoneRead request asks.before asks.after
   pub images : LeavesImages old new
 
 -- a function of node i is called that lends, or looks: these are the node before it and after it, and

@@ -1,6 +1,6 @@
 //! The law of nodes that are driven one call at a time.
 ghost use Rattle.proof_embedded.specs.Driven.{DrivenNodesAreOfOneRun};
-ghost use Rattle.proof_embedded.specs.Mapped.{NodesThatLendAreFlat};
+ghost use Rattle.proof_embedded.specs.Mapped.{BlocksArePages, NodesThatLendAreFlat};
 
 /// Nodes that a program drives are the nodes of one run. This is a fact, and the call does nothing.
 ///
@@ -33,7 +33,18 @@ pub fn driven_nodes_are_of_one_run()
 /// written where it writes. When a page is given back that was lent to be written, the node has what stands in its image.
 /// Strings that are delivered were taken out before. A driver that gives nothing back is refused strings, and never wrong.
 ///
+/// The bytes that a node has are those that its functions give and take: `blocks_are_pages`.
+///
 /// The nodes are those of a world that moves lead to, so all holds of them that is promised of such a world.
 pub fn nodes_that_lend_are_flat()
     ensures { NodesThatLendAreFlat }
+{}
+
+/// A buffer of a whole page has the bytes that a node has of it, where its words are the node's. This is a fact, and the call
+/// does nothing.
+///
+/// So it is of a buffer that a block load filled, or a block store was given, by their clause `words`, while no other function
+/// is called. It takes that buffer and page have as many bytes as a page, each of them below 256.
+pub fn blocks_are_pages()
+    ensures { BlocksArePages }
 {}

@@ -5,4 +5,4 @@
 
 mod law;
 
-pub use law::{driven_nodes_are_of_one_run, nodes_that_lend_are_flat};
+pub use law::{blocks_are_pages, driven_nodes_are_of_one_run, nodes_that_lend_are_flat};

@@ -106,8 +106,8 @@ abbrev pub fold_to : (ℕ → ℕ → ℕ) → (ℕ → ℕ) → ℕ → ℕ
 fold_to op value zero = value zero
 fold_to op value (suc n) = op (fold_to op value n) (value (suc n))
 
--- So where each node makes its part by such an operation from its number and from what it found, all get what that makes
--- of all numbers.
+-- So where each node makes its part by such an operation from its number and from what it found,
+-- all get what that makes of all numbers.
 abbrev pub TreeFoldsAreWhole : Type 0
 TreeFoldsAreWhole = (c : Config) (old new : Memory) (order : List Record) (at : Role → ℕ → ℕ)
     (phase : ℕ) (op : ℕ → ℕ → ℕ) (value part all : ℕ → ℕ) (values : ℕ → List ℕ) → IsFree op

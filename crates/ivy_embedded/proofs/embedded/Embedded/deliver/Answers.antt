@@ -1,4 +1,4 @@
-use Rattle.std.proofs.Common.{rules, ◌≡◌, ap, subst}
+use Rattle.std.proofs.Common.{◌≡◌, ap, subst}
 use Rattle.std.specs.Prelude.{Result, Err}
 use Rattle.ivy_model.specs.stated.Config.{IsConfig}
 use Rattle.ivy_link.specs.declared.Verdict.{Verdict}
@@ -7,16 +7,8 @@ use Rattle.ivy_embedded.specs.declared.embedded.Declined.TheVariants as why
 use Rattle.ivy_embedded.specs.declared.lending.Want.{Want}
 use Rattle.ivy_embedded.specs.Nodes.{Embedded}
 use Rattle.ivy_embedded.proofs.Lenders.{known}
-use Rattle.ivy_embedded.proofs.Strings.{delivered_kept}
 use Rattle.ivy_embedded.proofs.Wanting.{want_once, wanted_passes}
 use Rattle.ivy_embedded.proofs.embedded.Embedded.deliver.Goals as goal
-
-pub invariant_of-self : goal.invariant_of-self
-invariant_of-self c =
-    delivered_kept c.self.inside.site c.deliver.new.self c.self.inside.lendings
-    c.self.inside.waits_at c.self.inside.turns c.self.invariant
-    (known _ c.sound.ensures.site c.sound.ensures.memory) c.deliver.result c.args.bytes.now
-    (c.is_none.ensures (search rules)) c.deliver.ensures.done
 
 pub returns-in-Some-clause-wanted : goal.returns-in-Some-clause-wanted
 returns-in-Some-clause-wanted c =

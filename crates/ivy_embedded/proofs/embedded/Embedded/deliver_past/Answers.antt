@@ -1,10 +1,11 @@
 use Rattle.std.proofs.Common.{rules, ◌≡◌, ◌≢◌, refl, subst, sym}
 use Rattle.ivy_link.specs.declared.Verdict.TheVariants as verdict
 use Rattle.ivy_site.specs.Sites.{AfterDelivery}
+use Rattle.ivy_embedded.specs.Lends.{DeliversFar}
 use Rattle.ivy_embedded.specs.Nodes.{Embedded}
 use Rattle.ivy_embedded.proofs.Delivering.{TakesNone}
 use Rattle.ivy_embedded.proofs.Lenders.{known, not_wanted}
-use Rattle.ivy_embedded.proofs.Onward.{rests_delivery, went_delivery}
+use Rattle.ivy_embedded.proofs.Onward.{far_next, far_rests, rests_delivery, went_delivery}
 use Rattle.ivy_embedded.proofs.Strings.{received_kept}
 use Rattle.ivy_embedded.proofs.embedded.Embedded.deliver_past.Goals as goal
 
@@ -51,3 +52,22 @@ returns-clause-done c =
           c.in_ok-verdict.ensures.done went.on.1,
       went.on.2,
     )
+
+pub returns-then-ne-clause-far : goal.returns-then-ne-clause-far
+returns-then-ne-clause-far c =
+    let other : c.in_ok-verdict.verdict ≢ verdict.Next = search rules in
+    subst (λ (e : Embedded). DeliversFar c.args.bytes.now c.in_ok-verdict.verdict e (record {
+      site = c.deliver_once.new.self;
+      first = c.self.inside.first;
+      lent = c.self.inside.lendings;
+    })) c.self.view_is
+    (far_rests c.args.bytes.now c.in_ok-verdict.verdict c.in_ok-verdict.from _ _
+    c.deliver_once.new.self c.in_ok-verdict.ensures.done other)
+
+pub returns-clause-far : goal.returns-clause-far
+returns-clause-far c =
+    let next : c.in_ok-verdict.verdict ≡ verdict.Next = search rules in
+    subst (λ (e : Embedded). DeliversFar c.args.bytes.now c.in_ok-verdict.verdict e c.go_on.new.self)
+    c.self.view_is
+    (far_next c.args.bytes.now c.in_ok-verdict.verdict c.in_ok-verdict.from _ c.go_on.new.self
+    c.deliver_once.new.self c.go_on.result c.in_ok-verdict.ensures.done c.go_on.ensures.done next)

@@ -1,5 +1,5 @@
-use Rattle.std.proofs.Common.{ap, sym, ◌∙◌}
-use Rattle.test_layers.proofs.Unposted.{unposted}
+use Rattle.std.proofs.Common.{ap, ◌∙◌}
+use Rattle.test_layers.proofs.Unposted.{kept, unposted}
 use Rattle.ivy_fixed.specs.stated.Fixed.{fixed_ops}
 use Rattle.ivy_coherence.proofs.keeping.Same.{begun-same}
 use Rattle.test_layers.proofs.coherence.Node.needs.Goals as goal
@@ -9,16 +9,8 @@ pub invariant_of-self : goal.invariant_of-self
 invariant_of-self g c =
     let same = begun-same fixed_ops c.self.inside.coherence c.args.page c.args.word c.args.call in
     elim c.match-need.branch [
-      | in-Ok w ↦ (
-        ap (λ x. x.config) w.in-Ok.ensures.ok ∙ same.config ∙ c.self.invariant.0,
-        ap (λ p. p.0) w.in-Ok.ensures.posted ∙ c.self.invariant.1,
-        ap (λ p. p.1) w.in-Ok.ensures.posted ∙ c.self.invariant.2 ∙ sym same.me
-            ∙ sym (ap (λ x. x.me) w.in-Ok.ensures.ok),
-      )
-      | in-Err w ↦ (
-        ap (λ x. x.config) w.in-Err.ensures.err ∙ c.self.invariant.0,
-        ap (λ p. p.0) (unposted w.in-Err.ensures.fault) ∙ c.self.invariant.1,
-        ap (λ p. p.1) (unposted w.in-Err.ensures.fault) ∙ c.self.invariant.2
-            ∙ sym (ap (λ x. x.me) w.in-Err.ensures.err),
-      )
+      | in-Ok w ↦ kept (ap (λ x. x.config) w.in-Ok.ensures.ok ∙ same.config)
+          (ap (λ x. x.me) w.in-Ok.ensures.ok ∙ same.me) w.in-Ok.ensures.posted c.self.invariant
+      | in-Err w ↦ kept (ap (λ x. x.config) w.in-Err.ensures.err)
+          (ap (λ x. x.me) w.in-Err.ensures.err) (unposted w.in-Err.ensures.fault) c.self.invariant
     ]

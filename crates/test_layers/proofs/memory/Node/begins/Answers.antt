@@ -1,5 +1,5 @@
-use Rattle.std.proofs.Common.{[], ap, refl, sym, ◌∙◌}
-use Rattle.test_layers.proofs.Unposted.{unasked}
+use Rattle.std.proofs.Common.{[], ap, refl, ◌∙◌}
+use Rattle.test_layers.proofs.Unposted.{kept, unasked}
 use Rattle.ivy_fixed.specs.stated.Fixed.{fixed_ops}
 use Rattle.ivy_memory.proofs.keeping.WellBehaved.{call-same}
 use Rattle.test_layers.proofs.memory.Node.begins.Goals as goal
@@ -9,20 +9,9 @@ pub invariant_of-self : goal.invariant_of-self
 invariant_of-self g c =
     let same = call-same fixed_ops c.self.inside.memory c.args.call [] c.args.number in
     elim c.match-begin.branch [
-      | in-Ok w ↦ (
-        ap (λ x. x.coherence.config) w.in-Ok.ensures.ok ∙ same.config ∙ c.self.invariant.0,
-        ap (λ p. p.0) w.in-Ok.ensures.posted ∙ c.self.invariant.1,
-        ap (λ p. p.1) w.in-Ok.ensures.posted ∙ c.self.invariant.2 ∙ sym same.me
-            ∙ sym (ap (λ x. x.coherence.me) w.in-Ok.ensures.ok),
-      )
-      | in-Err w ↦ (
-        ap (λ x. x.coherence.config) w.in-Err.ensures.err ∙ c.self.invariant.0,
-        ap (λ p. p.0)
-            (unasked c.self.inside.memory.asked c.self.inside.memory.asked refl
-            w.in-Err.ensures.unasked w.in-Err.ensures.fault) ∙ c.self.invariant.1,
-        ap (λ p. p.1)
-            (unasked c.self.inside.memory.asked c.self.inside.memory.asked refl
-            w.in-Err.ensures.unasked w.in-Err.ensures.fault) ∙ c.self.invariant.2
-            ∙ sym (ap (λ x. x.coherence.me) w.in-Err.ensures.err),
-      )
+      | in-Ok w ↦ kept (ap (λ x. x.coherence.config) w.in-Ok.ensures.ok ∙ same.config)
+          (ap (λ x. x.coherence.me) w.in-Ok.ensures.ok ∙ same.me) w.in-Ok.ensures.posted c.self.invariant
+      | in-Err w ↦ kept (ap (λ x. x.coherence.config) w.in-Err.ensures.err)
+          (ap (λ x. x.coherence.me) w.in-Err.ensures.err) (unasked c.self.inside.memory.asked c.self.inside.memory.asked refl
+          w.in-Err.ensures.unasked w.in-Err.ensures.fault) c.self.invariant
     ]
