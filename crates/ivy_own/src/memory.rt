@@ -16,6 +16,9 @@ use std::alloc::Allocator;
 use std::marker::Model;
 use std::sync::Wait;
 
+/// So often who waits for a word looks at it before it rests between two looks.
+const LOOKS: u64 = 32;
+
 /// The memory of a session as the worker of one node has it. It keeps no record.
 ///
 /// Contracts see the node's number, and what it was answered.
@@ -203,5 +206,12 @@ where
             return self.wait_for_stores(addr, from);
         }
         words
+    }
+
+    /// Who waits for a word rests until its node has served a frame, as one may change the word, or for a while.
+    fn rest(&mut self, looks: u64) {
+        if looks >= LOOKS {
+            self.worker.rest();
+        }
     }
 }

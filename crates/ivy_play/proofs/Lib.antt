@@ -7,3 +7,4 @@ mod Reported
 mod Ending
 mod Ends
 mod Counting
+mod Drawing

@@ -1,4 +1,5 @@
 pub mod Faults
+pub mod Given
 pub mod Played
 pub mod Reports
 pub mod Endings

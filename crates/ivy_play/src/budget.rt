@@ -17,6 +17,7 @@ impl Budget {
     pub(crate) fn new(most: u64) -> Budget
         ensures drawn { result.drawn ≡ 0 }
         ensures most { result.most ≡ most }
+        ensures drawing { result.is_settling ≡ false }
     {
         Budget {
             drawn: 0,
@@ -33,6 +34,13 @@ impl Budget {
             .saturating_sub(made.saturating_sub(self.drawn) as u64)
     }
 
+    /// Whether each further move lets the world settle.
+    pub(crate) fn is_settling(self) -> bool
+        ensures { result ≡ self.is_settling }
+    {
+        self.is_settling
+    }
+
     /// Whether no further move may be made, once so many were made in all.
     pub(crate) fn is_spent(self, made: usize) -> bool
         ensures { result ≡ false → self.is_settling ≡ true → made - self.drawn < self.most }
@@ -43,6 +51,7 @@ impl Budget {
     /// The same, once so many moves were made in all.
     pub(crate) fn after(self, made: usize) -> Budget
         ensures most { result.most ≡ self.most }
+        ensures same { result.is_settling ≡ self.is_settling }
         ensures settling { self.is_settling ≡ true → result.drawn ≡ self.drawn }
         ensures drawn { self.is_settling ≡ false → result.drawn ≡ made }
     {
@@ -59,6 +68,7 @@ impl Budget {
     pub(crate) fn settling(self, made: usize) -> Budget
         ensures most { result.most ≡ self.most }
         ensures drawn { result.drawn ≡ made }
+        ensures settling { result.is_settling ≡ true }
     {
         Budget {
             drawn: made,

@@ -12,14 +12,20 @@ use std::sync::{Mutex, Wait};
 
 /// What all threads of a play share. Each reference has a lifetime of its own.
 #[derive(Drop)]
-pub(crate) struct Play<'r, 's, 'b, S: Setting, A: Allocator, R> {
+pub(crate) struct Play<'r, 's, 'b, S: Setting, A: Allocator, M: MoveSource, R> {
     pub(crate) rt: &'r R,
     pub(crate) alloc: A,
-    pub(crate) stage: &'s Mutex<Stage<S, A>>,
+    pub(crate) stage: &'s Mutex<Stage<S, A, M>>,
     pub(crate) baton: &'b Baton<A>,
 }
 
-impl<'r, 's, 'b, S: Setting, A: Allocator + Copy, R: Wait> Play<'r, 's, 'b, S, A, R> {
+impl<'r, 's, 'b, S, A, M, R> Play<'r, 's, 'b, S, A, M, R>
+where
+    S: Setting,
+    A: Allocator + Copy,
+    M: MoveSource + Drop,
+    R: Wait,
+{
     /// Whether the work of a node goes on before the turn of the node that is asked for now.
     fn goes_on(&self, node: u8) -> bool {
         self.stage.lock(self.rt).goes_on(node)
@@ -47,25 +53,23 @@ impl<'r, 's, 'b, S: Setting, A: Allocator + Copy, R: Wait> Play<'r, 's, 'b, S, A
         self.stage.lock(self.rt).make(step)
     }
 
-    /// The next move of this source [1].
-    fn next<M: MoveSource>(&self, source: &mut M) -> Result<Option<Move>, Fault>
+    /// The next move of the source [1].
+    fn next(&self) -> Result<Option<Move>, Fault>
         ensures { IfErr result IsPlayStop }
     {
-        self.stage.lock(self.rt).next(source)
+        self.stage.lock(self.rt).next()
     }
 
-    /// Makes the moves of this source, and then lets the world settle, with at most so many moves [1, 17, 19].
-    pub(crate) fn drive<M: MoveSource + Drop>(&self, source: M, most: u64) -> Result<(), Fault>
+    /// Makes the moves of the source, and then lets the world settle, with at most so many moves [1, 17, 19].
+    pub(crate) fn drive(&self, most: u64) -> Result<(), Fault>
         ensures { IfErr result IsPlayStop }
     {
-        let mut source = source;
         for _ in 0..u64::MAX {
-            let Some(step) = self.next(&mut source)? else {
+            let Some(step) = self.next()? else {
                 break;
             };
             self.make(step)?;
         }
-        self.stage.lock(self.rt).begin_settling();
         self.settle(most)
     }
 

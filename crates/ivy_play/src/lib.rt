@@ -8,6 +8,7 @@
 //! Own code by many seeds: the first one whose play fails a check, and a short schedule that fails it too.
 #![tactic(auto)]
 
+mod ahead;
 mod baton;
 mod budget;
 mod checks;

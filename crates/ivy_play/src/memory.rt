@@ -7,6 +7,7 @@ ghost use Rattle.ivy_play.specs.Faults.{IsUnanswered};
 
 use crate::driver::Play;
 use crate::handed::Handed;
+use crate::source::MoveSource;
 use crate::stage::Setting;
 use crate::together::{HandedRow, RowCalls};
 use ivy_calls::{Answer, SharedMemory};
@@ -25,22 +26,23 @@ fn put_number(into: &mut [u8], number: u64)
 
 /// The memory of a play as the work of one node has it. It lists what it answered.
 #[derive(Drop)]
-pub(crate) struct NodeMemory<'p, 'r, 's, 'b, S: Setting, A: Allocator, R> {
-    play: &'p Play<'r, 's, 'b, S, A, R>,
+pub(crate) struct NodeMemory<'p, 'r, 's, 'b, S: Setting, A: Allocator, M: MoveSource, R> {
+    play: &'p Play<'r, 's, 'b, S, A, M, R>,
     me: u8,
     answers: Vec<Answer, A>,
     /// Whether a call was not answered.
     is_cut: bool,
 }
 
-impl<'p, 'r, 's, 'b, S, A, R> NodeMemory<'p, 'r, 's, 'b, S, A, R>
+impl<'p, 'r, 's, 'b, S, A, M, R> NodeMemory<'p, 'r, 's, 'b, S, A, M, R>
 where
     S: Setting,
     A: Allocator + Copy,
+    M: MoveSource + Drop,
     R: Wait,
 {
     /// The memory of a node, which has answered nothing.
-    pub(crate) fn new(play: &'p Play<'r, 's, 'b, S, A, R>, me: u8) -> Self
+    pub(crate) fn new(play: &'p Play<'r, 's, 'b, S, A, M, R>, me: u8) -> Self
         ensures { result.answers.items ≡ [] }
     {
         NodeMemory {
@@ -232,10 +234,11 @@ where
     }
 }
 
-impl<'p, 'r, 's, 'b, S, A, R> SharedMemory for NodeMemory<'p, 'r, 's, 'b, S, A, R>
+impl<'p, 'r, 's, 'b, S, A, M, R> SharedMemory for NodeMemory<'p, 'r, 's, 'b, S, A, M, R>
 where
     S: Setting,
     A: Allocator + Copy,
+    M: MoveSource + Drop,
     R: Wait,
 {
     ghost use Rattle.ivy_play.specs.Faults.{IsUnanswered};

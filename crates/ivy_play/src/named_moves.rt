@@ -49,6 +49,10 @@ impl<'n, A: Allocator> Renamed<'n, A> {
 }
 
 impl<A: Allocator> MoveSource for Renamed<'_, A> {
+    ghost use Rattle.std.specs.Prelude.{[]};
+
+    ghost gives = { λ _. [] };
+
     fn next<B: Allocator + Copy>(&mut self, world: &World<B>) -> Result<Option<Move>, Fault> {
         read_heads(&self.config, world, &mut self.heads)?;
         let named = self.named;

@@ -1,8 +1,9 @@
 //! Own code in a world whose moves are drawn, or listed.
-ghost use Rattle.std.specs.Prelude.{◌≡◌, ◌↔◌, ℕ, Some, IsErrOf, IfErr, IfOk, MatchResult, slice_get, vec_len};
+ghost use Rattle.std.specs.Prelude.{◌≡◌, ◌↔◌, ℕ, Some, IsErrOf, IfErr, IfOk, MatchResult, slice_get, take, vec_len};
 ghost use Rattle.ivy_model.specs.stated.Config.{IsConfig};
 ghost use Rattle.ivy_play.specs.Faults.{IsPlayFault, IsPlayStop};
 ghost use Rattle.ivy_play.specs.Ends.{HasEnded, HasGivenUp};
+ghost use Rattle.ivy_play.specs.Given.{AreAmong};
 ghost use Rattle.ivy_play.specs.Played.{HasDrawn, own_opening};
 ghost use Rattle.ivy_play.specs.Reports.{IsPlayReport};
 ghost use Rattle.ivy_play.specs.Endings.{ComesToRest};
@@ -25,10 +26,10 @@ use std::sync::{Mutex, Wait};
 use std::thread::Threads;
 
 /// The report of what was played, and of what each work gave [1].
-fn close<S: Setting, A: Allocator + Copy, W: Work>(
+fn close<S: Setting, A: Allocator + Copy, M: MoveSource + Drop, W: Work>(
     alloc: A,
     work: &W,
-    stage: Stage<S, A>,
+    stage: Stage<S, A, M>,
     all: Vec<Result<Ended<W::Out, A>, GivenUp>, A>,
     settle: u64,
 ) -> Result<PlayReport<W::Out, A>, Fault>
@@ -38,10 +39,11 @@ fn close<S: Setting, A: Allocator + Copy, W: Work>(
     ensures report { IfOk result (λ report. IsPlayReport S.config (W.done work.now) report.moves.items report.world report.outcomes.items report.rest) }
     ensures rests { IfOk result (λ report. ComesToRest S.config settle report.moves.items report.drawn report.world.world report.outcomes.items report.rest) }
     ensures drawn { IfOk result (λ report. HasDrawn S.config settle report.moves.items report.drawn) }
+    ensures given { IfOk result (λ report. AreAmong S.gives (take report.drawn report.moves.items)) }
     ensures stand { IfOk result (λ report. (i : ℕ) (outcome : _) → slice_get report.outcomes.items i ≡ Some outcome → (r : _) → slice_get all.items i ≡ Some r → MatchResult r (λ ended. HasEnded report.world.world i ended.answers.items ended.is_cut ended.out outcome) (λ up. HasGivenUp report.world.world i up outcome)) }
     ensures stop { IfErr result IsPlayStop }
 {
-    let played = stage.into_played();
+    let played = stage.into_played()?;
     // for the proof: what holds of a world at every moment
     played.world.keeps();
     let outcomes = outcomes_of(alloc, &played.world, work, all)?;
@@ -83,20 +85,22 @@ where
     S: Setting + Send + Sync,
     A: Allocator + Copy + Send + Sync,
     R: Threads + Wait + Sync,
-    M: MoveSource + Drop,
+    M: MoveSource + Drop + Send,
     W: Work + Sync,
     requires config { opening.config ≡ S.config }
     requires opens { opening.world ≡ own_opening S.config }
     requires settle { settle ≡ S.settle }
+    requires gives { M.gives source ≡ S.gives }
     ensures report { IfOk result (λ report. IsPlayReport S.config (W.done work.now) report.moves.items report.world report.outcomes.items report.rest) }
     ensures rests { IfOk result (λ report. ComesToRest S.config settle report.moves.items report.drawn report.world.world report.outcomes.items report.rest) }
     ensures drawn { IfOk result (λ report. HasDrawn S.config settle report.moves.items report.drawn) }
+    ensures given { IfOk result (λ report. AreAmong S.gives (take report.drawn report.moves.items)) }
     ensures stop { IfErr result IsPlayStop }
 {
     let Opening { config, world } = opening;
     // for the proof: what holds of a world at every moment
     world.keeps();
-    let stage = Mutex::new(Stage::<S, A>::new(alloc, config, world, settle));
+    let stage = Mutex::new(Stage::<S, A, M>::new(alloc, config, world, source, settle));
     let baton = Baton::new(alloc, config.nodes)?;
     let play = Play {
         rt,
@@ -104,8 +108,8 @@ where
         stage: &stage,
         baton: &baton,
     };
-    let all = run_all(&play, work, config.nodes, source, settle)?;
-    close::<S, A, W>(alloc, work, stage.into_inner(), all, settle)
+    let all = run_all(&play, work, config.nodes, settle)?;
+    close::<S, A, M, W>(alloc, work, stage.into_inner(), all, settle)
 }
 
 /// Runs the work of each node over one shared memory, in a world that makes the moves of this source [1, 2, 17, 19], and
@@ -115,7 +119,8 @@ where
 /// The words of a row that lie in one page are answered with no other move between them where that page is at hand, each by a
 /// turn of its node. These turns go with the one before which the work made the row, and all are among the moves of the
 /// report. Those of them that the source asks for next were made already, and are not made again: so the moves, listed, play
-/// the same. In settling there can be more moves by those that go with the last one.
+/// the same. In settling there can be more moves by those that go with the last one. The moves that the source gives whatever
+/// the world are among the drawn ones, in their order.
 ///
 /// One legal order of records explains what all nodes were answered, and each work that has ended has done what it says,
 /// with exactly its node's part of that order as what it was answered. It is 2 exactly where the configuration is out of
@@ -131,11 +136,12 @@ pub fn play_with<A, R, M, W>(
 where
     A: Allocator + Copy + Send + Sync,
     R: Threads + Wait + Sync,
-    M: MoveSource + Drop,
+    M: MoveSource + Drop + Send,
     W: Work + Sync,
     ensures report { IfOk result (λ report. IsPlayReport config (W.done work.now) report.moves.items report.world report.outcomes.items report.rest) }
     ensures rests { IfOk result (λ report. ComesToRest config settle report.moves.items report.drawn report.world.world report.outcomes.items report.rest) }
     ensures drawn { IfOk result (λ report. HasDrawn config settle report.moves.items report.drawn) }
+    ensures given { IfOk result (λ report. AreAmong (M.gives source) (take report.drawn report.moves.items)) }
     ensures bad { IsErrOf result Fault.BadConfig ↔ ¬ IsConfig config }
     ensures fault { IfErr result IsPlayFault }
 {
@@ -183,6 +189,7 @@ where
     ensures report { IfOk result (λ report. IsPlayReport config (W.done work.now) report.moves.items report.world report.outcomes.items report.rest) }
     ensures rests { IfOk result (λ report. ComesToRest config settle report.moves.items report.drawn report.world.world report.outcomes.items report.rest) }
     ensures drawn { IfOk result (λ report. HasDrawn config settle report.moves.items report.drawn) }
+    ensures given { IfOk result (λ report. AreAmong moves.now (take report.drawn report.moves.items)) }
     ensures bad { IsErrOf result Fault.BadConfig ↔ ¬ IsConfig config }
     ensures fault { IfErr result IsPlayFault }
 {

@@ -1,5 +1,5 @@
 //! That a play goes on until its world stands still and each work that waits has a call in progress, or its moves run out.
-ghost use Rattle.std.specs.Prelude.{◌≡◌, ◌-◌, ◌+◌, ◌≤◌, ◌<◌, ◌↔◌, false, length, max, IfErr, IfOk, IsTrue, OnOk};
+ghost use Rattle.std.specs.Prelude.{◌≡◌, ◌-◌, ◌+◌, ◌≤◌, ◌<◌, ◌↔◌, false, length, max, take, IfErr, IfOk, IsTrue, OnOk};
 ghost use Rattle.ivy_model.specs.declared.Config.{Config};
 ghost use Rattle.ivy_play.specs.Faults.{IsPlayStop};
 ghost use Rattle.ivy_play.specs.Played.{HasDrawn, IsPlayed, IsStillWhere};
@@ -59,6 +59,7 @@ fn spend<A: Allocator + Copy>(
     ensures config { world.new.config ≡ world.old.config }
     ensures spent { IfOk result (λ _. most ≤ length moves.new.items - drawn) }
     ensures few { length moves.new.items ≤ max (length moves.old.items) (drawn + most) }
+    ensures first { take drawn moves.new.items ≡ take drawn moves.old.items }
     ensures longer { length moves.old.items ≤ length moves.new.items }
     ensures stop { IfErr result IsPlayStop }
 {
@@ -83,6 +84,7 @@ pub(crate) fn rested<T, A: Allocator + Copy>(
     ensures cores { IfOk result (λ p. HaveSameCores played.world.world p.world.world) }
     ensures config { IfOk result (λ p. p.world.config ≡ played.world.config) }
     ensures drawn { (c : Config) → HasDrawn c settle played.moves.items played.drawn → IfOk result (λ p. HasDrawn c settle p.moves.items p.drawn) }
+    ensures first { IfOk result (λ p. take p.drawn p.moves.items ≡ take played.drawn played.moves.items) }
     ensures rests { IfOk result (λ p. ComesToRest p.world.config settle p.moves.items p.drawn p.world.world outcomes.now p.rest) }
     ensures stop { IfErr result IsPlayStop }
 {

@@ -9,12 +9,19 @@ use std::alloc::Allocator;
 
 /// Where the moves of a play come from.
 pub trait MoveSource {
-    ghost use Rattle.std.specs.Prelude.{IfErr};
+    ghost use Rattle.std.specs.Prelude.{◌≡◌, List, IfErr, IfOk};
+    ghost use Rattle.ivy_moves.specs.declared.Move.{Move};
     ghost use Rattle.ivy_play.specs.Faults.{IsPlayStop};
+    ghost use Rattle.ivy_play.specs.Given.{GivesNext};
+
+    /// The moves that it gives next, whatever the world; none where the world decides.
+    ghost gives: { Self → List Move };
 
     /// The next move in this world, or none at the end [1].
     fn next<A: Allocator + Copy>(&mut self, world: &World<A>) -> Result<Option<Move>, Fault>
-        ensures { IfErr result IsPlayStop };
+        ensures next { IfOk result (λ step. GivesNext (gives self.old) step (gives self.new)) }
+        ensures same { IfErr result (λ _. gives self.new ≡ gives self.old) }
+        ensures stop { IfErr result IsPlayStop };
 }
 
 /// So many moves, which the generator of a seed draws: half of them are turns, three of eight deliver one of the last 64
@@ -43,6 +50,10 @@ fn next_drawn<A: Allocator + Copy>(generator: &mut Lcg64Xsh32, world: &World<A>)
 }
 
 impl MoveSource for Drawn {
+    ghost use Rattle.std.specs.Prelude.{[]};
+
+    ghost gives = { λ _. [] };
+
     fn next<A: Allocator + Copy>(&mut self, world: &World<A>) -> Result<Option<Move>, Fault> {
         if self.left == 0 {
             return Ok(None);
@@ -61,12 +72,18 @@ pub struct Listed<'m> {
 
 impl<'m> Listed<'m> {
     /// These moves.
-    pub fn new(moves: &'m [Move]) -> Listed<'m> {
+    pub fn new(moves: &'m [Move]) -> Listed<'m>
+        ensures { ⟦<Listed<'m> as MoveSource>⟧.gives result ≡ moves.now }
+    {
         Listed { moves, made: 0 }
     }
 }
 
 impl MoveSource for Listed<'_> {
+    ghost use Rattle.std.specs.Prelude.{drop};
+
+    ghost gives = { λ l. drop l.made l.moves.now };
+
     fn next<A: Allocator + Copy>(&mut self, _world: &World<A>) -> Result<Option<Move>, Fault> {
         let Some(step) = self.moves.get(self.made) else {
             return Ok(None);

@@ -1,8 +1,9 @@
 //! The world of a play behind its lock, with the moves that were made.
-ghost use Rattle.std.specs.Prelude.{◌≡◌, ◌+◌, ◌*◌, ◌≤◌, ◌++◌, ◌∷◌, [], Ok, false, true, length, IfErr, IfOk, IfSome, OnErr, OnOk};
+ghost use Rattle.std.specs.Prelude.{◌≡◌, ◌+◌, ◌*◌, ◌≤◌, ◌++◌, ◌∷◌, [], List, Ok, false, true, length, take, IfErr, IfOk, IfSome, OnErr, OnOk};
 ghost use Rattle.ivy_model.specs.declared.Config.{Config};
 ghost use Rattle.ivy_model.specs.stated.Config.{IsConfig};
 ghost use Rattle.ivy_model.specs.stated.Legal.{HasWidth};
+ghost use Rattle.ivy_moves.specs.declared.Move.{Move};
 ghost use Rattle.ivy_moves.specs.stated.Worlds.{Moves};
 ghost use Rattle.ivy_host.specs.stated.Hosts.{host_rules};
 ghost use Rattle.ivy_host.specs.stated.Managers.{managed_ops};
@@ -10,8 +11,10 @@ ghost use Rattle.ivy_world.specs.WorldRounds.{DoesNothing};
 ghost use Rattle.ivy_world.specs.stated.Runs.{IsSameRun};
 ghost use Rattle.ivy_world.specs.Settling.{HasSettled};
 ghost use Rattle.ivy_play.specs.Faults.{IsPlayStop, IsUnanswered};
+ghost use Rattle.ivy_play.specs.Given.{AreAmong, HoldsOn};
 ghost use Rattle.ivy_play.specs.Played.{HasDrawn, IsPlayed, IsAnsweredAt, IsStillWhere, own_opening};
 
+use crate::ahead::Ahead;
 use crate::budget::Budget;
 use crate::handed::{Handed, hand};
 use crate::source::MoveSource;
@@ -21,23 +24,29 @@ use ivy_world::{Move, Rest, World};
 use std::alloc::Allocator;
 use std::marker::{Brand, Model, PhantomData};
 
-/// Names the configuration of a play, and how many moves may let its world settle. Whoever begins one picks both, at
-/// `Brand`.
+/// Names the configuration of a play, how many moves may let its world settle, and the moves that its source gives whatever
+/// the world. Whoever begins one picks them, at `Brand`.
 pub trait Setting {
-    ghost use Rattle.std.specs.Prelude.{ℕ};
+    ghost use Rattle.std.specs.Prelude.{ℕ, List};
     ghost use Rattle.ivy_model.specs.declared.Config.{Config};
+    ghost use Rattle.ivy_moves.specs.declared.Move.{Move};
 
     ghost config: { Config };
 
     ghost settle: { ℕ };
+
+    ghost gives: { List Move };
 }
 
 impl Setting for Brand {
+    ghost use Rattle.std.specs.Prelude.{[]};
     ghost use Rattle.ivy_play.specs.Played.{no_config};
 
     ghost config = { no_config };
 
     ghost settle = { 0 };
+
+    ghost gives = { [] };
 }
 
 /// The reply that a node got to its call of this number, counted from 0, where it got one.
@@ -87,6 +96,7 @@ fn find_still<A: Allocator + Copy>(
     moves: &mut Vec<Move, A>,
 ) -> Result<bool, Fault>
     ensures played { (c : Config) → IsPlayed c moves.old.items world.old → IsPlayed c moves.new.items world.new }
+    ensures more { (more : List Move) × (moves.new.items ≡ moves.old.items ++ more) }
     ensures still { result ≡ Ok true → HasSettled world.new }
     ensures longer { length moves.old.items ≤ length moves.new.items }
     ensures few { length moves.new.items ≤ length moves.old.items + world.old.config.nodes }
@@ -111,38 +121,48 @@ fn rest_of(is_still: bool) -> Rest
     if is_still { Rest::Still } else { Rest::Going }
 }
 
-/// The world of a play, the moves that were made, and whether it is known to stand still.
+/// The move that is held, once this one was made.
+fn not_made(held: Option<Move>, step: Move) -> Option<Move>
+    ensures { HoldsOn held step result }
+{
+    if held == Some(step) { None } else { held }
+}
+
+/// The world of a play, the moves that were made, whether it is known to stand still, and where its moves come from.
 #[derive(Drop)]
-pub(crate) struct Stage<S: Setting, A: Allocator> {
+pub(crate) struct Stage<S: Setting, A: Allocator, M: MoveSource> {
     world: World<A>,
     moves: Vec<Move, A>,
     budget: Budget,
     rest: Rest,
     config: Config,
-    /// So many turns of this node were made with the last row of its work, and are still to be asked for.
-    ahead: usize,
-    of_node: u64,
+    ahead: Ahead,
+    source: M,
+    /// The move that the source gave last, where it was not made yet.
+    held: Option<Move>,
     of: PhantomData<S>,
 }
 
-impl<S: Setting, A: Allocator> Model for Stage<S, A> {
+impl<S: Setting, A: Allocator, M: MoveSource> Model for Stage<S, A, M> {
     ghost use Rattle.std.specs.Prelude.{◌≡◌};
     ghost use Rattle.ivy_model.specs.stated.Config.{IsConfig};
+    ghost use Rattle.ivy_play.specs.Given.{IsGiven};
     ghost use Rattle.ivy_play.specs.Played.{HasDrawn, IsPlayed, IsStillWhere};
 
     ghost Value = { Unit {0} };
 
     ghost view = { λ _. tt };
 
-    ghost invariant = { λ s. IsPlayed S.config s.moves.items s.world × IsStillWhere s.rest s.world × IsConfig s.config × (s.config ≡ S.config) × (s.budget.most ≡ S.settle) × HasDrawn S.config S.settle s.moves.items s.budget.drawn };
+    ghost invariant = { λ s. IsPlayed S.config s.moves.items s.world × IsStillWhere s.rest s.world × IsConfig s.config × (s.config ≡ S.config) × (s.budget.most ≡ S.settle) × HasDrawn S.config S.settle s.moves.items s.budget.drawn × IsGiven S.gives s.moves.items s.budget s.ahead s.held (M.gives s.source) };
 }
 
-impl<S: Setting, A: Allocator + Copy> Stage<S, A> {
-    /// The opening world of own code. So many moves may let it settle at last.
-    pub(crate) fn new(alloc: A, config: Config, world: World<A>, settle: u64) -> Self
+impl<S: Setting, A: Allocator + Copy, M: MoveSource + Drop> Stage<S, A, M> {
+    /// The opening world of own code. So many moves may let it settle, once the source has come to its end.
+    pub(crate) fn new(alloc: A, config: Config, world: World<A>, source: M, settle: u64) -> Self
         requires opens { world ≡ own_opening S.config }
         requires limits { IsConfig config }
         requires config { config ≡ S.config }
+        requires gives { M.gives source ≡ S.gives }
         requires settle { settle ≡ S.settle }
     {
         Stage {
@@ -151,22 +171,18 @@ impl<S: Setting, A: Allocator + Copy> Stage<S, A> {
             budget: Budget::new(settle),
             rest: Rest::Going,
             config,
-            ahead: 0,
-            of_node: 0,
+            ahead: Ahead::none(),
+            source,
+            held: None,
             of: PhantomData,
         }
-    }
-
-    /// Whether this turn was made with the last row of its node's work, behind which no other move was made.
-    fn is_ahead(&self, step: Move) -> bool {
-        self.ahead > 0 && step == Move::Turn(self.of_node)
     }
 
     /// Whether the work of a node goes on before the turn of the node that is asked for now: that turn was not made yet, and
     /// each call of the node has its reply.
     pub(crate) fn goes_on(&self, node: u8) -> bool {
         let node = u64::from(node);
-        node < self.world.nodes() && !self.is_ahead(Move::Turn(node)) && self.world.is_free(node)
+        node < self.world.nodes() && !self.ahead.has(Move::Turn(node)) && self.world.is_free(node)
     }
 
     /// How many nodes there are.
@@ -209,8 +225,7 @@ impl<S: Setting, A: Allocator + Copy> Stage<S, A> {
         self.rest = Rest::Going;
         let handed = play_row(&mut self.world, &mut self.moves, &self.config, asked)?;
         self.budget = self.budget.after(self.moves.len());
-        self.ahead = self.moves.len().saturating_sub(made);
-        self.of_node = asked.node;
+        self.ahead = Ahead::new(self.moves.len().saturating_sub(made), asked.node);
         Ok(Some(handed))
     }
 
@@ -219,11 +234,27 @@ impl<S: Setting, A: Allocator + Copy> Stage<S, A> {
         reply_of(&self.world, node, number, call)
     }
 
-    /// The next move of this source [1].
-    pub(crate) fn next<M: MoveSource>(&self, source: &mut M) -> Result<Option<Move>, Fault>
+    /// The next move, which the source gives, where the one that it gave last was made [1]. Where there is none, the moves
+    /// from here on let the world settle.
+    pub(crate) fn next(&mut self) -> Result<Option<Move>, Fault>
         ensures { IfErr result IsPlayStop }
     {
-        source.next(&self.world)
+        if let Some(step) = self.held {
+            return Ok(Some(step));
+        }
+        if self.budget.is_settling() {
+            return Ok(None);
+        }
+        match self.source.next(&self.world)? {
+            Some(step) => {
+                self.held = Some(step);
+                Ok(Some(step))
+            }
+            None => {
+                self.budget = self.budget.settling(self.moves.len());
+                Ok(None)
+            }
+        }
     }
 
     /// Makes a move, or changes nothing [1, 17, 19]. It says whether it did anything. The turns that were made with a row are
@@ -231,23 +262,20 @@ impl<S: Setting, A: Allocator + Copy> Stage<S, A> {
     pub(crate) fn make(&mut self, step: Move) -> Result<bool, Fault>
         ensures { IfErr result IsPlayStop }
     {
-        if self.is_ahead(step) {
-            self.ahead = self.ahead.saturating_sub(1);
+        if self.ahead.has(step) {
+            self.ahead = self.ahead.without_one();
+            self.held = not_made(self.held, step);
             return Ok(true);
         }
         if self.budget.is_spent(self.moves.len()) {
             return Ok(false);
         }
-        self.ahead = 0;
         self.rest = Rest::Going;
         let did = play_move(&mut self.world, &mut self.moves, step)?;
         self.budget = self.budget.after(self.moves.len());
+        self.ahead = Ahead::none();
+        self.held = not_made(self.held, step);
         Ok(did)
-    }
-
-    /// The moves from here on let the world settle.
-    pub(crate) fn begin_settling(&mut self) {
-        self.budget = self.budget.settling(self.moves.len());
     }
 
     /// How many moves are left of those that let the world settle.
@@ -273,16 +301,18 @@ impl<S: Setting, A: Allocator + Copy> Stage<S, A> {
         if self.budget.left(self.moves.len()) < self.world.nodes() {
             return Ok(false);
         }
-        self.ahead = 0;
+        self.ahead = Ahead::none();
         self.rest = Rest::Going;
         let is_still = find_still(&mut self.world, &mut self.moves)?;
         self.rest = rest_of(is_still);
         Ok(is_still)
     }
 
-    /// What was played.
-    pub(crate) fn into_played(self) -> Played<A>
-        ensures { IsPlayed S.config result.moves.items result.world × IsStillWhere result.rest result.world × HasDrawn S.config S.settle result.moves.items result.drawn }
+    /// What was played [1]. A source that has not come to its end has given more moves than memory holds.
+    pub(crate) fn into_played(self) -> Result<Played<A>, Fault>
+        ensures played { IfOk result (λ p. IsPlayed S.config p.moves.items p.world × IsStillWhere p.rest p.world × HasDrawn S.config S.settle p.moves.items p.drawn) }
+        ensures given { IfOk result (λ p. AreAmong S.gives (take p.drawn p.moves.items)) }
+        ensures stop { IfErr result IsPlayStop }
     {
         let Stage {
             world,
@@ -291,15 +321,19 @@ impl<S: Setting, A: Allocator + Copy> Stage<S, A> {
             rest,
             config: _,
             ahead: _,
-            of_node: _,
+            source: _,
+            held: _,
             of: _,
         } = self;
-        Played {
+        if !budget.is_settling() {
+            return Err(Fault::Memory);
+        }
+        Ok(Played {
             world,
             moves,
             drawn: budget.drawn,
             rest,
-        }
+        })
     }
 }
 

@@ -15,14 +15,15 @@ use std::thread;
 use std::thread::Threads;
 
 /// Does the work of a node.
-fn do_work<S, A, R, W>(
-    play: &Play<'_, '_, '_, S, A, R>,
+fn do_work<S, A, M, R, W>(
+    play: &Play<'_, '_, '_, S, A, M, R>,
     work: &W,
     me: u8,
 ) -> Result<Ended<W::Out, A>, GivenUp>
 where
     S: Setting,
     A: Allocator + Copy,
+    M: MoveSource + Drop,
     R: Wait,
     W: Work,
     ensures { IfOk result (λ ended. W.done work.now me ended.answers.items ended.out) }
@@ -48,14 +49,15 @@ where
 }
 
 /// Does the work of a node, whenever it is let run.
-fn run_work<S, A, R, W>(
-    play: &Play<'_, '_, '_, S, A, R>,
+fn run_work<S, A, M, R, W>(
+    play: &Play<'_, '_, '_, S, A, M, R>,
     work: &W,
     me: u8,
 ) -> Result<Ended<W::Out, A>, GivenUp>
 where
     S: Setting,
     A: Allocator + Copy,
+    M: MoveSource + Drop,
     R: Wait,
     W: Work,
     ensures { IfOk result (λ ended. W.done work.now me ended.answers.items ended.out) }
@@ -66,21 +68,20 @@ where
     given
 }
 
-/// Makes the moves of this source, and lets the world settle with at most so many more, while the workers of so many nodes
+/// Makes the moves of the source, and lets the world settle with at most so many more, while the workers of so many nodes
 /// do their work [1, 17, 19]. It gives what each gave.
-pub(crate) fn run_all<S, A, R, W, M>(
-    play: &Play<'_, '_, '_, S, A, R>,
+pub(crate) fn run_all<S, A, M, R, W>(
+    play: &Play<'_, '_, '_, S, A, M, R>,
     work: &W,
     nodes: u8,
-    source: M,
     settle: u64,
 ) -> Result<Vec<Result<Ended<W::Out, A>, GivenUp>, A>, Fault>
 where
     S: Setting + Send + Sync,
     A: Allocator + Copy + Send + Sync,
+    M: MoveSource + Drop + Send,
     R: Threads + Wait + Sync,
     W: Work + Sync,
-    M: MoveSource + Drop,
     ensures all { IfOk result (λ all. vec_len all ≡ nodes) }
     ensures done { IfOk result (λ all. (i : ℕ) (r : _) → slice_get all.items i ≡ Some r → IfOk r (λ ended. W.done work.now i ended.answers.items ended.out)) }
     ensures stop { IfErr result IsPlayStop }
@@ -106,7 +107,7 @@ where
                 };
                 handles.push_reserved(handle);
             }
-            let driven = play.drive(source, settle);
+            let driven = play.drive(settle);
             play.baton.finish(play.rt, nodes);
             let all = join_all(play.rt, work, handles, all);
             driven?;

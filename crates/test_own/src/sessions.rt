@@ -6,5 +6,6 @@ mod common;
 mod library;
 mod programs;
 mod refusals;
+mod resting;
 mod rows;
 mod wide;

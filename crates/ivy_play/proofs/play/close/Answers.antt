@@ -2,6 +2,7 @@ use Rattle.std.proofs.Common.{arith, ◌≡◌, length, sym, ap, ◌∙◌, subs
 use Rattle.ivy_model.specs.declared.Config.{Config}
 use Rattle.ivy_play.specs.Endings.{ComesToRest}
 use Rattle.ivy_play.proofs.Reported.{reported}
+use Rattle.ivy_play.specs.Given.{AreAmong}
 use Rattle.ivy_play.specs.Played.{HasDrawn}
 use Rattle.ivy_play.proofs.Ending.{given_there}
 use Rattle.ivy_play.proofs.Ends.{stands_there}
@@ -9,7 +10,7 @@ use Rattle.ivy_play.proofs.play.close.Goals as goal
 
 pub returns-clause-report : goal.returns-clause-report
 returns-clause-report g c =
-    let p = c.into_played-played.result in
+    let p = c.in_ok-played.played in
     let e = c.in_ok-ended.ended in
     let all = c.in_ok-outcomes.ensures.all in
     let outcomes = c.in_ok-outcomes.outcomes in
@@ -19,8 +20,8 @@ returns-clause-report g c =
     omega (arith, all, outcomes.ok.0, nodes) in
     reported g.S.Setting.config (g.W.Work.done c.args.work.now) e.moves.items e.world
     outcomes.items e.rest
-    (c.in_ok-ended.ensures.played g.S.Setting.config c.into_played-played.ensures.0)
-    (c.in_ok-ended.ensures.still c.into_played-played.ensures.1) c.keeps-2.ensures count
+    (c.in_ok-ended.ensures.played g.S.Setting.config c.in_ok-played.ensures.played.0)
+    (c.in_ok-ended.ensures.still c.in_ok-played.ensures.played.1) c.keeps-2.ensures count
     (given_there (g.W.Work.done c.args.work.now) p.world.world e.world.world outcomes.items
     c.in_ok-ended.ensures.cores c.in_ok-outcomes.ensures.given)
 
@@ -30,7 +31,7 @@ returns-clause-rests g c =
     let outcomes = c.in_ok-outcomes.outcomes in
     let same : c.deref.result.now ≡ outcomes.items = c.deref.ensures.value in
     let config : e.world.config ≡ g.S.Setting.config =
-    c.in_ok-ended.ensures.config ∙ c.into_played-played.ensures.0.config in
+    c.in_ok-ended.ensures.config ∙ c.in_ok-played.ensures.played.0.config in
     subst
     (λ items. ComesToRest g.S.Setting.config c.args.settle e.moves.items e.drawn e.world.world
     items e.rest)
@@ -42,13 +43,18 @@ returns-clause-rests g c =
 
 pub returns-clause-drawn : goal.returns-clause-drawn
 returns-clause-drawn g c =
-    let p = c.into_played-played.result in
+    let p = c.in_ok-played.played in
     c.in_ok-ended.ensures.drawn g.S.Setting.config
     (subst (λ n. HasDrawn g.S.Setting.config n p.moves.items p.drawn) (sym c.requires.settle)
-    c.into_played-played.ensures.2)
+    c.in_ok-played.ensures.played.2)
 
 pub returns-clause-stand : goal.returns-clause-stand
 returns-clause-stand g c i outcome at r given =
     stands_there (λ e. e.answers.items) (λ e. e.is_cut) (λ e. e.out)
-    c.into_played-played.result.world.world c.in_ok-ended.ended.world.world i r outcome
+    c.in_ok-played.played.world.world c.in_ok-ended.ended.world.world i r outcome
     c.in_ok-ended.ensures.cores (c.in_ok-outcomes.ensures.stand i outcome at r given)
+
+pub returns-clause-given : goal.returns-clause-given
+returns-clause-given g c =
+    subst (AreAmong g.S.Setting.gives) (sym c.in_ok-ended.ensures.first)
+    c.in_ok-played.ensures.given

@@ -1,4 +1,6 @@
-use Rattle.std.proofs.Common.{arith, ◌∙◌}
+use Rattle.std.proofs.Common.{arith, [], ◌∷◌, ◌∙◌}
+use Rattle.ivy_moves.specs.declared.Move.TheVariants.{Pulse}
+use Rattle.ivy_play.proofs.Drawing.{drawn_stay}
 use Rattle.ivy_play.proofs.Ending.{cores_more, pulse_cores}
 use Rattle.ivy_play.proofs.rested.spend.Goals as goal
 
@@ -20,4 +22,7 @@ loop-preserved g c =
       spent = omega (arith, longer, spent);
       longer = omega (arith, longer, before);
       few = omega (arith, longer, spent, more);
+      first =
+          drawn_stay c.args.drawn c.loop.moves.items (Pulse 0 1 ∷ []) c.play_move.new.moves.items
+          made.listed (omega (arith, spent)) ∙ was.first;
     }

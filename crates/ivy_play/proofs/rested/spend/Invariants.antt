@@ -1,4 +1,4 @@
-use Rattle.std.proofs.Common.{◌≡◌, ◌≤◌, ◌+◌, length, max}
+use Rattle.std.proofs.Common.{◌≡◌, ◌≤◌, ◌+◌, length, max, take}
 use Rattle.ivy_model.specs.declared.Config.{Config}
 use Rattle.ivy_play.specs.Played.{IsPlayed}
 use Rattle.ivy_play.specs.Endings.{HaveSameCores}
@@ -12,4 +12,5 @@ invariant-loop g l = record {
   spent : l.fn.drawn + l.counter ≡ length l.moves.items;
   longer : length l.fn.moves.items ≤ length l.moves.items;
   few : length l.moves.items ≤ max (length l.fn.moves.items) (l.fn.drawn + l.fn.most);
+  first : take l.fn.drawn l.moves.items ≡ take l.fn.drawn l.fn.moves.items;
 }

@@ -1,9 +1,52 @@
-use Rattle.std.proofs.Common.{◌≡◌, true, ap, arith}
+use Rattle.std.proofs.Common.{◌≡◌, ◌++◌, ◌∷◌, [], true, append-nil, append_assoc, sym, ap, ◌∙◌, rules, arith}
 use Rattle.std.specs.Result.{result_ok}
 use Rattle.std.proofs.lemmas.Option.{same_Some}
 use Rattle.ivy_model.specs.declared.Config.{Config}
+use Rattle.ivy_moves.specs.declared.Move.TheVariants.{Turn}
 use Rattle.ivy_play.proofs.Reported.{settled}
 use Rattle.ivy_play.proofs.stage.find_still.Goals as goal
+
+pub loop-node-init : goal.loop-node-init
+loop-node-init g c = record {
+  config = search rules;
+  played = search rules;
+  more = ([], sym (append-nil c.args.moves.now.items));
+  longer = search rules;
+  idle = search rules;
+}
+
+pub loop-node-preserved : goal.loop-node-preserved
+loop-node-preserved g c =
+    let was = c.loop-node.invariant in
+    let turn = Turn c.loop-node.node ∷ [] in
+    record {
+      config = search rules;
+      played = search rules;
+      more = (
+        was.more.0 ++ turn,
+        c.in_ok-stirred.ensures.listed
+            ∙ ap (λ l. l ++ turn) was.more.1
+            ∙ append_assoc c.args.moves.now.items was.more.0 turn,
+      );
+      longer = search rules;
+      idle = search rules;
+    }
+
+pub returns-in_err-stirred-clause-more : goal.returns-in_err-stirred-clause-more
+returns-in_err-stirred-clause-more g c = (
+  c.loop-node.invariant.more.0,
+  c.in_err-stirred.ensures.refused.1
+      ∙ c.loop-node.invariant.more.1,
+)
+
+pub returns-then-stirred-clause-more : goal.returns-then-stirred-clause-more
+returns-then-stirred-clause-more g c =
+    let was = c.loop-node.invariant in
+    let turn = Turn c.loop-node.node ∷ [] in (
+      was.more.0 ++ turn,
+      c.in_ok-stirred.ensures.listed ∙ ap (λ l. l ++ turn) was.more.1
+          ∙ append_assoc c.args.moves.now.items was.more.0 turn,
+    )
 
 pub returns-clause-still : goal.returns-clause-still
 returns-clause-still g c =

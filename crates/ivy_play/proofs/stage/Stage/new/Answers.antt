@@ -1,6 +1,7 @@
 use Rattle.std.proofs.Common.{refl, ◌∙◌}
 use Rattle.ivy_world.specs.declared.rest.Rest.TheVariants.{Going}
 use Rattle.ivy_play.proofs.Counting.{none_drawn}
+use Rattle.ivy_play.proofs.Drawing.{given_first}
 use Rattle.ivy_play.proofs.Playing.{played_opening, going}
 use Rattle.ivy_play.proofs.stage.Stage.new.Goals as goal
 
@@ -14,4 +15,7 @@ invariant_of-result g c = (
   c.new-2.ensures.most ∙ c.requires.settle,
   none_drawn g.S.Setting.config g.S.Setting.settle c.new.result.items c.new-2.result.drawn
       c.new.ensures.items c.new-2.ensures.drawn,
+  given_first g.S.Setting.gives c.new.result.items c.new-2.result c.none.result
+      (g.M.MoveSource.gives c.args.source) c.new.ensures.items c.new-2.ensures.drawing
+      c.none.ensures c.requires.gives,
 )

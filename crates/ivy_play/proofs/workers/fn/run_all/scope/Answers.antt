@@ -9,19 +9,21 @@ spawn_with-requires-clause-runs g c κs within =
     let cross = c.requires-raw.1.1.1.1.1.1 in
     let s = cross.0 in
     let a = cross.1.0 in
-    let out = cross.1.1.0 in
-    let ss = cross.1.1.1.0 in
-    let aa = cross.1.1.1.1.0 in
-    let r = cross.1.1.1.1.1.0 in
-    let w = cross.1.1.1.1.1.1.0 in (
+    let m = cross.1.1.0 in
+    let out = cross.1.1.1.0 in
+    let ss = cross.1.1.1.1.0 in
+    let aa = cross.1.1.1.1.1.0 in
+    let r = cross.1.1.1.1.1.1.0 in
+    let w = cross.1.1.1.1.1.1.1.0 in (
       record { owned = s.owned; leaving = λ k. Quiet-if (k (of_param 0)) _ _ (λ x w. tt) (λ x w. tt) },
       search (rules, a),
-      record { owned = out.owned; leaving = λ k. Quiet-if (k (of_param 4)) _ _ (λ x w. tt) (λ x w. tt) },
+      record { owned = m.owned; leaving = λ k. Quiet-if (k (of_param 2)) _ _ (λ x w. tt) (λ x w. tt) },
+      record { owned = out.owned; leaving = λ k. Quiet-if (k (of_param 5)) _ _ (λ x w. tt) (λ x w. tt) },
       search (rules, ss),
       search (rules, aa),
       search (rules, r),
       search (rules, w),
-      cross.1.1.1.1.1.1.1,
+      cross.1.1.1.1.1.1.1.1,
     )
 
 pub loop-me-preserved : goal.loop-me-preserved
