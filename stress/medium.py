@@ -41,14 +41,22 @@ class Medium:
         self.router.kill()
         self.router.wait()
         self.thread.join()
+        # who still says a line is not to wait for somebody who reads it
+        self.thread = threading.Thread(target=self.drop, daemon=True)
+        self.thread.start()
         for _, write in self.downs:
             os.close(write)
+
+    def drop(self):
+        while os.read(self.up_read, 1 << 16):
+            pass
 
     def free(self):
         for read, _ in self.downs:
             os.close(read)
-        os.close(self.up_read)
         os.close(self.up_write)
+        self.thread.join()
+        os.close(self.up_read)
 
 
 class Node:

@@ -72,7 +72,6 @@ read_words() {
             --help | -h | --version | -V | --) return 1 ;;
             --unproved) refuse '--unproved stands before the command' ;;
             --*=*)
-                [[ $name != ivynode ]] || return 1
                 option=${word%%=*} word=${word#*=}
                 has_word "${valued[$command]}" "$option" || return 1
                 ;;

@@ -1,10 +1,11 @@
 -- What sites were answered is what their logs say.
-use Rattle.std.proofs.Common.{◌≡◌, ℕ, ◌+◌, ◌-◌, ◌<◌, ◌≤◌, List, [], ◌∷◌, ◌++◌, length, map, take, drop, get_or, slice_get, Some, option_map, refl, sym, ap, subst, ◌∙◌, arith, inl, inr}
+use Rattle.std.proofs.Common.{◌≡◌, ℕ, ◌+◌, ◌-◌, ◌<◌, ◌≤◌, Bool, true, false, List, [], ◌∷◌, ◌++◌, length, map, take, drop, get_or, slice_get, Some, option_map, refl, sym, ap, subst, ◌∙◌, arith, inl, inr}
 use Rattle.std.proofs.lemmas.List.{length-map, length-drop, map-append, map_push, take_more, take-append-drop}
 use Rattle.std.proofs.lemmas.Option.{slice_get-map, slice_get_cases}
 use Rattle.ivy_model.specs.declared.Record.{Record}
 use Rattle.ivy_calls.specs.Answers.{answer, answers}
 use Rattle.ivy_logs.specs.Entries.{LogEntry, answers_in}
+use Rattle.ivy_moves.specs.Keeping.{read_of}
 use Rattle.ivy_site.specs.SiteView.{SiteView}
 use Rattle.ivy_join.specs.OwnJoined.{IsTold, AreTold, Tells}
 
@@ -19,6 +20,14 @@ tells entries history place few are = record {
       ∙ map-append answer (take place history) (drop place history)
       ∙ ap (λ l. l ++ answers (drop place history)) are;
 }
+
+-- so many of the list that can be read are so many of the list
+pub taken-read : {T : Type 0} (kept : Bool) (all : List T) (many : ℕ) → many ≤ length (read_of kept all)
+    → take many (read_of kept all) ≡ take many all
+taken-read true all many few = refl
+taken-read false all many few =
+    let none : many ≡ 0 = omega (arith, few) in
+    ap (λ n. take n []) none ∙ sym (ap (λ n. take n all) none)
 
 pub told_at : {X : Type 0} (f : X → List LogEntry) (logs : List X) (sites : List SiteView) (i : ℕ) (x : X)
     (s : SiteView) → slice_get logs i ≡ Some x → slice_get sites i ≡ Some s

@@ -14,13 +14,13 @@ use Rattle.ivy_host.specs.stated.Hosts.{Host, host_rules}
 use Rattle.ivy_host.specs.stated.Managers.{Managed, managed_ops}
 use Rattle.ivy_host.specs.stated.Openings.{first_node, opening}
 use Rattle.ivy_site.specs.SiteView.{SiteView}
-use Rattle.ivy_site.specs.Sites.{first_shown, IsMadeByEvents}
+use Rattle.ivy_site.specs.Sites.{first_keeping, IsMadeByEvents}
 use Rattle.ivy_world.specs.WorldSites.{programs_of}
 use Rattle.proof_worlds.proofs.headline.Headline.{keeps-reached}
-use Rattle.ivy_moves.specs.declared.keep.Keep.TheVariants.{All}
+use Rattle.ivy_moves.specs.declared.keep.Keep.{Keep}
 use Rattle.ivy_site.proofs.Made.{first_made}
 use Rattle.ivy_program.specs.stated.Programs.{Program}
-use Rattle.ivy_join.specs.ReplaySites.{program_in, events_at, listed, kept_from, IsNode, ArePlayed, AreKept}
+use Rattle.ivy_join.specs.ReplaySites.{program_in, events_at, listed, kept_from, IsNode, ArePlayed}
 use Rattle.ivy_logs.specs.declared.log.LogHead.{LogHead}
 use Rattle.ivy_join.specs.Exact.{HasSent, HaveSent}
 use Rattle.ivy_join.specs.Joined.{part_in, list_of, run_to, AreHeads, AreJoined}
@@ -74,67 +74,63 @@ module _ (c : Config) (programs : List Program) (sites : List SiteView) (sent : 
     nodes = node;
   }
 
-pub are-kept : (c : Config) (sites : List SiteView) (sent : List (List ℕ)) → ArePlayed c sites sent
-    → AreKept sites
-are-kept c sites sent played i s there = (played.each i s there).keep
-
 -- as they begin
 
-pub one_more_kept : (c : Config) (me : ℕ) (sites : List SiteView) (p : Program) (left rest : List Program)
-    → left ≡ p ∷ rest → (site : SiteView) → site ≡ first_shown c me p → (more : List SiteView)
-    → more ≡ sites ++ site ∷ [] → more ++ kept_from c (me + 1) rest ≡ sites ++ kept_from c me left
-one_more_kept c me sites p left rest steps site is more added =
-    ap (λ l. l ++ kept_from c (me + 1) rest) added
-    ∙ append_assoc sites (site ∷ []) (kept_from c (me + 1) rest)
-    ∙ ap (λ s. sites ++ s ∷ kept_from c (me + 1) rest) is
-    ∙ ap (λ l. sites ++ kept_from c me l) (sym steps)
+pub one_more_kept : (k : Keep) (c : Config) (me : ℕ) (sites : List SiteView) (p : Program)
+    (left rest : List Program) → left ≡ p ∷ rest → (site : SiteView) → site ≡ first_keeping k c me p
+    → (more : List SiteView) → more ≡ sites ++ site ∷ []
+    → more ++ kept_from k c (me + 1) rest ≡ sites ++ kept_from k c me left
+one_more_kept k c me sites p left rest steps site is more added =
+    ap (λ l. l ++ kept_from k c (me + 1) rest) added
+    ∙ append_assoc sites (site ∷ []) (kept_from k c (me + 1) rest)
+    ∙ ap (λ s. sites ++ s ∷ kept_from k c (me + 1) rest) is
+    ∙ ap (λ l. sites ++ kept_from k c me l) (sym steps)
 
-module _ (c : Config) where
-  first_count : (me : ℕ) (ps : List Program) → length (kept_from c me ps) ≡ length ps
+module _ (k : Keep) (c : Config) where
+  first_count : (me : ℕ) (ps : List Program) → length (kept_from k c me ps) ≡ length ps
   first_count me [] = refl
   first_count me (p ∷ ps) = ap suc (first_count (me + 1) ps)
 
-  programs-from : (me : ℕ) (ps : List Program) → programs_of (kept_from c me ps) ≡ ps
+  programs-from : (me : ℕ) (ps : List Program) → programs_of (kept_from k c me ps) ≡ ps
   programs-from me [] = refl
   programs-from me (p ∷ ps) = ap (λ l. p ∷ l) (programs-from (me + 1) ps)
 
-  first-events : (me : ℕ) (ps : List Program) (i : ℕ) → events_at (kept_from c me ps) i ≡ []
+  first-events : (me : ℕ) (ps : List Program) (i : ℕ) → events_at (kept_from k c me ps) i ≡ []
   first-events me [] i = refl
   first-events me (p ∷ ps) zero = refl
   first-events me (p ∷ ps) (suc i) = first-events (me + 1) ps i
 
-  first_at : (me : ℕ) (ps : List Program) (i k : ℕ) (s : SiteView) → me + i ≡ k
-      → slice_get (kept_from c me ps) i ≡ Some s → (p : Program) × (s ≡ first_shown c k p)
-  first_at me [] i k s at e = absurd (none-some s e)
-  first_at me (p ∷ ps) zero k s at e =
-      let same : me ≡ k = omega (arith, at) in
-      (p, sym (same_Some (first_shown c me p) s e) ∙ ap (λ j. first_shown c j p) same)
-  first_at me (p ∷ ps) (suc i) k s at e = first_at (me + 1) ps i k s (omega (arith, at)) e
+  first_at : (me : ℕ) (ps : List Program) (i j : ℕ) (s : SiteView) → me + i ≡ j
+      → slice_get (kept_from k c me ps) i ≡ Some s → (p : Program) × (s ≡ first_keeping k c j p)
+  first_at me [] i j s at e = absurd (none-some s e)
+  first_at me (p ∷ ps) zero j s at e =
+      let same : me ≡ j = omega (arith, at) in
+      (p, sym (same_Some (first_keeping k c me p) s e) ∙ ap (λ n. first_keeping k c n p) same)
+  first_at me (p ∷ ps) (suc i) j s at e = first_at (me + 1) ps i j s (omega (arith, at)) e
 
-module _ (c : Config) (programs : List Program) (sites : List SiteView) (limits : IsConfig c)
-    (each : length programs ≡ c.nodes) (first : sites ≡ kept_from c 0 programs) where
+module _ (k : Keep) (c : Config) (programs : List Program) (sites : List SiteView) (limits : IsConfig c)
+    (each : length programs ≡ c.nodes) (first : sites ≡ kept_from k c 0 programs) where
   pub first_programs : programs_of sites ≡ programs
-  first_programs = ap programs_of first ∙ programs-from c 0 programs
+  first_programs = ap programs_of first ∙ programs-from k c 0 programs
 
   pub nothing : (i : ℕ) → events_at sites i ≡ []
-  nothing i = ap (λ l. events_at l i) first ∙ first-events c 0 programs i
+  nothing i = ap (λ l. events_at l i) first ∙ first-events k c 0 programs i
 
   first-node : (i : ℕ) (s : SiteView) → slice_get sites i ≡ Some s → IsNode c [] i s
   first-node i s there =
-      let own = first_at c 0 programs i i s (omega arith)
+      let own = first_at k c 0 programs i i s (omega arith)
       (subst (λ l. slice_get l i ≡ Some s) first there) in
-      let is : s ≡ first_shown c i own.0 = own.1 in record {
+      let is : s ≡ first_keeping k c i own.0 = own.1 in record {
         config = ap (λ (x : SiteView). x.config) is;
         me = ap (λ (x : SiteView). x.me) is;
-        keep = ap (λ (x : SiteView). x.keep) is;
-        made = subst IsMadeByEvents (sym is) (first_made All c i own.0);
+        made = subst IsMadeByEvents (sym is) (first_made k c i own.0);
         took = subst (AllCanBeMade [] c.nodes i) (sym (ap (λ (x : SiteView). x.events) is)) tt;
       }
 
   pub first-played : ArePlayed c sites []
   first-played = record {
     limits = limits;
-    count = ap length first ∙ first_count c 0 programs ∙ each;
+    count = ap length first ∙ first_count k c 0 programs ∙ each;
     each = first-node;
     end = opening managed_ops c (programs_of sites);
     run = record { moves = []; leads = refl; are = nothing };
@@ -144,7 +140,7 @@ module _ (c : Config) (programs : List Program) (sites : List SiteView) (limits 
   -- nothing was sent
   pub first-sent : HaveSent [] sites
   first-sent i s there =
-      let own = first_at c 0 programs i i s (omega arith)
+      let own = first_at k c 0 programs i i s (omega arith)
       (subst (λ l. slice_get l i ≡ Some s) first there) in
       subst (HasSent []) (sym own.1) (record {
         none = refl;

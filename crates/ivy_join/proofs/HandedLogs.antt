@@ -113,7 +113,6 @@ module _ (sites : List SiteView) (node : ℕ) (old : SiteView) (there : slice_ge
         subst (IsNode c sent i) (sym p.1) (subst (λ x. IsNode c sent x new) (sym p.0) (record {
           config = was.config;
           me = was.me;
-          keep = was.keep;
           made = handed_made more old was.made;
           took = was.took;
         })))

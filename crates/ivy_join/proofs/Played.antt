@@ -19,7 +19,6 @@ use Rattle.ivy_host.specs.stated.Hosts.{Host, host_rules}
 use Rattle.ivy_host.specs.stated.Managers.{Managed, managed_ops}
 use Rattle.ivy_host.specs.stated.Openings.{first_node, first_nodes, opening}
 use Rattle.ivy_host.proofs.WellBehaved.{first_length}
-use Rattle.ivy_moves.specs.declared.keep.Keep.TheVariants.{All}
 use Rattle.ivy_site.specs.SiteView.{SiteView}
 use Rattle.ivy_site.specs.Sites.{IsMadeByEvents}
 use Rattle.ivy_world.specs.WorldSites.{programs_of}
@@ -147,9 +146,6 @@ module _ (c : Config) (sites : List SiteView) (sent more : List (List ℕ)) (i :
   new-me : new.me ≡ i
   new-me = ap (λ (s : SiteView). s.me) same ∙ me
 
-  new-keep : new.keep ≡ All
-  new-keep = ap (λ (s : SiteView). s.keep) same ∙ on.keep ∙ was.keep
-
   new-events : new.events ≡ old.events ++ on.more
   new-events = ap (λ (s : SiteView). s.events) same ∙ on.events
 
@@ -253,14 +249,12 @@ module _ (c : Config) (sites : List SiteView) (sent more : List (List ℕ)) (i :
       (record {
         config = new-config;
         me = new-me;
-        keep = new-keep;
         made = made';
         took = took-here;
       })))
       (λ q. let old-one = played.each j s q in record {
         config = old-one.config;
         me = old-one.me;
-        keep = old-one.keep;
         made = old-one.made;
         took = can-more sent more c.nodes j s.events kept old-one.took;
       })

@@ -13,19 +13,15 @@ use Rattle.ivy_host.specs.stated.Hosts.{Host, host_rules}
 use Rattle.ivy_host.specs.stated.Managers.{Managed, managed_ops}
 use Rattle.ivy_host.specs.stated.Openings.{first_node, opening}
 use Rattle.ivy_site.specs.SiteView.{SiteView}
-use Rattle.ivy_moves.specs.declared.keep.Keep.TheVariants.{All}
-use Rattle.ivy_site.specs.Sites.{first_shown, IsMadeByEvents}
+use Rattle.ivy_moves.specs.declared.keep.Keep.{Keep}
+use Rattle.ivy_site.specs.Sites.{first_keeping, IsMadeByEvents}
 use Rattle.ivy_world.specs.WorldSites.{programs_of}
 use Rattle.ivy_program.specs.stated.Programs.{Program}
 
--- the sites of the programs as they begin, of which each keeps its lists
-abbrev pub kept_from : Config → ℕ → List Program → List SiteView
-kept_from c me [] = []
-kept_from c me (p ∷ ps) = first_shown c me p ∷ kept_from c (me + 1) ps
-
--- each of the sites keeps its lists
-abbrev pub AreKept : List SiteView → Type 0
-AreKept sites = (i : ℕ) (s : SiteView) → slice_get sites i ≡ Some s → s.keep ≡ All
+-- the sites of the programs as they begin, of which each keeps these lists
+abbrev pub kept_from : Keep → Config → ℕ → List Program → List SiteView
+kept_from keep c me [] = []
+kept_from keep c me (p ∷ ps) = first_keeping keep c me p ∷ kept_from keep c (me + 1) ps
 
 -- the program of a site
 abbrev pub program_in : SiteView → Program
@@ -92,12 +88,10 @@ abbrev pub AddsSent : SiteView → List (List ℕ) → List (List ℕ) → Type 
 AddsSent s old new = (bytes : List ℕ) → Contains new bytes → Contains old bytes ⊎ Sends s bytes
 
 module _ (c : Config) where
-  -- the site is this node, what its events make of it, and keeps its lists; each string that it was given
-  -- is one of these
+  -- the site is this node, and what its events make of it; each string that it was given is one of these
   pub record IsNode (sent : List (List ℕ)) (i : ℕ) (s : SiteView) : Type 0 where
     pub config : s.config ≡ c
     pub me : s.me ≡ i
-    pub keep : s.keep ≡ All
     pub made : IsMadeByEvents s
     pub took : AllCanBeMade sent c.nodes i s.events
 

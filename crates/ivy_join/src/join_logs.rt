@@ -10,7 +10,7 @@ ghost use Rattle.ivy_program.specs.Programs.{IsWritten};
 ghost use Rattle.ivy_world.specs.HandedWorlds.{own_code};
 ghost use Rattle.ivy_world.specs.WorldSites.{IsMemory};
 ghost use Rattle.ivy_join.specs.Calls.{HaveNoCalls};
-ghost use Rattle.ivy_join.specs.ReplaySites.{kept_from, AreKept};
+ghost use Rattle.ivy_join.specs.ReplaySites.{kept_from};
 ghost use Rattle.ivy_join.specs.Joined.{AreHeads, AreJoined, AreNoParts, NamesSum, SaysNoParts, SaysOfCount, SaysOfHead, SaysOfHeads, SaysOfSums};
 ghost use Rattle.ivy_logs.specs.Sums.{sum_of_run};
 ghost use Rattle.ivy_join.specs.OwnJoined.{AreAllTold, AreAnswered, AreOwnJoined, AreTold, Tells};
@@ -21,12 +21,13 @@ use crate::replay_log::play;
 use crate::strings::Strings;
 use ivy_logs::{Log, LogEntry, LogHead, sum_of_run};
 use ivy_model::{Config, Fault, Record};
+use ivy_moves::Keep;
 use ivy_program::Program;
 use ivy_site::Site;
 use ivy_wire::Bytes;
 use std::alloc::Allocator;
 
-/// The sites of the programs, in order, which keep their lists [1].
+/// The sites of the programs, in order, which keep no lists [1].
 fn first_sites<A: Allocator + Copy>(
     alloc: A,
     config: &Config,
@@ -34,7 +35,7 @@ fn first_sites<A: Allocator + Copy>(
 ) -> Result<Vec<Site<A>, A>, Fault>
     requires limits { IsConfig config.now }
     requires each { length programs.items ≡ config.now.nodes }
-    ensures first { IfOk result (λ sites. sites.items ≡ kept_from config.now 0 programs.items) }
+    ensures first { IfOk result (λ sites. sites.items ≡ kept_from Keep.Nothing config.now 0 programs.items) }
     ensures written { OnOk result (All IsWritten programs.items) }
     ensures memory { IfErr result IsMemory }
 {
@@ -43,21 +44,21 @@ fn first_sites<A: Allocator + Copy>(
     for program in programs {
         // for the proof: it is written down, so that its node makes no call of its own.
         let _ = program.instructions();
-        sites.push(Site::new(alloc, config, me, program)?)?;
+        sites.push(Site::keeping(alloc, config, me, program, Keep::Nothing)?)?;
         me += 1;
     }
     Ok(sites)
 }
 
-/// The sites of own code, as many as there are nodes, which keep their lists [1].
+/// The sites of own code, as many as there are nodes, which keep what they are answered [1].
 fn open_sites<A: Allocator + Copy>(alloc: A, config: &Config) -> Result<Vec<Site<A>, A>, Fault>
     requires limits { IsConfig config.now }
-    ensures first { IfOk result (λ sites. sites.items ≡ kept_from config.now 0 (own_code config.now.nodes)) }
+    ensures first { IfOk result (λ sites. sites.items ≡ kept_from Keep.History config.now 0 (own_code config.now.nodes)) }
     ensures memory { IfErr result IsMemory }
 {
     let mut sites = Vec::with_capacity(alloc, usize::from(config.nodes))?;
     for me in 0..config.nodes {
-        sites.push(Site::open(alloc, config, me)?)?;
+        sites.push(Site::open_keeping(alloc, config, me, Keep::History)?)?;
     }
     Ok(sites)
 }
@@ -160,10 +161,11 @@ fn after_answer<A: Allocator>(
     Some(place + 1)
 }
 
-/// Whether the records have the answers of these entries, in order, and at most one more.
-fn are_told<A: Allocator>(history: &[Record], entries: &[LogEntry<Bytes<A>>]) -> bool
-    ensures { IsTrue result → Tells entries.now history.now }
+/// Whether the site was answered what these entries say, in order, and at most one call more.
+fn are_told<A: Allocator + Copy>(site: &Site<A>, entries: &[LogEntry<Bytes<A>>]) -> bool
+    ensures { IsTrue result → Tells entries.now site.now.node.core.history }
 {
+    let history = site.history();
     let mut place = 0usize;
     for entry in entries {
         let Some(next) = after_answer(history, place, entry) else {
@@ -172,17 +174,16 @@ fn are_told<A: Allocator>(history: &[Record], entries: &[LogEntry<Bytes<A>>]) ->
         place = next;
     }
     // A node that was killed may not have logged what it was answered last.
-    history.len() - place <= 1
+    site.records().saturating_sub(place as u64) <= 1
 }
 
 /// Whether each site was answered what its log says.
 fn check_answers<A: Allocator + Copy>(sites: &[Site<A>], logs: &[Log<A>]) -> Result<(), Unjoined>
     requires each { length logs.now ≡ length sites.now }
-    requires kept { AreKept sites.now }
     ensures { OnOk result (AreTold (map (λ l. l.entries.items) logs.now) sites.now) }
 {
     for node in 0..logs.len() {
-        if !are_told(sites[node].history(), &logs[node].entries) {
+        if !are_told(&sites[node], &logs[node].entries) {
             return Err(Unjoined::OtherAnswers(node as u64));
         }
     }

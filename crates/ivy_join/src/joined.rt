@@ -1,9 +1,8 @@
 //! What logs come to that are the parts of one run.
 ghost use Rattle.std.specs.Prelude.{◌≡◌, ◌<◌, ◌↔◌, IfSome, IsTrue, length, slice_get};
 ghost use Rattle.ivy_program.specs.InstructionSteps.{HasEnded};
-ghost use Rattle.ivy_join.specs.ReplaySites.{AreKept};
 
-use ivy_model::{Call, Record};
+use ivy_model::Call;
 use ivy_site::Site;
 use std::alloc::Allocator;
 use std::marker::Model;
@@ -33,15 +32,10 @@ impl<A: Allocator> Model for Joined<A> {
     ghost coded = { Prim.hlevel (codes, nodes_code, heap_state_code) };
 
     ghost view = { λ j. j.sites.items };
-
-    ghost use Rattle.ivy_join.specs.ReplaySites.{AreKept};
-
-    ghost invariant = { λ j. AreKept j.sites.items };
 }
 
 impl<A: Allocator + Copy> Joined<A> {
     pub(crate) fn new(sites: Vec<Site<A>, A>) -> Self
-        requires { AreKept sites.items }
         ensures { result ≡ sites.items }
     {
         Joined { sites }
@@ -54,12 +48,12 @@ impl<A: Allocator + Copy> Joined<A> {
         self.sites.len() as u64
     }
 
-    /// What a node was answered, in order; the node is one of the run's. It takes no memory.
-    pub fn history(&self, node: u64) -> &[Record]
+    /// How many calls a node was answered; the node is one of the run's. It takes no memory.
+    pub fn records(&self, node: u64) -> u64
         requires { node < length self.now }
-        ensures { IfSome (slice_get self.now node) (λ s. result.now ≡ s.node.core.history) }
+        ensures { IfSome (slice_get self.now node) (λ s. result ≡ length s.node.core.history) }
     {
-        self.sites[node as usize].history()
+        self.sites[node as usize].records()
     }
 
     /// What a node's program printed; the node is one of the run's. It takes no memory.

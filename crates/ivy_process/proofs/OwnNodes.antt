@@ -1,5 +1,7 @@
 -- A node with own code goes on by events, calls and answers, whose lines it notes and writes.
-use Rattle.std.proofs.Common.{◌≡◌, ℕ, ◌+◌, ◌<◌, ◌≤◌, List, [], ◌∷◌, ◌++◌, length, take, Option, None, Result, Ok, Err, IfOk, map, refl, sym, ap, subst, ◌∙◌, append-nil, append_assoc, arith}
+use Rattle.std.proofs.Common.{◌≡◌, ℕ, ◌+◌, ◌<◌, ◌≤◌, List, [], ◌∷◌, ◌++◌, length, take, Option, Some, None, false, Result, Ok, Err, IfOk, map, refl, sym, ap, subst, ◌∙◌, append-nil, append_assoc, arith}
+use mathlib.Core.Bool.{true≢false}
+use Rattle.std.specs.Option.{is_some}
 use Rattle.std.specs.Io.KnownBytes.{Appends}
 use Rattle.std.proofs.KnownBytes.{Appends-nil, Appends-trans}
 use Rattle.std.proofs.lemmas.List.{length-append, map-append, take_all}
@@ -131,6 +133,7 @@ streams-of b d log log' x = record {
   written = x.written;
   all = ap (λ l. (b.unlogged ++ lines_of x.events) ++ l) x.whole
       ∙ append-nil (b.unlogged ++ lines_of x.events);
+  left = x.left;
 }
 
 -- its work was told nothing yet, and the node went on
@@ -255,6 +258,31 @@ replied-unless failure from past place place' count count' b d log log' told tol
       subst (λ f. ResumesUnless f from place' count' d log' told') (sym ok)
           (subst (λ l. Resumes from place' count' d log' l) (sym more) after),
     )
+
+pub none-of : {X : Type 0} (o : Option X) → false ≡ is_some o → o ≡ None
+none-of None is = refl
+none-of (Some x) is = absurd (true≢false (sym is))
+
+-- no call failed, and the node goes on while its work rests
+pub resumes-on : (failure : Option NodeFailure) (from : Begun) (place count count' : ℕ) (b d : Served)
+    (log log' : Option (List ℕ)) (told : List Answer) → failure ≡ None
+    → ResumesUnless failure from place count b log told → StreamsPart b d log log' → count' ≡ count
+    → ResumesUnless failure from place count' d log' told
+resumes-on failure from place count count' b d log log' told ok is went same =
+    let x : Resumes from place count b log told = subst (λ f. ResumesUnless f from place count b log told) ok is in
+    let after : Resumes from place count d log' told = record {
+      within = x.within;
+      fresh = x.fresh;
+      streams = subst (OwnStreams from d log') (append-nil x.fresh)
+          (own-further from [] b d log log' x.fresh [] x.streams (streams-own [] b d log log' went));
+      are = x.are;
+      again = x.again;
+      many = x.many;
+      first = λ said. first-longer (answers_in from.past ++ x.fresh) b.site.node.core.history
+          d.site.node.core.history (x.first said) went.kept.answered;
+    } in
+    subst (λ f. ResumesUnless f from place count' d log' told) (sym ok)
+    (subst (λ n. Resumes from place n d log' told) (sym same) after)
 
 -- what follows of three facts of a result
 pub all-ok : {T E : Type 0} (r : Result T E) (P Q R S : T → Type 0)

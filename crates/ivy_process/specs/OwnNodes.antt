@@ -22,8 +22,8 @@ use Rattle.ivy_process.specs.declared.past.Recalled.TheVariants.{Known, Open, Ne
 use Rattle.ivy_process.specs.NodeLogs.{Served}
 
 -- the node of this log is what the events of it make of it, its code has made the calls in it and was answered
--- first what it says, and the log lacks no line
-pub record IsOpened (head : LogHead) (log : List LogEntry) (new : Served) : Type 0 where
+-- first what it says, and the log lacks no line; the node may make so many turns more
+pub record IsOpened (head : LogHead) (log : List LogEntry) (turns : ℕ) (new : Served) : Type 0 where
   pub config : new.site.config ≡ head.config
   pub number : new.site.me ≡ head.me
   pub runs : program_in new.site ≡ Called (one_by_one (calls_in log))
@@ -31,6 +31,7 @@ pub record IsOpened (head : LogHead) (log : List LogEntry) (new : Served) : Type
   pub told : StandFirst (answers_in log) new.site.node.core.history
   pub made : IsMadeByEvents new.site
   pub whole : new.unlogged ≡ []
+  pub left : new.left ≡ turns
 
 -- the node's code made the call, and its line is noted
 pub record NotesCall (call : Call) (old new : Served) : Type 0 where

@@ -8,10 +8,12 @@
 mod failure;
 mod limits;
 mod lines;
+mod log_file;
 mod mail;
 mod node;
 mod own_memory;
 mod past;
+mod peers;
 mod router;
 mod service;
 mod sites;
@@ -21,6 +23,7 @@ mod threads;
 
 pub use failure::NodeFailure;
 pub use limits::{NodeLimits, Untaken};
+pub use log_file::{LogFile, NoLog, open_log};
 pub use mail::{Inbox, Mail, Mailed};
 pub use node::Node;
 pub use own_memory::{Worked, serve_work};

@@ -18,4 +18,6 @@ pub struct Untaken {
     pub bad_lines: u64,
     /// Strings that spell no frame of this configuration.
     pub no_frames: u64,
+    /// Nodes that told the sum of another run. Of these it took no frame more.
+    pub others: u64,
 }

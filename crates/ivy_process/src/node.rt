@@ -5,29 +5,35 @@ ghost use Rattle.ivy_model.specs.stated.Config.{IsConfig};
 ghost use Rattle.ivy_model.specs.stated.Legal.{HasWidth};
 ghost use Rattle.ivy_program.specs.OwnCode.{IsFree};
 ghost use Rattle.ivy_moves.specs.declared.keep.Keep.TheVariants.{Nothing};
-ghost use Rattle.ivy_logs.specs.Printed.{head_line};
+ghost use Rattle.ivy_logs.specs.Printed.{head_line, head_line_of_run};
 ghost use Rattle.ivy_logs.specs.Entries.{entry_line};
 ghost use Rattle.ivy_site.specs.Sites.{first_keeping, GoesAsFar};
 ghost use Rattle.ivy_join.specs.Remade.{IsAnsweredLast};
-ghost use Rattle.ivy_process.specs.NodeLogs.{AddsEvents, IsEmptied, IsLogged, IsMadeAgain, IsRestarted, served};
+ghost use Rattle.ivy_process.specs.NodeLogs.{AddsEvents, IsEmptied, IsLogged, IsMadeAgain, IsRestarted, Takes, TakesLine, served, value_lines};
 ghost use Rattle.ivy_process.specs.OwnNodes.{IsOpened, NotesAnswer, NotesCall};
 
 use crate::failure::NodeFailure;
 use crate::limits::{NodeLimits, Untaken};
-use crate::sites::{make_turns, print_values, push_frames};
+use crate::peers::Peers;
+use crate::sites::{make_turns, push_frames};
 use crate::streams::write_through;
 use ivy_calls::Answer;
 use ivy_join::replay;
 use ivy_link::MOST_AHEAD;
-use ivy_logs::{Log, LogEntry, LogHead, LogKind, parse_frame, push_entry, push_head};
+use ivy_logs::{
+    Log, LogEntry, LogHead, LogKind, SumLine, parse_frame, parse_sum_line, push_entry, push_head,
+    push_head_of_run, push_sum_line,
+};
 use ivy_model::{Call, Config, Fault, Reply};
 use ivy_moves::{Event, Keep};
 use ivy_program::Program;
 use ivy_site::{Site, Verdict};
+use ivy_texts::print_output;
 use ivy_wire::{Bytes, read_frame};
 use std::alloc::Global;
-use std::io::Write;
+use std::io::{self, Write};
 use std::marker::Model;
+use std::str;
 
 /// One node of a shared memory, which keeps no list of its past: its log has it.
 ///
@@ -36,17 +42,21 @@ pub struct Node {
     alloc: Global,
     site: Site<Global>,
     limits: NodeLimits,
-    /// So many turns its program made.
-    turns: u64,
-    /// Of each node the greatest number that it acknowledged.
-    acknowledged: Vec<u64>,
-    told: Untaken,
+    /// So many turns its program may make still.
+    left: u64,
+    /// The sum of its run, which it tells its peers; own code has none.
+    sum: Option<u64>,
+    peers: Peers,
+    bad_lines: u64,
+    no_frames: u64,
     /// The lines of the events that the log lacks.
     lines: String,
     /// The lines of frames that go out once the log has these.
     frames: String,
     /// So many values of its output were printed.
     printed: usize,
+    /// So many of its calls were refused.
+    refused: u64,
 }
 
 impl Drop for Node {
@@ -55,12 +65,15 @@ impl Drop for Node {
             alloc: _,
             site: _,
             limits: _,
-            turns: _,
-            acknowledged: _,
-            told: _,
+            left: _,
+            sum: _,
+            peers: _,
+            bad_lines: _,
+            no_frames: _,
             lines: _,
             frames: _,
             printed: _,
+            refused: _,
         } = self;
     }
 }
@@ -76,7 +89,7 @@ impl Model for Node {
 
     ghost coded = { Prim.hlevel (codes, nodes_code, heap_state_code) };
 
-    ghost view = { λ n. served n.site (string_bytes n.lines) };
+    ghost view = { λ n. served n.site (string_bytes n.lines) n.left n.printed };
 }
 
 impl Node {
@@ -90,7 +103,7 @@ impl Node {
     ) -> Result<Node, NodeFailure>
         requires limits { IsConfig config.now }
         requires here { me < config.now.nodes }
-        ensures { IfOk result (λ node. node ≡ served (first_keeping Nothing config.now me program) []) }
+        ensures { IfOk result (λ node. node ≡ served (first_keeping Nothing config.now me program) [] limits.turns 0) }
     {
         let site = Site::keeping(alloc, config, me, program, Keep::Nothing)?;
         Node::at_beginning(alloc, site, limits)
@@ -102,7 +115,7 @@ impl Node {
     pub fn open(alloc: Global, log: &Log<Global>, limits: NodeLimits) -> Result<Node, NodeFailure>
         requires limits { IsConfig log.now.head.config }
         requires here { log.now.head.me < log.now.head.config.nodes }
-        ensures { IfOk result (λ node. IsOpened log.now.head log.now.entries.items node) }
+        ensures { IfOk result (λ node. IsOpened log.now.head log.now.entries.items limits.turns node) }
     {
         let LogHead { me, config } = log.head;
         let site = Site::open_keeping(alloc, &config, me, Keep::Nothing)?;
@@ -115,22 +128,22 @@ impl Node {
         site: Site<Global>,
         limits: NodeLimits,
     ) -> Result<Node, NodeFailure>
-        ensures { IfOk result (λ node. node ≡ served site []) }
+        ensures { IfOk result (λ node. node ≡ served site [] limits.turns 0) }
     {
-        let acknowledged = vec![in alloc; 0u64; usize::from(site.config().nodes)]?;
+        let peers = Peers::new(alloc, site.config().nodes)?;
         Ok(Node {
             alloc,
             site,
             limits,
-            turns: 0,
-            acknowledged,
-            told: Untaken {
-                bad_lines: 0,
-                no_frames: 0,
-            },
+            left: limits.turns,
+            sum: None,
+            peers,
+            bad_lines: 0,
+            no_frames: 0,
             lines: String::new(alloc),
             frames: String::new(alloc),
             printed: 0,
+            refused: 0,
         })
     }
 
@@ -146,7 +159,7 @@ impl Node {
     ) -> Result<Node, NodeFailure>
         requires limits { IsConfig config.now }
         requires here { me < config.now.nodes }
-        ensures { IfOk result (λ node. IsRestarted config.now me program log.now.entries.items node) }
+        ensures { IfOk result (λ node. IsRestarted config.now me program log.now.entries.items limits.turns node) }
     {
         // for the proof: the program is written down, so that a log adds no call to it.
         let _ = program.instructions();
@@ -162,7 +175,7 @@ impl Node {
         log: &Log<Global>,
     ) -> Result<Node, NodeFailure>
         requires { site.events ≡ [] }
-        ensures { IfOk result (λ node. IsMadeAgain log.now.entries.items site node) }
+        ensures { IfOk result (λ node. IsMadeAgain log.now.entries.items site limits.turns node) }
     {
         let mut node = Node::at_beginning(alloc, site, limits)?;
         if let Err(why) = replay(&mut node.site, &log.entries) {
@@ -178,7 +191,7 @@ impl Node {
     {
         for entry in &log.entries {
             if let LogEntry::Did(Event::Delivered(string)) = entry {
-                self.heed(string.bytes());
+                let _ = self.heed(string.bytes());
             }
         }
     }
@@ -195,6 +208,18 @@ impl Node {
         self.site.ended()
     }
 
+    /// The call that it has in progress.
+    pub fn asked(&self) -> Option<Call>
+        ensures { result ≡ self.now.site.node.core.memory.asked }
+    {
+        self.site.asked()
+    }
+
+    /// How many of its calls were refused since it was made.
+    pub fn refused(&self) -> u64 {
+        self.refused
+    }
+
     /// What it may use.
     pub fn limits(&self) -> NodeLimits {
         self.limits
@@ -202,35 +227,39 @@ impl Node {
 
     /// What it did not take.
     pub fn told(&self) -> Untaken {
-        self.told
-    }
-
-    /// A node acknowledges all messages up to a number.
-    fn acknowledge(&mut self, from: u8, number: u64)
-        ensures { self.new ≡ self.old }
-    {
-        if let Some(most) = self.acknowledged.get_mut(usize::from(from)) {
-            *most = (*most).max(number);
+        Untaken {
+            bad_lines: self.bad_lines,
+            no_frames: self.no_frames,
+            others: self.peers.others(),
         }
     }
 
-    /// What a string acknowledges counts, where it is for this node. It says whether it spells a frame of this configuration.
-    fn heed(&mut self, string: &[u8]) -> bool
+    /// It tells its peers that its run has this sum, each until a frame of it has come, and takes no frame more of one that
+    /// tells it another.
+    pub fn tell_sum(&mut self, sum: u64)
+        ensures { self.new ≡ self.old }
+    {
+        self.sum = Some(sum);
+    }
+
+    /// What a string acknowledges counts, where it is for this node and its sender runs what this one does. It gives the
+    /// sender, or none where the string spells no frame of this configuration.
+    fn heed(&mut self, string: &[u8]) -> Option<u8>
         ensures { self.new ≡ self.old }
     {
         let config = self.site.config();
         let Ok(frame) = read_frame(&config, string) else {
-            return false;
+            return None;
         };
-        if frame.dest == self.site.me() {
-            self.acknowledge(frame.source, frame.ack);
+        if frame.dest == self.site.me() && !self.peers.is_other(frame.source) {
+            self.peers.acknowledge(frame.source, frame.ack);
         }
-        true
+        Some(frame.source)
     }
 
     /// Notes what the node did, called or was answered.
     fn note(&mut self, entry: LogEntry<Bytes<Global>>) -> Result<(), NodeFailure>
-        ensures { OnOk result (self.new ≡ served self.old.site (self.old.unlogged ++ entry_line entry)) }
+        ensures { OnOk result (self.new ≡ served self.old.site (self.old.unlogged ++ entry_line entry) self.old.left self.old.told) }
     {
         push_entry(self.alloc, &mut self.lines, &entry)?;
         Ok(())
@@ -251,9 +280,10 @@ impl Node {
         Ok(())
     }
 
-    /// A string comes. It tells of one that spells no frame.
+    /// A string comes. A frame for another node is left alone.
     fn deliver(&mut self, string: Bytes<Global>) -> Result<(), NodeFailure>
-        ensures { OnOk result (AddsEvents self.old self.new) }
+        ensures on { OnOk result (AddsEvents self.old self.new) }
+        ensures taken { OnOk result (Takes string self.old self.new) }
     {
         let (verdict, from) = self.site.deliver_alone(&string)?;
         if verdict == Verdict::NotMine {
@@ -266,25 +296,72 @@ impl Node {
         Ok(())
     }
 
-    /// The string of a line comes. One that spells no frame of this configuration is counted.
+    /// Whether a string is to be taken: it spells a frame of this configuration, and its sender runs what this node does. One
+    /// that spells none is counted.
+    fn is_welcome(&mut self, string: &[u8]) -> bool
+        ensures { self.new ≡ self.old }
+    {
+        let Some(from) = self.heed(string) else {
+            self.no_frames = self.no_frames.saturating_add(1);
+            return false;
+        };
+        if self.peers.is_other(from) {
+            return false;
+        }
+        self.peers.note_frame(from);
+        true
+    }
+
+    /// The string of a line comes.
     fn take(&mut self, bytes: Vec<u8>) -> Result<(), NodeFailure>
-        ensures { OnOk result (AddsEvents self.old self.new) }
+        ensures on { OnOk result (AddsEvents self.old self.new) }
+        ensures taken { OnOk result (Takes bytes.items self.old self.new) }
     {
         let string = Bytes::from_vec(self.alloc, bytes)?;
-        if self.heed(string.bytes()) {
+        if self.is_welcome(string.bytes()) {
             return self.deliver(string);
         }
-        self.told.no_frames = self.told.no_frames.saturating_add(1);
         Ok(())
     }
 
-    /// A line comes. A frame for another node is left alone, and a line without a frame is counted.
+    /// A node tells the sum of its run.
+    fn learn_sum(&mut self, line: SumLine)
+        ensures { self.new ≡ self.old }
+    {
+        match u8::try_from(line.from) {
+            Ok(from) if from < self.site.config().nodes => {
+                if self.sum.is_some_and(|sum| sum != line.sum) {
+                    self.peers.note_other(from);
+                }
+            }
+            _ => self.no_frames = self.no_frames.saturating_add(1),
+        }
+    }
+
+    /// A line without a frame comes: it tells a sum, or is counted.
+    fn hear_other(&mut self, line: &[u8])
+        ensures { self.new ≡ self.old }
+    {
+        let told = match str::from_utf8(line) {
+            Ok(line) => parse_sum_line(line),
+            Err(_) => None,
+        };
+        match told {
+            Some(told) if told.to != u64::from(self.site.me()) => {}
+            Some(told) => self.learn_sum(told),
+            None => self.bad_lines = self.bad_lines.saturating_add(1),
+        }
+    }
+
+    /// A line comes. The string of a frame for this node is taken as the line spells it. A frame for another node is left
+    /// alone; of other lines, one that tells a sum is heeded, and the rest are counted.
     pub fn hear(&mut self, line: &[u8]) -> Result<(), NodeFailure>
-        ensures { OnOk result (AddsEvents self.old self.new) }
+        ensures on { OnOk result (AddsEvents self.old self.new) }
+        ensures taken { OnOk result (TakesLine line.now self.old self.new) }
     {
         match parse_frame(self.alloc, line)? {
             None => {
-                self.told.bad_lines = self.told.bad_lines.saturating_add(1);
+                self.hear_other(line);
                 Ok(())
             }
             Some(frame) if frame.to == u64::from(self.site.me()) => self.take(frame.bytes),
@@ -292,16 +369,16 @@ impl Node {
         }
     }
 
-    /// Makes so many turns at most, until one does nothing. It says how many did something.
+    /// Makes so many turns at most, until one does nothing. It says how many did something. In all these are no more than its
+    /// program may make.
     pub fn make_turns(&mut self, most: u64) -> Result<u64, NodeFailure>
         ensures { OnOk result (AddsEvents self.old self.new) }
     {
-        let left = self.limits.turns.saturating_sub(self.turns);
-        if left == 0 && !self.site.ended() {
+        if self.left == 0 && !self.site.ended() {
             return Err(NodeFailure::Refused(Fault::TurnLimit));
         }
-        let made = make_turns(&mut self.site, most.min(left))?;
-        self.turns = self.turns.saturating_add(made);
+        let made = make_turns(&mut self.site, most.min(self.left), &mut self.refused)?;
+        self.left = self.left.saturating_sub(made);
         if made > 0 {
             self.note(LogEntry::Did(Event::Turns(made)))?;
         }
@@ -330,10 +407,41 @@ impl Node {
         Ok(())
     }
 
-    /// Pulses to each other node.
+    /// Writes the line by which it tells a node its sum, where a frame of that one did not come yet.
+    fn push_sum(&mut self, sum: u64, to: u8) -> Result<(), NodeFailure>
+        ensures { self.new ≡ self.old }
+    {
+        let me = self.site.me();
+        if to == me || self.peers.has_come(to) {
+            return Ok(());
+        }
+        let line = SumLine {
+            to: u64::from(to),
+            from: u64::from(me),
+            sum,
+        };
+        push_sum_line(&mut self.frames, line)?;
+        Ok(())
+    }
+
+    /// Writes these lines for all nodes, if it has a sum. They stand before the frames that wait.
+    fn push_sums(&mut self) -> Result<(), NodeFailure>
+        ensures { self.new ≡ self.old }
+    {
+        let Some(sum) = self.sum else {
+            return Ok(());
+        };
+        for to in 0..self.site.config().nodes {
+            self.push_sum(sum, to)?;
+        }
+        Ok(())
+    }
+
+    /// Pulses to each other node, and tells its sum each one of which no frame came yet.
     pub fn pulse(&mut self) -> Result<(), NodeFailure>
         ensures { OnOk result (AddsEvents self.old self.new) }
     {
+        self.push_sums()?;
         for to in 0..self.site.config().nodes {
             self.pulse_to(to)?;
         }
@@ -356,11 +464,8 @@ impl Node {
     /// Whether no more messages for one node are kept than may be.
     pub fn check_kept(&self) -> Result<(), NodeFailure> {
         for to in 0..self.site.config().nodes {
-            let acknowledged = self.acknowledged.get(usize::from(to)).copied();
-            let kept = self
-                .site
-                .sent_to(to)
-                .saturating_sub(acknowledged.unwrap_or(0));
+            let acknowledged = self.peers.acknowledged(to);
+            let kept = self.site.sent_to(to).saturating_sub(acknowledged);
             if kept > self.limits.kept {
                 return Err(NodeFailure::Kept(to));
             }
@@ -368,16 +473,31 @@ impl Node {
         Ok(())
     }
 
-    /// Writes the first line of its log, which is of this kind.
+    /// What the first line of its log says of it.
+    fn head(&self) -> LogHead
+        ensures { result ≡ record { me = self.now.site.me; config = self.now.site.config } }
+    {
+        LogHead {
+            me: self.site.me(),
+            config: self.site.config(),
+        }
+    }
+
+    /// Writes the first line of its log, which is of this kind and names no sum.
     pub fn begin_log<L: Write>(&self, kind: LogKind, log: &mut L) -> Result<(), NodeFailure>
         ensures { OnOk result (Appends (L.contents log.old) (L.contents log.new) (head_line kind (record { me = self.now.site.me; config = self.now.site.config }))) }
     {
         let mut text = String::new(self.alloc);
-        let head = LogHead {
-            me: self.site.me(),
-            config: self.site.config(),
-        };
-        push_head(&mut text, kind, &head)?;
+        push_head(&mut text, kind, &self.head())?;
+        write_through(log, text.as_str(), NodeFailure::Unlogged)
+    }
+
+    /// Writes the first line of the log of its program, which names the sum of its run.
+    pub fn begin_log_of_run<L: Write>(&self, sum: u64, log: &mut L) -> Result<(), NodeFailure>
+        ensures { OnOk result (Appends (L.contents log.old) (L.contents log.new) (head_line_of_run (record { me = self.now.site.me; config = self.now.site.config }) sum)) }
+    {
+        let mut text = String::new(self.alloc);
+        push_head_of_run(&mut text, &self.head(), sum)?;
         write_through(log, text.as_str(), NodeFailure::Unlogged)
     }
 
@@ -458,14 +578,43 @@ impl Node {
         Ok(())
     }
 
-    /// Tells of the values that the program printed.
-    fn print<E: Write>(&mut self, err: &mut E)
+    /// Tells of the values that the program printed since the last time. None is told twice, also where the stream takes no
+    /// more: the log has what led to it, so it is told after a new start.
+    fn print<E: Write>(&mut self, err: &mut E) -> io::Result<()>
+        ensures all { self.new ≡ record self.old { told = length self.old.site.node.core.process.state.output } }
+        ensures tells { OnOk result (Appends (E.contents err.old) (E.contents err.new) (value_lines self.old)) }
+    {
+        let me = u64::from(self.site.me());
+        let output = self.site.output();
+        let told = self.printed;
+        self.printed = output.len();
+        match output.get(told..) {
+            Some(values) => print_output(me, values, err),
+            None => Ok(()),
+        }
+    }
+
+    /// Whether a node has the sum of another run and that was not told; it is now.
+    fn has_news(&mut self, node: u8) -> bool
         ensures { self.new ≡ self.old }
     {
-        let output = self.site.output();
-        let unprinted = output.get(self.printed..).unwrap_or(&[]);
-        print_values(self.site.me(), unprinted, err);
-        self.printed = output.len();
+        self.peers.take_news(node)
+    }
+
+    /// Tells of nodes that run something else, each once.
+    fn tell_others<E: Write>(&mut self, err: &mut E)
+        ensures { self.new ≡ self.old }
+    {
+        for node in 0..self.site.config().nodes {
+            if self.has_news(node) {
+                // The status tells of it too, where standard error takes nothing.
+                let _ = writeln!(
+                    err,
+                    "node {}: node {node} has another program or configuration, so its frames are dropped",
+                    self.site.me()
+                );
+            }
+        }
     }
 
     /// Writes what the log lacks, and only then the frames that wait, and tells of what was printed. Where the log takes no
@@ -480,7 +629,9 @@ impl Node {
     {
         self.write_log(log)?;
         self.send(out)?;
-        self.print(err);
+        // A stream that takes nothing ends no node.
+        let _ = self.print(err);
+        self.tell_others(err);
         Ok(())
     }
 }

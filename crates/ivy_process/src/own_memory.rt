@@ -2,14 +2,14 @@
 ghost use Rattle.std.specs.Prelude.{◌≡◌, ◌+◌, ◌≤◌, [], IfOk, None, Ok, OnOk, length, take};
 ghost use Rattle.ivy_logs.specs.Entries.{answers_in};
 ghost use Rattle.ivy_model.specs.stated.Legal.{HasWidth};
-ghost use Rattle.ivy_process.specs.NodeLogs.{StreamsWhole};
+ghost use Rattle.ivy_process.specs.NodeLogs.{StreamsPart, StreamsWhole};
 ghost use Rattle.ivy_process.specs.OwnNodes.{begun, HasResumed, HasWorked, Replies, RepliesFrom, Resumes};
 
 use crate::failure::{NODE_FAILED, NodeFailure, line_of};
 use crate::mail::Inbox;
 use crate::node::Node;
 use crate::past::{Recalled, check_told, recall};
-use crate::service::{Clockwork, Service, awake, serve, serve_on};
+use crate::service::{Clockwork, Service, awake, serve, serve_briefly, serve_on};
 use crate::story::Story;
 use crate::streams::Streams;
 use ivy_calls::{Answer, SharedMemory, Work};
@@ -176,6 +176,29 @@ fn reply_from<R: Wait, C: Clockwork, I: Inbox, L: Write, O: Write, E: Write>(
     Ok((reply, past.entries.len()))
 }
 
+/// Serves while a work waits for a word. Where the input has ended, the work waits in vain.
+fn serve_rest<R: Wait, C: Clockwork, I: Inbox, L: Write, O: Write, E: Write>(
+    rt: &R,
+    clock: &C,
+    served: &mut ServedNode<'_, I, L, O, E>,
+) -> Result<(), NodeFailure>
+    ensures went { OnOk result (StreamsPart served.old.node served.new.node (L.contents served.old.streams.log) (L.contents served.new.streams.log)) }
+    ensures none { OnOk result (served.new.answered ≡ served.old.answered) }
+{
+    let goes_on = serve_briefly(
+        rt,
+        clock,
+        &mut served.node,
+        &mut served.service,
+        &mut served.streams,
+    )?;
+    if goes_on {
+        Ok(())
+    } else {
+        Err(NodeFailure::Unanswered)
+    }
+}
+
 impl<'a, S, R, C, I, L, O, E> SharedMemory for OwnMemory<'a, S, R, C, I, L, O, E>
 where
     S: Beginning,
@@ -215,6 +238,17 @@ where
                 self.failure = Some(failure);
                 Err(NODE_FAILED)
             }
+        }
+    }
+
+    /// Serves until the next millisecond: each look stands in the log. What the log says waits for nobody.
+    fn rest(&mut self, looks: u64) {
+        let _ = looks;
+        if self.failure.is_some() || self.place < self.past.entries.len() {
+            return;
+        }
+        if let Err(failure) = serve_rest(self.rt, self.clock, &mut self.served) {
+            self.failure = Some(failure);
         }
     }
 }

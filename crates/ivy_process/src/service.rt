@@ -81,13 +81,15 @@ fn tell_end<E: Write>(node: &Node, service: &mut Service, err: &mut E) {
     }
 }
 
-/// Hears what waits, makes turns, speaks, and pulses where it is time. It says whether there is no more to do.
+/// Hears what waits, makes turns, speaks, and pulses where it is time. Where nothing came it waits, so many milliseconds at
+/// most. It says whether there is no more to do.
 fn serve_once<R: Wait, I: Inbox, C: Clockwork, L: Write, O: Write, E: Write>(
     rt: &R,
     clock: &C,
     node: &mut Node,
     service: &mut Service,
     streams: &mut Streams<'_, I, L, O, E>,
+    nap: u64,
 ) -> Result<bool, NodeFailure>
     ensures { OnOk result (StreamsPart node.old node.new (L.contents streams.old.log) (L.contents streams.new.log)) }
 {
@@ -101,7 +103,7 @@ fn serve_once<R: Wait, I: Inbox, C: Clockwork, L: Write, O: Write, E: Write>(
         if heard.has_ended {
             return Ok(true);
         }
-        streams.inbox.wait(rt, every);
+        streams.inbox.wait(rt, nap);
     }
     let now = clock.millis();
     if now.saturating_sub(service.pulsed) >= every {
@@ -141,15 +143,38 @@ pub(crate) fn serve_on<R: Wait, I: Inbox, C: Clockwork, L: Write, O: Write, E: W
 ) -> Result<bool, NodeFailure>
     ensures { OnOk result (StreamsPart node.old node.new (L.contents streams.old.log) (L.contents streams.new.log)) }
 {
+    let nap = node.limits().pulse_millis;
     for _ in rt.forever() {
         if until_free && node.is_free() {
             return Ok(true);
         }
-        if serve_once(rt, clock, node, service, streams)? {
+        if serve_once(rt, clock, node, service, streams, nap)? {
             return Ok(false);
         }
     }
     Ok(false)
+}
+
+/// Serves until the next millisecond. It says whether there is more to do.
+pub(crate) fn serve_briefly<R: Wait, I: Inbox, C: Clockwork, L: Write, O: Write, E: Write>(
+    rt: &R,
+    clock: &C,
+    node: &mut Node,
+    service: &mut Service,
+    streams: &mut Streams<'_, I, L, O, E>,
+) -> Result<bool, NodeFailure>
+    ensures { OnOk result (StreamsPart node.old node.new (L.contents streams.old.log) (L.contents streams.new.log)) }
+{
+    let began = clock.millis();
+    for _ in rt.forever() {
+        if serve_once(rt, clock, node, service, streams, 1)? {
+            return Ok(false);
+        }
+        if clock.millis() != began {
+            return Ok(true);
+        }
+    }
+    Ok(true)
 }
 
 /// How a node's service ended.

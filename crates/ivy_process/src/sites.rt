@@ -1,37 +1,46 @@
 //! What is made at a site on behalf of its node.
-ghost use Rattle.std.specs.Prelude.{◌≡◌, ◌++◌, [], IfOk, OnOk, string_bytes};
+ghost use Rattle.std.specs.Prelude.{◌≡◌, ◌≤◌, ◌++◌, [], IfOk, OnOk, string_bytes};
 ghost use Rattle.ivy_moves.specs.Marks.{turns};
 ghost use Rattle.ivy_process.specs.NodeLogs.{KeepsCalls, waiting_lines};
 
 use crate::failure::NodeFailure;
 use ivy_logs::push_frame;
-use ivy_model::Fault;
+use ivy_model::{Fault, Reply};
 use ivy_site::{Site, Turn};
 use ivy_wire::destination;
 use std::alloc::Global;
-use std::io::Write;
 
-/// Makes so many turns at most, until one does nothing [1, 17]. It says how many did something.
-pub(crate) fn make_turns(site: &mut Site<Global>, most: u64) -> Result<u64, Fault>
+/// Whether the last call was refused.
+fn refuses_last(site: &Site<Global>) -> bool {
+    match site.last_record() {
+        Some(record) => matches!(record.reply, Reply::Refused(_)),
+        None => false,
+    }
+}
+
+/// Makes so many turns at most, until one does nothing [1, 17]. It says how many did something, and counts the calls that
+/// were refused.
+pub(crate) fn make_turns(
+    site: &mut Site<Global>,
+    most: u64,
+    refused: &mut u64,
+) -> Result<u64, Fault>
     ensures made { IfOk result (λ made. site.new.events ≡ site.old.events ++ turns made) }
+    ensures most { IfOk result (λ made. made ≤ most) }
     ensures kept { OnOk result (KeepsCalls site.old site.new) }
 {
     let mut made = 0u64;
     while made < most {
+        let records = site.records();
         if site.program_turn()? != Turn::Moved {
             return Ok(made);
+        }
+        if site.records() != records && refuses_last(site) {
+            *refused = refused.saturating_add(1);
         }
         made += 1;
     }
     Ok(made)
-}
-
-/// Tells of values that the program of a node printed.
-pub(crate) fn print_values<E: Write>(me: u8, values: &[u64], err: &mut E) {
-    for value in values {
-        // The log has what led to it, so a value that is not told is told after a new start.
-        let _ = writeln!(err, "node {me}: {value}");
-    }
 }
 
 /// Takes out all frames that wait at a site, and writes the lines of them behind a text, each whole.

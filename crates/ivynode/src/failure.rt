@@ -4,8 +4,10 @@ ghost use Rattle.ivy_join.specs.Joined.{SaysNoParts};
 ghost use Rattle.ivynode.specs.Joined.{IsNoRun};
 ghost use Rattle.ivynode.specs.declared.failure.Failure.TheVariants as failure;
 
+use crate::misuse::Misuse;
 use ivy_join::Unjoined;
 use ivy_model::Fault;
+use ivy_process::NoLog;
 use std::alloc::{AllocError, AllocFailed};
 use std::fmt;
 use std::io::{self, ErrorKind, Write};
@@ -14,9 +16,15 @@ use std::io::{self, ErrorKind, Write};
 #[derive(Drop)]
 pub enum Failure {
     /// The words of the command line are no command.
-    BadCommandLine(&'static str),
-    /// The file of this name can't be read as UTF-8, or a log can't be written.
+    BadCommandLine(Misuse),
+    /// A configuration is out of its limits: this one.
+    BadConfig(Limit),
+    /// The file of this name can't be read as UTF-8.
     CannotRead(String),
+    /// The log of this name can't be had.
+    NoLog(String, NoLog),
+    /// The log of this name is another one than the node's.
+    OtherLog(String, OtherLog),
     /// A file is at fault.
     AtFault(String, Fault),
     /// A call was refused.
@@ -29,6 +37,45 @@ pub enum Failure {
     Unwritten,
 }
 
+/// A limit of a configuration.
+#[derive(Clone, Copy)]
+pub enum Limit {
+    Nodes,
+    Pages,
+    PageSize,
+}
+
+/// Why a log is not the one of a node.
+#[derive(Clone, Copy)]
+pub enum OtherLog {
+    /// It is of the node of this number.
+    Node(u8),
+    /// It names another configuration.
+    Config,
+    /// It names the sum of another run.
+    Run,
+}
+
+impl fmt::Display for Limit {
+    fn fmt<W: fmt::Write>(&self, f: &mut fmt::Formatter<W>) -> fmt::Result {
+        f.write_str(match self {
+            Limit::Nodes => "a run has 2 to 32 programs",
+            Limit::Pages => "`--pages` is a number from 2 to 256",
+            Limit::PageSize => "`--page-size` is 64, 128, 256, 512, 1024, 2048 or 4096",
+        })
+    }
+}
+
+impl fmt::Display for OtherLog {
+    fn fmt<W: fmt::Write>(&self, f: &mut fmt::Formatter<W>) -> fmt::Result {
+        match self {
+            OtherLog::Node(node) => write!(f, "it is the log of node {node}"),
+            OtherLog::Config => f.write_str("it is of another configuration"),
+            OtherLog::Run => f.write_str("it is of other programs"),
+        }
+    }
+}
+
 impl Failure {
     /// The exit status: 2 where the command line, a file or the configuration is at fault, 3 where logs are not the parts
     /// of one run, else 1.
@@ -37,7 +84,10 @@ impl Failure {
         ensures three { (result ≡ 3) ↔ IsNoRun self.now }
     {
         match self {
-            Failure::BadCommandLine(_) | Failure::CannotRead(_) | Failure::AtFault(_, _) => 2,
+            Failure::BadCommandLine(_) | Failure::BadConfig(_) => 2,
+            Failure::CannotRead(_) | Failure::AtFault(_, _) | Failure::OtherLog(_, _) => 2,
+            Failure::NoLog(_, NoLog::Memory) => 1,
+            Failure::NoLog(_, _) => 2,
             Failure::Refused(Fault::BadConfig | Fault::ProgramFault(_)) => 2,
             Failure::Stopped(ivy_process::NodeFailure::NotItsLog(_)) => 2,
             Failure::Unjoined(why) => status_of(*why),
@@ -74,7 +124,10 @@ impl fmt::Display for Failure {
     fn fmt<W: fmt::Write>(&self, f: &mut fmt::Formatter<W>) -> fmt::Result {
         match self {
             Failure::BadCommandLine(why) => write!(f, "bad command line: {why} (see --help)"),
+            Failure::BadConfig(limit) => write!(f, "{}: {limit}", Fault::BadConfig),
             Failure::CannotRead(name) => write!(f, "cannot read {name}"),
+            Failure::NoLog(name, why) => write!(f, "{name}: {why}"),
+            Failure::OtherLog(name, why) => write!(f, "{name}: {why}"),
             Failure::AtFault(name, fault) => write!(f, "{name}: {fault}"),
             Failure::Refused(fault) => write!(f, "{fault}"),
             Failure::Stopped(why) => write!(f, "{why}"),
@@ -84,35 +137,14 @@ impl fmt::Display for Failure {
     }
 }
 
-/// Why the words of a command line ask for nothing.
-#[derive(Clone, Copy)]
-pub(crate) enum Misuse {
-    /// They are no command.
-    Words(&'static str),
-    /// Memory ran out.
-    Memory,
-}
-
-impl From<AllocError> for Misuse {
-    fn from(_error: AllocError) -> Self {
-        Misuse::Memory
-    }
-}
-
-impl<T: Drop> From<AllocFailed<T>> for Misuse {
-    fn from(_error: AllocFailed<T>) -> Self {
-        Misuse::Memory
-    }
-}
-
 impl From<Misuse> for Failure {
     // It says nothing of logs.
     ghost from_gives = { λ _ f. IsNoRun f → ⊥ };
 
     fn from(why: Misuse) -> Self {
         match why {
-            Misuse::Words(why) => Failure::BadCommandLine(why),
             Misuse::Memory => Failure::Refused(Fault::Memory),
+            _ => Failure::BadCommandLine(why),
         }
     }
 }

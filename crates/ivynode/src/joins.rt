@@ -134,8 +134,7 @@ fn print_answered<W: Write>(joined: &Joined<Global>, out: &mut W) -> io::Result<
     ensures { OnOk result (Appends (W.contents out.old) (W.contents out.new) (all_answered_in joined.now)) }
 {
     for node in 0..joined.nodes() {
-        let count = joined.history(node).len() as u64;
-        print_count(node, count, out)?;
+        print_count(node, joined.records(node), out)?;
     }
     Ok(())
 }
@@ -145,7 +144,7 @@ fn has_all(joined: &Joined<Global>, node: u64, log: &Log<Global>) -> bool
     requires { node < length joined.now }
     ensures { IfSome (slice_get joined.now node) (λ s. result ≡ is_whole log.now.entries.items s) }
 {
-    joined.asked(node).is_none() && joined.history(node).len() as u64 == count_answers(&log.entries)
+    joined.asked(node).is_none() && joined.records(node) == count_answers(&log.entries)
 }
 
 /// Prints that a node is open, where it is not whole.

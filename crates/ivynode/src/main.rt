@@ -10,8 +10,10 @@ mod failure;
 mod files;
 mod joins;
 mod lines;
+mod misuse;
 mod node_process;
 mod request;
+mod standing;
 mod words;
 
 use failure::Failure;

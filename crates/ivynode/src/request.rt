@@ -2,8 +2,8 @@
 ghost use Rattle.std.specs.Prelude.{IfOk, map, string_bytes};
 ghost use Rattle.ivynode.specs.Requests.{AsksToJoin, AsksToJoinOwn, IsJoin, IsJoinOwn};
 
-use crate::failure::Misuse;
-use crate::words::Words;
+use crate::misuse::Misuse;
+use crate::words::{Known, Words};
 use ivy_model::Kind;
 use ivy_process::{Harm, NodeLimits};
 use ivy_program::parse_number;
@@ -38,17 +38,28 @@ pub(crate) enum Request<'a> {
     Router { harm: Harm, seed: u64 },
 }
 
-const RUN_VALUES: [&str; 7] = [
-    "--pages",
-    "--page-size",
-    "--manager",
-    "--log",
-    "--pulse-ms",
-    "--turns",
-    "--kept",
-];
+const RUN_OPTIONS: Known = Known {
+    valued: &[
+        "--pages",
+        "--page-size",
+        "--manager",
+        "--log",
+        "--pulse-ms",
+        "--turns",
+        "--kept",
+    ],
+    bare: &["--sync"],
+};
 
-const ROUTER_VALUES: [&str; 4] = ["--lose", "--repeat", "--reorder", "--seed"];
+const ROUTER_OPTIONS: Known = Known {
+    valued: &["--lose", "--repeat", "--reorder", "--seed"],
+    bare: &[],
+};
+
+const NO_OPTIONS: Known = Known {
+    valued: &[],
+    bare: &[],
+};
 
 /// The most that a number can be which has no limit of its own.
 const MOST: u64 = u64::MAX;
@@ -57,7 +68,7 @@ fn manager_of(word: Option<&str>) -> Result<Kind, Misuse> {
     match word {
         None | Some("dynamic") => Ok(Kind::Dynamic),
         Some("fixed") => Ok(Kind::Fixed),
-        Some(_) => Err(Misuse::Words("no such manager")),
+        Some(_) => Err(Misuse::Option("--manager", "is `fixed` or `dynamic`")),
     }
 }
 
@@ -95,15 +106,26 @@ fn asked_of<'a>(words: &Words<'a>) -> Result<Asked<'a>, Misuse> {
     })
 }
 
+/// Whether the first word behind a command asks how it is used.
+fn ask_for_help(words: &[String]) -> bool {
+    match words.first() {
+        Some(word) => word.as_str() == "--help" || word.as_str() == "-h",
+        None => false,
+    }
+}
+
 fn run<'a>(alloc: Global, words: &'a [String]) -> Result<Request<'a>, Misuse> {
-    let words = Words::new(alloc, words, &RUN_VALUES, &["--sync"])?;
+    if ask_for_help(words) {
+        return Ok(Request::Help(Help::Usage));
+    }
+    let words = Words::new(alloc, words, RUN_OPTIONS)?;
     Ok(Request::Run(asked_of(&words)?))
 }
 
 fn join<'a>(alloc: Global, words: &'a [String]) -> Result<Request<'a>, Misuse>
     ensures { IfOk result IsJoin }
 {
-    let words = Words::new(alloc, words, &[], &[])?;
+    let words = Words::new(alloc, words, NO_OPTIONS)?;
     let Some((file, logs)) = words.plain.split_first() else {
         return Err(Misuse::Words("join takes a file and logs"));
     };
@@ -116,7 +138,7 @@ fn join<'a>(alloc: Global, words: &'a [String]) -> Result<Request<'a>, Misuse>
 fn join_own<'a>(alloc: Global, words: &'a [String]) -> Result<Request<'a>, Misuse>
     ensures { IfOk result IsJoinOwn }
 {
-    let words = Words::new(alloc, words, &[], &[])?;
+    let words = Words::new(alloc, words, NO_OPTIONS)?;
     Ok(Request::JoinOwn { logs: words.plain })
 }
 
@@ -129,7 +151,10 @@ fn harm_of(words: &Words<'_>) -> Result<Harm, Misuse> {
 }
 
 fn router<'a>(alloc: Global, words: &'a [String]) -> Result<Request<'a>, Misuse> {
-    let words = Words::new(alloc, words, &ROUTER_VALUES, &[])?;
+    if ask_for_help(words) {
+        return Ok(Request::Help(Help::Usage));
+    }
+    let words = Words::new(alloc, words, ROUTER_OPTIONS)?;
     if !words.plain.is_empty() {
         return Err(Misuse::Words("router takes no file"));
     }
@@ -155,6 +180,6 @@ pub(crate) fn read<'a>(alloc: Global, words: &'a [String]) -> Result<Request<'a>
         "router" => router(alloc, rest),
         "--help" | "-h" | "help" => Ok(Request::Help(Help::Usage)),
         "--version" | "-V" => Ok(Request::Help(Help::Version)),
-        _ => Err(Misuse::Words("no such command")),
+        _ => Err(Misuse::no_such(alloc, "command", command.as_str())),
     }
 }

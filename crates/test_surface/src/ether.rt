@@ -2,11 +2,10 @@
 //!
 //! Each call stands in a function that asks what the call asks, and no test makes an ether here: sites that are seated at one
 //! are tested in `test_programs` (`sessions::wire_turns`), and all of it by each session.
-ghost use Rattle.std.specs.Prelude.{◌≡◌, ◌<◌, length, slice_get, Some, Contains, true};
-ghost use Rattle.ivy_model.specs.stated.Config.{IsConfig};
+ghost use Rattle.std.specs.Prelude.{◌≡◌, ◌<◌, length, None, Contains, true};
 ghost use Rattle.ivy_ether.specs.Programs.{MayGive, SendsFrom};
 ghost use Rattle.ivy_ether.specs.Rule.{times};
-ghost use Rattle.ivy_ether.specs.EtherViews.{IsNewcomer};
+ghost use Rattle.ivy_seating.specs.Places.{IsFreshSeat};
 
 use crate::common::expect_same;
 use ivy_model::{Config, Fault};
@@ -123,35 +122,40 @@ fn new_ether<S: Setup>(
     Ether::<S, Global>::new(alloc, config, programs, 1, 2).expect(rt, "memory")
 }
 
-/// Issues the seat of a node, takes it, and seats the node's site.
-fn seat<'e, S: Setup, R: Wait + Abort>(
+/// Issues the seat of a node. Whether the ether took it.
+fn issue<S: Setup, R: Wait>(
     rt: &R,
-    alloc: Global,
-    ether: &'e Ether<S, Global>,
-    config: &Config,
+    ether: &Ether<S, Global>,
     starter: &mut Pass<Wired<Global>>,
-    pass: Pass<Wired<Global>>,
     node: u8,
-    program: Program<Global>,
-) -> Seated<'e, S, Global>
-    requires config { config.now ≡ S.config }
-    requires limits { IsConfig config.now }
-    requires each { length S.programs ≡ config.now.nodes }
-    requires there { slice_get S.programs node ≡ Some program }
+) -> bool
     requires starter { (starter.old.ether ≡ ether.now) × (starter.old.known.starts ≡ true) }
-    requires pass { IsNewcomer ether.now pass }
     requires node { node < length S.programs }
     requires new { times node starter.old.known.issued ≡ 0 }
 {
-    let mut pass = pass;
-    assert!(rt; ether.issue_seat(rt, starter, node));
-    let Some(found) = ether.take_seat(rt, &mut pass) else {
-        panic!(rt; "no seat");
-    };
-    assert!(rt; found == node);
-    let Ok(site) = Site::new(alloc, config, node, program) else {
-        panic!(rt; "memory");
-    };
+    ether.issue_seat(rt, starter, node)
+}
+
+/// Takes a seat, and whose it is, where there is one.
+fn take_seat<S: Setup, R: Wait>(
+    rt: &R,
+    ether: &Ether<S, Global>,
+    pass: &mut Pass<Wired<Global>>,
+) -> Option<u8>
+    requires pass { pass.old.ether ≡ ether.now }
+    requires none { pass.old.known.node ≡ None }
+{
+    ether.take_seat(rt, pass)
+}
+
+/// Seats the site of the node whose seat the pass took.
+fn seat<'e, S: Setup>(
+    ether: &'e Ether<S, Global>,
+    site: Site<Global>,
+    pass: Pass<Wired<Global>>,
+) -> Seated<'e, S, Global>
+    requires { IsFreshSeat ether.now S.config S.programs site pass }
+{
     Seated::new(ether, site, pass)
 }
 

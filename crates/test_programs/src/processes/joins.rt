@@ -2,19 +2,21 @@
 
 use crate::processes::common::{CONFIG, PROGRAMS, expect_same, log_of};
 use ivy_join::{Joined, Unjoined, join};
+use ivy_logs::{LogKind, parse_log};
 use ivy_program::parse;
 use std::alloc::Global;
 use std::process::Abort;
+use test_support::Failing;
 
 /// What a node came to: how many of its calls were answered, what it printed first, whether its program has ended, and
 /// whether it waits in a call.
-pub(crate) type Seen = (usize, Option<u64>, bool, bool);
+pub(crate) type Seen = (u64, Option<u64>, bool, bool);
 
 /// What each node of a run came to.
 pub(crate) fn seen_in(rt: &impl Abort, alloc: Global, run: &Joined<Global>) -> Vec<Seen> {
     let mut nodes = Vec::new(alloc);
     for node in 0..run.nodes() {
-        let (answered, printed) = (run.history(node).len(), run.output(node).first().copied());
+        let (answered, printed) = (run.records(node), run.output(node).first().copied());
         let (has_ended, waits) = (run.ended(node), run.asked(node).is_some());
         let seen = (answered, printed, has_ended, waits);
         nodes.push(seen).expect(rt, "memory");
@@ -100,4 +102,31 @@ fn logs_of_no_run_are_not_joined(rt: HostRuntime) {
         let found = joined(&rt, rt.alloc(), forms.as_slice()).err();
         expect_same(&rt, found, Some(*why));
     }
+}
+
+/// Node 0 loads a word over and over.
+const SPINS: &str = "node 0\nset r1 64\nlabel look\nload 8 r2 r1\njump look\nnode 1\n";
+
+/// How many growths a join asks for, where the log of node 0 is this one, and node 1 did nothing.
+fn growths_of_join(rt: &impl Abort, alloc: Global, first: &str) -> u64 {
+    let memory = Failing::new(alloc);
+    let mut logs = Vec::new(&memory);
+    for text in [first, "ivy log 1 2 2 64 dynamic\n"] {
+        let log = parse_log(&memory, LogKind::OfProgram, text).expect(rt, "a log");
+        logs.push(log).ok().expect(rt, "memory");
+    }
+    let programs = parse(&memory, SPINS).expect(rt, "programs");
+    memory.refuse(0);
+    let run = join(&memory, CONFIG, programs, &logs).ok();
+    run.expect(rt, "joined");
+    memory.asked(0)
+}
+
+/// A join keeps no list of what a node was answered, nor of its turns.
+#[test]
+fn turns_take_no_memory(rt: HostRuntime) {
+    let alloc = rt.alloc();
+    let few = growths_of_join(&rt, alloc, "ivy log 0 2 2 64 dynamic\nturns 8\n");
+    let many = growths_of_join(&rt, alloc, "ivy log 0 2 2 64 dynamic\nturns 65536\n");
+    expect_same(&rt, many, few);
 }

@@ -52,12 +52,16 @@ struct Case<'a> {
     /// The log that it is started again with, or nothing.
     old: &'a str,
     limits: NodeLimits,
+    /// The sum of its run, if it has one.
+    sum: Option<u64>,
     /// How many bytes its log has room for.
     room: usize,
     lines: &'a [&'a str],
     ending: Result<Ending, NodeFailure>,
     /// So many lines had no frame.
     bad_lines: u64,
+    /// So many nodes told another sum.
+    others: u64,
     /// What was written on its log, standard output and standard error.
     log: &'a str,
     out: &'a str,
@@ -69,17 +73,50 @@ const WAITS: Case<'static> = Case {
     me: 1,
     old: "",
     limits: LIMITS,
+    sum: None,
     room: 1000,
     lines: &[],
     ending: Ok(Ending::Waits),
     bad_lines: 0,
+    others: 0,
     log: "ivy log 1 2 2 64 dynamic\nturns 2\n",
     out: "0 REQUEST\n",
     err: "",
 };
 
-const CASES: [Case<'static>; 6] = [
+const CASES: [Case<'static>; 9] = [
     WAITS,
+    // It tells its sum before its first frame. The other node's is the same, and a line for a third node is left alone.
+    Case {
+        sum: Some(5),
+        lines: &["1 sum 0 5", "2 sum 0 6"],
+        log: "ivy log 1 2 2 64 dynamic 5\nturns 2\n",
+        out: "0 sum 1 5\n0 REQUEST\n",
+        ..WAITS
+    },
+    // A node that told another sum is named once, and its frames are dropped.
+    Case {
+        me: 0,
+        sum: Some(5),
+        lines: &["0 sum 1 6", "0 REQUEST", "0 sum 1 6", "0 sum 1"],
+        ending: Ok(Ending::Ended),
+        bad_lines: 1,
+        others: 1,
+        log: "ivy log 0 2 2 64 dynamic 5\n",
+        out: "1 sum 0 5\n",
+        err: "node 0: node 1 has another program or configuration, so its frames are dropped\nnode 0 ended\n",
+        ..WAITS
+    },
+    // One that has none itself takes no heed of sums.
+    Case {
+        me: 0,
+        lines: &["0 sum 1 6", "0 REQUEST"],
+        ending: Ok(Ending::Ended),
+        log: "ivy log 0 2 2 64 dynamic\ntook REQUEST\n",
+        out: "1 ANSWER\n",
+        err: "node 0 ended\n",
+        ..WAITS
+    },
     // A line without a frame, a frame for the other node, and one for this one.
     Case {
         me: 0,
@@ -131,6 +168,17 @@ fn program_of(rt: &impl Abort, alloc: Global, me: u8) -> Program<Global> {
     programs.pop().expect(rt, "a program")
 }
 
+/// Begins the log of a node, which has this sum or none.
+fn begin(rt: &impl Abort, sum: Option<u64>, node: &mut Node, log: &mut Paper) {
+    match sum {
+        Some(sum) => {
+            node.begin_log_of_run(sum, log).expect(rt, "a log");
+            node.tell_sum(sum);
+        }
+        None => node.begin_log(LogKind::OfProgram, log).expect(rt, "a log"),
+    }
+}
+
 /// Has the node of a case serve, and asserts what comes of it.
 fn check_case<R: Abort + Wait>(rt: &R, alloc: Global, case: &Case<'_>) {
     let (me, limits) = (case.me, case.limits);
@@ -142,10 +190,8 @@ fn check_case<R: Abort + Wait>(rt: &R, alloc: Global, case: &Case<'_>) {
     };
     let inbox = mail_of(rt, alloc, case.lines);
     let mut node = if case.old.is_empty() {
-        let begun = Node::start(alloc, &CONFIG, me, program, limits).expect(rt, "a node");
-        begun
-            .begin_log(LogKind::OfProgram, &mut log)
-            .expect(rt, "a log");
+        let mut begun = Node::start(alloc, &CONFIG, me, program, limits).expect(rt, "a node");
+        begin(rt, case.sum, &mut begun, &mut log);
         begun
     } else {
         let old = log_of(rt, alloc, case.old);
@@ -160,6 +206,7 @@ fn check_case<R: Abort + Wait>(rt: &R, alloc: Global, case: &Case<'_>) {
     let ending = serve(rt, &Stopped, &mut node, &mut streams);
     expect_same(rt, ending, case.ending);
     expect_same(rt, node.told().bad_lines, case.bad_lines);
+    expect_same(rt, node.told().others, case.others);
     expect_text(rt, alloc, &streams.log.bytes, case.log);
     expect_text(rt, alloc, &streams.out, case.out);
     expect_text(rt, alloc, &streams.err, case.err);

@@ -1,6 +1,5 @@
-use Rattle.std.proofs.Common.{◌<◌, ◌≡◌, below_more, length, ap, refl, subst, ◌∙◌, arith}
+use Rattle.std.proofs.Common.{◌<◌, below_more, length, refl, subst, arith}
 use Rattle.std.proofs.lemmas.Option.{slice_get_read}
-use Rattle.ivy_moves.specs.Keeping.{keeps_history, read_of}
 use Rattle.ivy_join.specs.OwnJoined.{Tells}
 use Rattle.ivy_join.proofs.AnswersLogged.{told_at, told-all}
 use Rattle.ivy_join.proofs.join_logs.check_answers.Goals as goal
@@ -15,15 +14,11 @@ loop-node-preserved g c =
     let log = slice_get_read c.args.logs.now (length c.args.logs.now) c.loop-node.node
     c.index-logs-node.result refl test c.index-logs-node.is in
     let same = rw (← c.index-logs-node.is) at c.deref.ensures.value in
-    let history : c.history.result.now ≡ c.index-sites-node.result.node.core.history =
-    c.history.ensures
-    ∙ ap (λ k. read_of (keeps_history k) c.index-sites-node.result.node.core.history)
-    (c.requires.kept c.loop-node.node c.index-sites-node.result site) in
     below_more _ _ c.loop-node.invariant
     (told_at _ c.args.logs.now c.args.sites.now c.loop-node.node c.index-logs-node.result
     c.index-sites-node.result log site
     (subst (λ es. Tells es c.index-sites-node.result.node.core.history) same
-    (subst (Tells c.deref.result.now) history (c.are_told.ensures c.if-not-are_told.false))))
+    (c.are_told.ensures c.if-not-are_told.false)))
 
 pub returns : goal.returns
 returns g c =

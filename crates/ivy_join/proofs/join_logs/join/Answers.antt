@@ -3,6 +3,7 @@ use Rattle.std.proofs.lemmas.List.{length-map}
 use Rattle.std.proofs.lemmas.Result.{err_from_is_err_and, IfOk-from_err}
 use Rattle.ivy_logs.specs.declared.log.Log.{Log}
 use Rattle.ivy_model.specs.stated.Config.{IsConfig}
+use Rattle.ivy_moves.specs.declared.keep.Keep.TheVariants.{Nothing}
 use Rattle.ivy_moves.specs.Marks.{marks}
 use Rattle.ivy_logs.specs.Entries.{events_in}
 use Rattle.ivy_logs.specs.Sums.{sum_of_run}
@@ -12,7 +13,7 @@ use Rattle.ivy_join.specs.Exact.{HaveSent}
 use Rattle.ivy_join.specs.ReplaySites.{ArePlayed}
 use Rattle.ivy_join.specs.Joined.{AreJoined, AreNoParts, NamesSum, SaysNoParts}
 use Rattle.ivy_join.proofs.Named.{none-of-heads, none-of-sums}
-use Rattle.ivy_join.proofs.Ended.{first-played, first_programs, first-sent, joined, are-kept, nothing}
+use Rattle.ivy_join.proofs.Ended.{first-played, first_programs, first-sent, joined, nothing}
 use Rattle.ivy_join.proofs.join_logs.join.Goals as goal
 
 pub play-requires-clause-played : goal.play-requires-clause-played
@@ -21,7 +22,7 @@ play-requires-clause-played g c =
     let each : length c.args.programs.items ≡ c.args.config.nodes =
     sym c.args.programs.ok.0 ∙ sym c.len.ensures ∙ c.if-len-from.false ∙ c.from.ensures in
     subst (ArePlayed c.args.config c.in_ok-sites.sites.items) (sym c.new-sent.ensures)
-    (first-played c.args.config c.args.programs.items c.in_ok-sites.sites.items limits each
+    (first-played Nothing c.args.config c.args.programs.items c.in_ok-sites.sites.items limits each
     c.in_ok-sites.ensures.first)
 
 pub play-requires-clause-logs : goal.play-requires-clause-logs
@@ -30,7 +31,7 @@ play-requires-clause-logs g c =
     let each : length c.args.programs.items ≡ c.args.config.nodes =
     sym c.args.programs.ok.0 ∙ sym c.len.ensures ∙ c.if-len-from.false ∙ c.from.ensures in
     c.in_ok-check_heads.ensures.count
-    ∙ sym (first-played c.args.config c.args.programs.items c.in_ok-sites.sites.items limits each
+    ∙ sym (first-played Nothing c.args.config c.args.programs.items c.in_ok-sites.sites.items limits each
     c.in_ok-sites.ensures.first).count
 
 pub play-requires-clause-sent : goal.play-requires-clause-sent
@@ -39,7 +40,7 @@ play-requires-clause-sent g c =
     let each : length c.args.programs.items ≡ c.args.config.nodes =
     sym c.args.programs.ok.0 ∙ sym c.len.ensures ∙ c.if-len-from.false ∙ c.from.ensures in
     subst (λ l. HaveSent l c.in_ok-sites.sites.items) (sym c.new-sent.ensures)
-    (first-sent c.args.config c.args.programs.items c.in_ok-sites.sites.items limits each
+    (first-sent Nothing c.args.config c.args.programs.items c.in_ok-sites.sites.items limits each
     c.in_ok-sites.ensures.first)
 
 pub play-requires-clause-none : goal.play-requires-clause-none
@@ -47,7 +48,7 @@ play-requires-clause-none g c =
     let limits : IsConfig c.args.config = (c.in_ok-check.ensures.accepted.0 refl).limits in
     let each : length c.args.programs.items ≡ c.args.config.nodes =
     sym c.args.programs.ok.0 ∙ sym c.len.ensures ∙ c.if-len-from.false ∙ c.from.ensures in
-    nothing c.args.config c.args.programs.items c.in_ok-sites.sites.items limits each c.in_ok-sites.ensures.first
+    nothing Nothing c.args.config c.args.programs.items c.in_ok-sites.sites.items limits each c.in_ok-sites.ensures.first
 
 pub returns-in_err-play-clause-refused : goal.returns-in_err-play-clause-refused
 returns-in_err-play-clause-refused g c =
@@ -58,7 +59,7 @@ returns-in_err-play-clause-refused g c =
     rw p.1
     (λ told none. subst (λ ps. AreNoParts c.args.config ps
     (map (λ (x : Log g.row.A.Denot). marks (events_in x.entries.items)) c.args.logs.now))
-    (first_programs c.args.config c.args.programs.items c.in_ok-sites.sites.items limits each
+    (first_programs Nothing c.args.config c.args.programs.items c.in_ok-sites.sites.items limits each
     c.in_ok-sites.ensures.first)
     (c.in_err-play.ensures.refused (subst SaysNoParts p.2 told) none))
 
@@ -71,22 +72,18 @@ returns-clause-joined g c =
     let each : length c.args.programs.items ≡ c.args.config.nodes =
     sym c.args.programs.ok.0 ∙ sym c.len.ensures ∙ c.if-len-from.false ∙ c.from.ensures in
     let first = c.in_ok-sites.ensures.first in
-    let began = first-played c.args.config c.args.programs.items c.in_ok-sites.sites.items limits each first in
+    let began = first-played Nothing c.args.config c.args.programs.items c.in_ok-sites.sites.items limits each first in
     subst (AreJoined c.args.config c.args.programs.items _) (sym c.new.ensures)
     (joined c.args.config c.args.programs.items c.play.new.sites.items c.play.new.sent _
     c.in_ok-play.ensures.played
     (c.in_ok-play.ensures.called
     ∙ ap (with_calls (map (λ (x : Log g.row.A.Denot). x.entries.items) c.args.logs.now))
-    (first_programs c.args.config c.args.programs.items c.in_ok-sites.sites.items limits each first)
+    (first_programs Nothing c.args.config c.args.programs.items c.in_ok-sites.sites.items limits each first)
     ∙ written-calls (map (λ (x : Log g.row.A.Denot). x.entries.items) c.args.logs.now) c.args.programs.items
     c.in_ok-sites.ensures.written)
     (length-map c.args.logs.now _ ∙ c.in_ok-check_heads.ensures.count ∙ sym began.count
     ∙ sym c.in_ok-play.ensures.count)
     c.in_ok-play.ensures.lists)
-
-pub new-requires : goal.new-requires
-new-requires g c =
-    are-kept c.args.config c.play.new.sites.items c.play.new.sent c.in_ok-play.ensures.played
 
 pub returns-in_err-check-clause-heads : goal.returns-in_err-check-clause-heads
 returns-in_err-check-clause-heads g c = IfOk-from_err c.from_residual.result _ c.from_residual.ensures.0

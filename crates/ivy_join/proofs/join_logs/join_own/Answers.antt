@@ -2,14 +2,15 @@ use Rattle.std.proofs.Common.{refl, [], length, map, ap, sym, subst, ◌∙◌}
 use Rattle.std.proofs.lemmas.List.{length-map, length-replicate}
 use Rattle.std.proofs.lemmas.Result.{IfOk-from_err}
 use Rattle.ivy_model.specs.stated.Config.{IsConfig}
+use Rattle.ivy_moves.specs.declared.keep.Keep.TheVariants.{History}
 use Rattle.ivy_program.specs.stated.Programs.{Called}
 use Rattle.ivy_world.specs.HandedWorlds.{own_code}
 use Rattle.ivy_join.specs.Calls.{with_calls}
 use Rattle.ivy_join.specs.Exact.{HaveSent}
-use Rattle.ivy_join.specs.ReplaySites.{ArePlayed, AreKept}
+use Rattle.ivy_join.specs.ReplaySites.{ArePlayed}
 use Rattle.ivy_join.proofs.Calls.{own-calls}
 use Rattle.ivy_join.specs.OwnJoined.{AreOwnJoined, AreTold}
-use Rattle.ivy_join.proofs.Ended.{first-played, first_programs, first-sent, are-kept, nothing}
+use Rattle.ivy_join.proofs.Ended.{first-played, first_programs, first-sent, nothing}
 use Rattle.ivy_join.proofs.Ordered.{own-answered, own-joined}
 use Rattle.ivy_join.proofs.join_logs.join_own.Goals as goal
 
@@ -17,45 +18,38 @@ pub play-requires-clause-played : goal.play-requires-clause-played
 play-requires-clause-played g c =
     let limits : IsConfig c.args.config = c.in_ok-check_wide.ensures.accepted.0 refl in
     subst (ArePlayed c.args.config c.in_ok-sites.sites.items) (sym c.new-sent.ensures)
-    (first-played c.args.config (own_code c.args.config.nodes) c.in_ok-sites.sites.items limits
+    (first-played History c.args.config (own_code c.args.config.nodes) c.in_ok-sites.sites.items limits
     (length-replicate c.args.config.nodes (Called [])) c.in_ok-sites.ensures.first)
 
 pub play-requires-clause-logs : goal.play-requires-clause-logs
 play-requires-clause-logs g c =
     let limits : IsConfig c.args.config = c.in_ok-check_wide.ensures.accepted.0 refl in
     c.in_ok-check_heads.ensures.count
-    ∙ sym (first-played c.args.config (own_code c.args.config.nodes) c.in_ok-sites.sites.items limits
+    ∙ sym (first-played History c.args.config (own_code c.args.config.nodes) c.in_ok-sites.sites.items limits
     (length-replicate c.args.config.nodes (Called [])) c.in_ok-sites.ensures.first).count
 
-pub check_answers-requires-clause-kept : goal.check_answers-requires-clause-kept
-check_answers-requires-clause-kept g c =
-    subst AreKept (sym c.deref.ensures.value)
-    (are-kept c.args.config c.play.new.sites.items c.play.new.sent c.in_ok-play.ensures.played)
-
-pub check_answers-requires-clause-each : goal.check_answers-requires-clause-each
-check_answers-requires-clause-each g c =
+pub check_answers-requires : goal.check_answers-requires
+check_answers-requires g c =
     let limits : IsConfig c.args.config = c.in_ok-check_wide.ensures.accepted.0 refl in
-    let began = first-played c.args.config (own_code c.args.config.nodes) c.in_ok-sites.sites.items limits
+    let began = first-played History c.args.config (own_code c.args.config.nodes) c.in_ok-sites.sites.items limits
     (length-replicate c.args.config.nodes (Called [])) c.in_ok-sites.ensures.first in
-    c.in_ok-check_heads.ensures.count ∙ sym began.count ∙ sym c.in_ok-play.ensures.count
-    ∙ ap length (sym c.deref.ensures.value)
+    record {
+      each = c.in_ok-check_heads.ensures.count ∙ sym began.count ∙ sym c.in_ok-play.ensures.count
+          ∙ ap length (sym c.deref.ensures.value);
+    }
 
 pub play-requires-clause-sent : goal.play-requires-clause-sent
 play-requires-clause-sent g c =
     let limits : IsConfig c.args.config = c.in_ok-check_wide.ensures.accepted.0 refl in
     subst (λ l. HaveSent l c.in_ok-sites.sites.items) (sym c.new-sent.ensures)
-    (first-sent c.args.config (own_code c.args.config.nodes) c.in_ok-sites.sites.items limits
+    (first-sent History c.args.config (own_code c.args.config.nodes) c.in_ok-sites.sites.items limits
     (length-replicate c.args.config.nodes (Called [])) c.in_ok-sites.ensures.first)
 
 pub play-requires-clause-none : goal.play-requires-clause-none
 play-requires-clause-none g c =
     let limits : IsConfig c.args.config = c.in_ok-check_wide.ensures.accepted.0 refl in
-    nothing c.args.config (own_code c.args.config.nodes) c.in_ok-sites.sites.items limits
+    nothing History c.args.config (own_code c.args.config.nodes) c.in_ok-sites.sites.items limits
     (length-replicate c.args.config.nodes (Called [])) c.in_ok-sites.ensures.first
-
-pub new-requires : goal.new-requires
-new-requires g c =
-    are-kept c.args.config c.play.new.sites.items c.play.new.sent c.in_ok-play.ensures.played
 
 pub returns-clause-heads : goal.returns-clause-heads
 returns-clause-heads g c = c.in_ok-check_heads.ensures.each
@@ -63,14 +57,14 @@ returns-clause-heads g c = c.in_ok-check_heads.ensures.each
 pub returns-clause-joined : goal.returns-clause-joined
 returns-clause-joined g c =
     let limits : IsConfig c.args.config = c.in_ok-check_wide.ensures.accepted.0 refl in
-    let began = first-played c.args.config (own_code c.args.config.nodes) c.in_ok-sites.sites.items limits
+    let began = first-played History c.args.config (own_code c.args.config.nodes) c.in_ok-sites.sites.items limits
     (length-replicate c.args.config.nodes (Called [])) c.in_ok-sites.ensures.first in
     subst (AreOwnJoined c.args.config (map (λ l. l.entries.items) c.args.logs.now)) (sym c.new.ensures)
     (own-joined _ c.args.config c.args.logs.now c.play.new.sites.items c.play.new.sent
     c.in_ok-play.ensures.played
     (c.in_ok-play.ensures.called
     ∙ ap (with_calls (map (λ l. l.entries.items) c.args.logs.now))
-    (first_programs c.args.config (own_code c.args.config.nodes) c.in_ok-sites.sites.items limits
+    (first_programs History c.args.config (own_code c.args.config.nodes) c.in_ok-sites.sites.items limits
     (length-replicate c.args.config.nodes (Called [])) c.in_ok-sites.ensures.first
     ∙ ap own_code (sym c.in_ok-check_heads.ensures.count ∙ sym (length-map c.args.logs.now _)))
     ∙ own-calls (map (λ l. l.entries.items) c.args.logs.now))

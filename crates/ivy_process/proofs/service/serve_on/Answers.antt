@@ -7,7 +7,7 @@ use Rattle.ivy_process.proofs.service.serve_on.Goals as goal
 pub loop-init : goal.loop-init
 loop-init g c =
     streams-begin c.args.node.now c.args.node.now (g.L.Write.contents c.args.streams.now.log)
-    (stays c.args.node.now c.args.node.now refl refl
+    (stays c.args.node.now c.args.node.now refl refl refl refl
     (keeps-same c.args.node.now.site c.args.node.now.site refl))
 
 pub loop-preserved : goal.loop-preserved

@@ -42,4 +42,6 @@ returns c =
       };
       whole = ap (λ (x : Served). x.unlogged) c.learn_acknowledged.ensures
           ∙ ap (λ (x : Served). x.unlogged) (c.node.view_is ∙ c.in_ok-node.ensures);
+      left = ap (λ (x : Served). x.left) c.learn_acknowledged.ensures
+          ∙ ap (λ (x : Served). x.left) (c.node.view_is ∙ c.in_ok-node.ensures);
     }

@@ -13,7 +13,7 @@ use Rattle.ivy_process.proofs.node.Node.go_on.Goals as goal
 
 pub loop-init : goal.loop-init
 loop-init c = record {
-  on = stays _ _ refl refl (keeps-same _ _ refl);
+  on = stays _ _ refl refl refl refl (keeps-same _ _ refl);
   far = ([], refl, refl);
   config = refl;
 }
@@ -22,14 +22,14 @@ pub loop-preserved : goal.loop-preserved
 loop-preserved c =
     let s = c.self.inside.site in
     let s' = c.go_on_with.new.self in
-    let was : c.loop.self ≡ served c.self.inside.site (string_bytes c.self.inside.lines) = sym c.self.view_is in
+    let was : c.loop.self ≡ served c.self.inside.site (string_bytes c.self.inside.lines) c.self.inside.left c.self.inside.printed = sym c.self.view_is in
     let here : c.loop.self.site ≡ c.self.inside.site = ap (λ (x : Served). x.site) was in
     let once : AfterOnce (Some c.in-Some.string) c.args.from c.self.inside.site c.go_on_with.new.self =
     subst (λ o. AfterOnce o c.args.from s s') c.in-Some.is c.in_ok-string.ensures.done in
     let one : AddsEvents c.loop.self c.note.new.self =
     noted-one (Delivered c.in-Some.string) c.loop.self c.note.new.self s s'
-    (string_bytes c.self.inside.lines) was (once-listed c.args.from c.in-Some.string s s' once)
-    c.in_ok-note.ensures (once-keeps c.args.from c.in-Some.string s s' once) in
+    (string_bytes c.self.inside.lines) c.self.inside.left c.self.inside.left c.self.inside.printed was (once-listed c.args.from c.in-Some.string s s' once)
+    c.in_ok-note.ensures (omega arith) (once-keeps c.args.from c.in-Some.string s s' once) in
     let more : WentSoOften c.args.from (c.loop.counter + 1) c.args.self.now.site s' =
     went_more c.args.from c.loop.counter c.in-Some.string c.args.self.now.site s s'
     (subst (WentSoOften c.args.from c.loop.counter c.args.self.now.site) here c.loop.invariant.far) once in record {

@@ -7,7 +7,7 @@ use Rattle.ivy_process.proofs.node.Node.go_on_all.Goals as goal
 use Rattle.ivy_process.proofs.node.Node.go_on_all.Goals.{then-from-config+in_ok-go_on, else-from-config}
 
 pub loop-from-init : goal.loop-from-init
-loop-from-init c = stays _ _ refl refl (keeps-same _ _ refl)
+loop-from-init c = stays _ _ refl refl refl refl (keeps-same _ _ refl)
 
 pub loop-from-preserved : goal.loop-from-preserved
 loop-from-preserved c =

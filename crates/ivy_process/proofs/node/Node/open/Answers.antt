@@ -32,4 +32,5 @@ returns c =
       told = again.by_log.told;
       made = again.by_log.made;
       whole = again.whole;
+      left = again.left;
     }) c.at_end.ensures

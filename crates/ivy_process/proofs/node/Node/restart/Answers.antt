@@ -33,4 +33,5 @@ returns c =
       events = again.by_log.events;
       made = again.by_log.made;
       whole = again.whole;
+      left = again.left;
     }) c.at_end.ensures

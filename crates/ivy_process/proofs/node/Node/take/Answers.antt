@@ -1,14 +1,15 @@
 use Rattle.std.proofs.lemmas.Result.{IfOk-from_err}
-use Rattle.std.proofs.Common.{◌∙◌}
-use Rattle.std.specs.Prelude.{string_bytes}
-use Rattle.ivy_process.specs.NodeLogs.{served}
-use Rattle.ivy_process.proofs.Logged.{stays-as}
+use Rattle.ivy_process.proofs.Logged.{stays-as, takes-none}
 use Rattle.ivy_process.proofs.node.Node.take.Goals as goal
 
-pub returns : goal.returns
-returns c =
-    stays-as c.args.self.now (served c.self-2.inside.site (string_bytes c.self-2.inside.lines))
-    (c.self-2.view_is ∙ c.heed.ensures)
+pub returns-clause-on : goal.returns-clause-on
+returns-clause-on c = stays-as c.args.self.now c.is_welcome.new.self c.is_welcome.ensures
 
-pub returns-in_err-string : goal.returns-in_err-string
-returns-in_err-string c = IfOk-from_err c.from_residual.result _ c.from_residual.ensures.0
+pub returns-clause-taken : goal.returns-clause-taken
+returns-clause-taken c = takes-none _ c.args.self.now c.is_welcome.new.self c.is_welcome.ensures
+
+pub returns-in_err-string-clause-on : goal.returns-in_err-string-clause-on
+returns-in_err-string-clause-on c = IfOk-from_err c.from_residual.result _ c.from_residual.ensures.0
+
+pub returns-in_err-string-clause-taken : goal.returns-in_err-string-clause-taken
+returns-in_err-string-clause-taken c = IfOk-from_err c.from_residual.result _ c.from_residual.ensures.0

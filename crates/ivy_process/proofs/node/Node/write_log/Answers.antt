@@ -20,6 +20,7 @@ returns-then-is_empty g c =
       listed = refl;
       written = subst (Appends log log) (sym whole) (Appends-nil log);
       whole = whole;
+      left = refl;
       kept = keeps-same c.args.self.now.site c.args.self.now.site refl;
     }
 
@@ -30,5 +31,6 @@ returns g c = record {
       (c.as_str.ensures.value ∙ ap (λ (x : Served). x.unlogged) c.self.view_is)
       c.in_ok-write_through.ensures;
   whole = c.clear.ensures.bytes;
+  left = ap (λ (x : Served). x.left) c.self.view_is;
   kept = keeps-same c.args.self.now.site c.self.inside.site (ap (λ (x : Served). x.site) c.self.view_is);
 }

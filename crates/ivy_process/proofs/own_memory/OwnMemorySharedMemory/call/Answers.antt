@@ -1,12 +1,6 @@
-use Rattle.std.proofs.Common.{◌≡◌, [], ◌∷◌, ◌++◌, Option, Some, None, false, refl, sym, ap, ◌∙◌}
-use mathlib.Core.Bool.{true≢false}
-use Rattle.std.specs.Option.{is_some}
-use Rattle.ivy_process.proofs.OwnNodes.{replied-unless}
+use Rattle.std.proofs.Common.{[], ◌∷◌, ◌++◌, refl, ap, ◌∙◌}
+use Rattle.ivy_process.proofs.OwnNodes.{none-of, replied-unless}
 use Rattle.ivy_process.proofs.own_memory.OwnMemorySharedMemory.call.Goals as goal
-
-none-of : {X : Type 0} (o : Option X) → false ≡ is_some o → o ≡ None
-none-of None is = refl
-none-of (Some x) is = absurd (true≢false (sym is))
 
 pub returns-then-is_some : goal.returns-then-is_some
 returns-then-is_some g c = record { made = tt; failed = (refl, refl) }

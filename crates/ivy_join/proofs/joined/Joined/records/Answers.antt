@@ -1,9 +1,8 @@
 use Rattle.std.proofs.Common.{rules, ◌≡◌, ◌<◌, ◌∙◌, ap, sym, length, slice_get, Some, refl, subst}
 use Rattle.std.specs.Prelude.{IfSome}
 use Rattle.std.proofs.lemmas.Option.{slice_get_read}
-use Rattle.ivy_moves.specs.Keeping.{keeps_history, read_of}
 use Rattle.ivy_site.specs.SiteView.{SiteView}
-use Rattle.ivy_join.proofs.joined.Joined.history.Goals as goal
+use Rattle.ivy_join.proofs.joined.Joined.records.Goals as goal
 
 pub returns : goal.returns
 returns g c =
@@ -12,8 +11,6 @@ returns g c =
     let there : slice_get c.self.inside.sites.items c.args.node ≡ Some c.index.result.now =
     slice_get_read c.self.inside.sites.items (length c.self.inside.sites.items) c.args.node
     c.index.result.now refl below c.index.ensures in
-    subst (λ o. IfSome o (λ (s : SiteView). c.history.result.now ≡ s.node.core.history))
+    subst (λ o. IfSome o (λ (s : SiteView). c.records.result ≡ length s.node.core.history))
     (sym (ap (λ l. slice_get l c.args.node) same ∙ there))
-    (c.history.ensures
-    ∙ ap (λ k. read_of (keeps_history k) c.index.result.now.node.core.history)
-    (c.self.invariant c.args.node c.index.result.now there))
+    c.records.ensures
