@@ -17,8 +17,9 @@ enum { DRAW = 16 };
 enum { KIND_AT = 0, FROM_AT = 1, TO_AT = 2, RUN_AT = 3, DRAW_AT = RUN_AT + DRAW, HEAD = DRAW_AT + DRAW };
 
 /* A frame of a node, or a word of the runtime: a process that is in no run yet; the run, with the draws of all; who is in it;
- * all is done; somebody is dead; a sign of life; no, another process has that number. */
-enum { FRAME = 1, HELLO, RUN, HERE, DONE, DEAD, ALIVE, REFUSED };
+ * all is done; somebody is dead; a sign of life; no, another process has that number. Then, of mapped memory: a sign of life of
+ * who has mapped it, with the others of whom it knows that; it may ask for these pages; it has heard so. */
+enum { FRAME = 1, HELLO, RUN, HERE, DONE, DEAD, ALIVE, REFUSED, MAPPED, MAY_ASK, HEARD };
 
 /* What is not said again later is said so often at once, since a transport may lose it. */
 enum { REPEATS = 5 };
@@ -72,6 +73,8 @@ struct ivy_process {
 
   FILE *log;
   int owns_log;
+  int has_file;              /* the log is a regular file, which no other node writes */
+  ivy_process *next_logging; /* another one in this program of which that is so */
   uint64_t turns;                       /* so many the log has */
   uint64_t delivered[MOST_NODES];       /* where there is a log, so many messages of each node */
   string early[MOST_NODES][MOST_AHEAD]; /* its strings that are not due, each in the place of its number, modulo so many */
@@ -91,6 +94,7 @@ struct ivy_process {
   int receiving;           /* a thread receives, without the lock */
   int waits, sleepers;     /* so many calls wait; so many threads sleep until something changes */
   int in_call;             /* a call of another thread of the program is in progress */
+  int pending;             /* the node waits for a reply */
   int shared;              /* several threads of the program make calls */
   int has_more;            /* a call that is over at once has more to do: there is a log, or it is shared */
   uint32_t served, changes; /* calls looked after their peers so often; so often something changed here */
@@ -146,6 +150,8 @@ void ivy_in_wake_at(uint32_t *times);
 int ivy_in_draw(ivy_process *p);
 /* Says a word to all peers. */
 void ivy_in_say(ivy_process *p, uint8_t kind, uint32_t set);
+/* Says a word on pages to a peer. */
+void ivy_in_say_pages(ivy_process *p, uint32_t to, uint8_t kind, uint32_t first, uint32_t many);
 /* What a process without a run, or with one, says now and then. */
 void ivy_in_speak(ivy_process *p);
 /* A string comes. */
@@ -179,6 +185,13 @@ void ivy_in_log_call(ivy_process *p, const call *c);
 /* The turns that the log lacks, and the reply, if it is one. */
 void ivy_in_log_reply(ivy_process *p, const call *c, uint32_t status, const uint64_t *value);
 const char *ivy_in_kind(uint32_t kind);
+
+/* ---- ivy_log.c: who writes a log ---------------------------------------------------------------------------------------- */
+
+/* Locks the log, where there is one, before it is written: IVY_DONE, or IVY_LOG_TAKEN. */
+uint32_t ivy_in_take_log(ivy_process *p);
+/* Writes out what the log is to have, and frees it. */
+void ivy_in_give_log(ivy_process *p);
 
 /* ---- ivy_progress.c: time, and who receives --------------------------------------------------------------------------- */
 
@@ -245,6 +258,11 @@ void ivy_in_map_pump(ivy_process *p);
 long ivy_in_map_patience(const ivy_process *p, long wait_us);
 /* What the runtime's thread does now and then. */
 void ivy_in_map_tick(ivy_process *p);
+/* Who has mapped the memory, as this process knows; a word of one of these comes; what was said is heeded, since no call is in
+ * progress. */
+uint32_t ivy_in_map_members(const ivy_process *p);
+void ivy_in_map_hear(ivy_process *p, uint32_t from, uint8_t kind, uint32_t set, uint32_t first, uint32_t many);
+void ivy_in_map_heed(ivy_process *p);
 /* A call begins: on a page that may be lent by its image, else at the node. */
 uint32_t ivy_in_map_begin(ivy_process *p, const call *c, uint64_t *value);
 /* Words in a row, the lock not held. */

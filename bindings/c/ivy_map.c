@@ -8,13 +8,18 @@
  *   3. A page that was gone, before the instruction could run, for the third time is asked for with the token. Who has it is told
  *      by tickets. It is given back once the thread ran for RAN_NS since its last page came, or LATE_US after that.
  *   4. Whoever asks for a page looks at the token first, and waits for those who had drawn it when it looked.
+ *   5. Whoever asks for a page for the first time tells all, and waits, in no call, until they have heard it. They hear it while
+ *      they have no call in progress. From then on they keep that page, where it may have been written, before each call.
  *
- * WHY IT IS ENOUGH. No node waits for another one's window for long (1), nor for a page that a waiting node does not need (2), so
- * each page that is asked for comes. Say a thread's pages come and go. After three times it draws a ticket, and those before it
- * end. Who asks later waits for it (4), and those who asked before it drew are finitely many. When they are through it asks
- * alone, so what comes stays: it has the page, or one after another the pages, of its instruction until it ran, if the machine
- * lets it run within LATE_US. So it goes on, and gives the token to the next one. Who only looks waits for those that had drawn
- * before, not for later ones, so it does not wait for ever either.
+ * WHY IT IS ENOUGH. A page can be kept only while its node has no call in progress, but by (5) nobody asks then for one that is
+ * still to be kept. So a call ends, since what it waits for is served, and who tells is heard. Who did not map the memory does not
+ * tell: until all have, all that may have been written is kept before each call. So no node waits for another one's call, nor for
+ * its window for long (1), nor for a page that a waiting node does not need (2), and each page that is asked for comes. Say a
+ * thread's pages come and go. After three times it draws a ticket, and those before it end. Who asks later waits for it (4), and
+ * those who asked before it drew are finitely many. When they are through it asks alone, so what comes stays: it has the page, or
+ * one after another the pages, of its instruction until it ran, if the machine lets it run within LATE_US. So it goes on, and gives
+ * the token to the next one. Who only looks waits for those that had drawn before, not for later ones, so it does not wait for ever
+ * either.
  *
  * A thread counts a page as gone for nothing where it faults at one of the last MAP_LAST pages that it was given, and ran for
  * less than RAN_NS since. A call that finds its page lent is carried out with the lock held, so none is gone for nothing. */
@@ -32,12 +37,17 @@ enum { WINDOW_US = 200, FAILURES = 3, RAN_NS = 10000, LATE_US = 20000 };
 /* No more strings of a peer are kept back; it makes them again. */
 enum { MOST_KEPT = 64 };
 
-/* With so few open pages all are kept before a call, and stay open; and at most so many are opened in a row. */
-enum { FEW = 24, MOST_ROW = 256, SCATTERED = 8 };
+/* With so few listed pages all are kept before a call, and stay open; and at most so many in a row are opened, or told of, of which
+ * some may be pages of others that nobody asks for. */
+enum { FEW = 64, MOST_ROW = 256, MOST_TOLD = 16 };
+
+/* Others are told again of what is asked for, after so long. */
+enum { AGAIN_US = 2000 };
 
 /* ---- A page goes back -------------------------------------------------------------------------------------------------- */
 
-/* The node has what stands in the image. While a call is in progress nothing happens: it was kept before that began. */
+/* The node has what stands in the image. While a call is in progress nothing happens: it was kept before that began, else it is not
+ * taken (`may_take`). */
 static void keep_page(ivy_process *p, uint32_t page, const uint8_t *bytes) {
   size_t words = 0;
   ivy_store_block(&p->node, ivy_in_map_address(page), bytes, MAP_PAGE, &words);
@@ -46,11 +56,26 @@ static void keep_page(ivy_process *p, uint32_t page, const uint8_t *bytes) {
 
 static void close_page(ivy_mapping *map, uint32_t page) {
   map_page *it = &map->pages[page];
-  if (!it->is_open) return;
-  uint32_t last = map->open[--map->opens];
-  map->open[it->place] = last;
-  map->pages[last].place = it->place;
-  it->is_open = 0;
+  if (it->is_open == LISTED) {
+    uint32_t last = map->open[--map->opens];
+    map->open[it->place] = last;
+    map->pages[last].place = it->place;
+  }
+  it->is_open = CLOSED;
+}
+
+/* It may be written from now on, or is open already. It is listed where others may ask for it: where one told so, and each page
+ * while there is one that does not know yet that this process is to be told. */
+static void open_page(ivy_process *p, uint32_t page) {
+  ivy_mapping *map = p->map;
+  map_page *it = &map->pages[page];
+  int is_common = it->is_common || (map->known | 1u << p->me) != p->all;
+  if (it->is_open == LISTED) return;
+  it->is_open = is_common ? LISTED : OPEN;
+  if (!is_common) return;
+  it->place = map->opens;
+  map->open[map->opens++] = page;
+  map->is_fresh = 1;
 }
 
 static void give_back(ivy_process *p, uint32_t page, uint32_t on) {
@@ -72,22 +97,7 @@ static void take(ivy_process *p, uint32_t page, uint32_t on) {
   map->counts.taken++;
 }
 
-static void keep_open(ivy_process *p, uint32_t page) {
-  if (p->map->pages[page].is_open) keep_page(p, page, ivy_in_map_at(p->map->bytes, page));
-}
-
-/* The open pages of which the kernel says that they were written. */
-static void keep_written(ivy_process *p) {
-  const ivy_mapping *map = p->map;
-  uint32_t from = map->count, end = 0;
-  for (uint32_t i = 0; i < map->opens; i++) {
-    if (map->open[i] < from) from = map->open[i];
-    if (map->open[i] >= end) end = map->open[i] + 1;
-  }
-  ivy_in_map_written(p, from, end, keep_open);
-}
-
-/* So many open pages, from one in their list on, are in a row. */
+/* So many listed pages, from one in their list on, are in a row. */
 static uint32_t row_at(const ivy_mapping *map, uint32_t place) {
   const map_page *first = &map->pages[map->open[place]];
   uint32_t many = 1;
@@ -95,7 +105,7 @@ static uint32_t row_at(const ivy_mapping *map, uint32_t place) {
   return many;
 }
 
-/* The open pages may be stored no more: those in a row together. */
+/* The listed pages may be stored no more: those in a row together. */
 static void lower_open(ivy_mapping *map) {
   for (uint32_t i = 0, many; i < map->opens; i += many) {
     map_page *first = &map->pages[map->open[i]];
@@ -106,28 +116,70 @@ static void lower_open(ivy_mapping *map) {
   }
 }
 
-/* Whether what may have been written is to be closed: other threads go on during a call; or it is much, and in long rows; or nobody
- * tells what of it was written, which the kernel is asked for where such pages are scattered time after time. */
-static int must_close(ivy_process *p) {
-  ivy_mapping *map = p->map;
-  uint32_t rows = 0;
-  if (p->shared || map->lowers || map->opens <= FEW) return p->shared || map->lowers;
-  for (uint32_t i = 0; i < map->opens; i += row_at(map, i)) rows++;
-  if (rows * FEW < map->opens) return 1;
-  if (++map->scattered == SCATTERED) ivy_in_map_watch(map);
-  return map->scanner < 0;
-}
-
-/* Before a call all is kept that may have been written. What is closed opens again by faults. While the only thread waits for a
- * page, all is kept already. */
+/* Before a call all is kept that may have been written, and others may ask for. It is closed, and opens again by faults, where it
+ * is much, or other threads go on meanwhile. While the only thread waits for a page, all is kept already. */
 void ivy_in_map_keep(ivy_process *p) {
   ivy_mapping *map = p->map;
-  if (map->waits) return;
-  int closes = must_close(p);
+  int closes = p->shared || map->lowers || map->opens > FEW;
+  if (map->waits && !map->is_fresh) return;
+  map->is_fresh = 0;
   if (closes) lower_open(map);
-  if (!closes && map->opens > FEW) keep_written(p);
-  else for (uint32_t i = 0; i < map->opens; i++) keep_open(p, map->open[i]);
+  for (uint32_t i = 0; i < map->opens; i++) keep_page(p, map->open[i], ivy_in_map_at(map->bytes, map->open[i]));
   while (closes && map->opens) close_page(map, map->open[map->opens - 1]);
+}
+
+/* ---- What is asked for is told before -------------------------------------------------------------------------------------- */
+
+uint32_t ivy_in_map_members(const ivy_process *p) { return p->map->members | 1u << p->me; }
+
+/* While no call is in progress: who mapped the memory meanwhile is told from now on what is asked for, for which all are told anew;
+ * and what others may ask for is kept from now on before each call, of which they hear. */
+void ivy_in_map_heed(ivy_process *p) {
+  ivy_mapping *map = p->map;
+  if (p->pending) return;
+  if (map->met & ~map->members) {
+    map->members |= map->met;
+    for (uint32_t page = 0; page < map->count; page++) map->pages[page].is_told = 0;
+    ivy_in_speak(p);
+  }
+  for (uint32_t i = 0; map->met && i < p->config.nodes; i++) {
+    map_row *row = &map->asks[i];
+    for (uint32_t page = row->first; page < row->first + row->many; page++) {
+      map->pages[page].is_common = 1;
+      if (map->pages[page].is_open) open_page(p, page);
+    }
+    if (row->many) ivy_in_say_pages(p, i, HEARD, row->first, row->many);
+    row->many = 0;
+  }
+}
+
+void ivy_in_map_hear(ivy_process *p, uint32_t from, uint8_t kind, uint32_t set, uint32_t first, uint32_t many) {
+  ivy_mapping *map = p->map;
+  const map_row row = { first, many };
+  map->met |= 1u << from;
+  if (kind == MAPPED) map->known |= (set >> p->me & 1u) << from;
+  if (kind == MAY_ASK && first < map->count && many <= map->count - first) map->asks[from] = row;
+  if (kind == HEARD && first == map->told.first && many == map->told.many) map->heard |= 1u << from;
+  ivy_in_map_heed(p);
+}
+
+/* Tells the others that this process may ask for a page, and for those behind it, twice as many where it told of the last ones just
+ * before; and waits until all have heard it. */
+static void tell(ivy_process *p, uint32_t page) {
+  ivy_mapping *map = p->map;
+  uint32_t most = page != map->told.first + map->told.many ? 1 : 2 * map->told.many, many = 1;
+  while (many < most && many < MOST_TOLD && page + many < map->count && !map->pages[page + many].is_told) many++;
+  const map_row row = { page, many };
+  map->told = row;
+  map->heard = 0;
+  p->in_call = 1;
+  for (int64_t due = 0; map->members & ~map->heard && !ivy_in_is_over(p);) {
+    for (uint32_t i = 0; ivy_in_now() >= due && i < p->config.nodes; i++)
+      if ((map->members & ~map->heard) >> i & 1u) ivy_in_say_pages(p, i, MAY_ASK, page, many);
+    if (ivy_in_now() >= due) due = ivy_in_now() + AGAIN_US;
+    ivy_in_wait(p);
+  }
+  while (many) map->pages[page + --many].is_told = 1;
 }
 
 /* ---- A page comes -------------------------------------------------------------------------------------------------------- */
@@ -135,14 +187,16 @@ void ivy_in_map_keep(ivy_process *p) {
 /* Pages in a row that are closed are opened together, twice as many where the last ones came just before. */
 static uint32_t row_from(ivy_mapping *map, uint32_t page) {
   const map_page *first = &map->pages[page];
+  map_row *row = &map->opened;
   uint32_t many = 1;
-  map->row = page != map->next ? 1 : map->row < MOST_ROW ? 2 * map->row : map->row;
-  while (many < map->row && page + many < map->count && first[many].lent == IVY_TO_WRITE && first[many].shown == IVY_TO_READ) many++;
-  map->next = page + many;
+  row->many = page != row->first ? 1 : row->many < MOST_ROW ? 2 * row->many : row->many;
+  while (many < row->many && page + many < map->count && first[many].lent == IVY_TO_WRITE && first[many].shown == IVY_TO_READ) many++;
+  row->first = page + many;
   return many;
 }
 
-static void show(ivy_mapping *map, uint32_t page, uint32_t to) {
+static void show(ivy_process *p, uint32_t page, uint32_t to) {
+  ivy_mapping *map = p->map;
   map_page *it = &map->pages[page];
   uint32_t many = 1;
   if (it->shown >= to) return;
@@ -150,10 +204,7 @@ static void show(ivy_mapping *map, uint32_t page, uint32_t to) {
   else map->image->raise(map, page, many = row_from(map, page));
   for (uint32_t i = 0; i < many; i++) {
     it[i].shown = (uint8_t)to;
-    if (to != IVY_TO_WRITE || it[i].is_open) continue;
-    it[i].is_open = 1;
-    it[i].place = map->opens;
-    map->open[map->opens++] = page + i;
+    if (to == IVY_TO_WRITE) open_page(p, page + i);
   }
 }
 
@@ -175,7 +226,7 @@ static uint32_t lend(ivy_process *p, uint32_t page, uint32_t to) {
   uint32_t status = ivy_lend(&p->node, page, to);
   if (status != IVY_DONE) return status;
   it->lent = (uint8_t)to;
-  show(map, page, to);
+  show(p, page, to);
   it->until = ivy_in_now() + WINDOW_US;
   return IVY_DONE;
 }
@@ -187,7 +238,7 @@ static void take_reply(ivy_process *p) {
   if (!map->asking) return;
   uint32_t status = ivy_reply(&p->node, &value);
   if (status >= 256) return;
-  map->asking = 0;
+  map->asking = p->pending = 0;
   map->answer = status == IVY_DONE ? lend(p, map->page, map->to) : status;
   map->counts.gone += map->answer != IVY_DONE;
 }
@@ -200,10 +251,12 @@ static int is_of(const map_thread *who, uint32_t page) {
   return 0;
 }
 
-/* Whether a page may be taken: by the rule, 1 and 2. */
+/* Whether a page may be taken: by the rule, 1 and 2. While a call is in progress none is that was not kept before, of which who asks
+ * for it did not tell. */
 static int may_take(ivy_process *p, uint32_t page) {
   ivy_mapping *map = p->map;
   int64_t until = map->pages[page].until;
+  if (p->pending && (map->pages[page].is_open == OPEN || (map->pages[page].is_open && ivy_in_is_over(p)))) return 0;
   int waits = (map->waits || p->waits) && !p->shared && !map->lowers;
   if ((waits && !is_of(map->waiting, page)) || ivy_in_now() >= until) return 1;
   if (!map->due || until < map->due) map->due = until;
@@ -335,8 +388,6 @@ static int64_t ran(uint32_t thread) {
   return (int64_t)t.tv_sec * 1000000000 + t.tv_nsec;
 }
 
-static int did_run(const map_thread *who) { return ran(who->thread) - who->ran > RAN_NS; }
-
 /* The run is over: the next access tells the program so, also where it looks at a copy that nobody ends. */
 static void hide_all(ivy_mapping *map) {
   for (uint32_t page = ROOT_PAGE; page < map->count; page++) {
@@ -351,7 +402,7 @@ void ivy_in_map_tick(ivy_process *p) {
   if (p->dead && !map->is_hidden) hide_all(map);
   map->is_hidden = p->dead != 0;
   if (!map->has_token || p->in_call || p->error) return;
-  if (map->holder && !did_run(map->holder) && ivy_in_now() - map->shown_at < LATE_US) return;
+  if (map->holder && ran(map->holder->thread) - map->holder->ran <= RAN_NS && ivy_in_now() - map->shown_at < LATE_US) return;
   map->lowers = 1;
   ivy_in_map_end_token(p);
   map->lowers = 0;
@@ -359,19 +410,21 @@ void ivy_in_map_tick(ivy_process *p) {
 
 /* ---- Faults -------------------------------------------------------------------------------------------------------------- */
 
-/* Asks for a page, and lends it in the step in which it comes, if it is not gone then. */
+/* Asks for a page of which all were told, and lends it in the step in which it comes, if it is not gone then. */
 static uint32_t ask(ivy_process *p, uint32_t page, uint32_t to) {
   ivy_mapping *map = p->map;
   uint64_t value;
   uint32_t status, kind = to == IVY_TO_WRITE ? IVY_FETCH_AND_ADD : IVY_LOAD;
-  while ((status = ivy_begin(&p->node, kind, 1, ivy_in_map_address(page), 0, 0, &value)) == IVY_MEMORY && !p->error) {
+  do {
+    while (!map->pages[page].is_told) tell(p, page);
+    ivy_in_map_keep(p);
+    status = ivy_begin(&p->node, kind, 1, ivy_in_map_address(page), 0, 0, &value);
     p->in_call = 1;
-    ivy_in_wait(p);
-  }
+  } while (status == IVY_MEMORY && !p->error && (ivy_in_wait(p), 1));
   map->counts.asked++;
   if (status < 256) status = status == IVY_DONE ? lend(p, page, to) : status;
   if (status == IVY_PENDING) {
-    p->in_call = map->asking = 1;
+    p->pending = map->asking = 1;
     p->counts.misses++;
     map->page = page;
     map->to = to;
@@ -391,12 +444,12 @@ uint32_t ivy_in_map_acquire(ivy_process *p, uint32_t page, uint32_t to, map_thre
   for (uint32_t failed = who ? who->failed : 0; !p->error; failed++) {
     if (!has(map, page, to)) lend(p, page, to);
     if (has(map, page, to)) {
-      show(map, page, to);
+      show(p, page, to);
       return IVY_DONE;
     }
     if (map->pages[page].lent && who && !p->shared) give_back(p, page, IVY_UNLENT); /* who could see it waits here */
     else if (map->pages[page].lent) take(p, page, IVY_UNLENT);
-    ivy_in_map_keep(p);
+    map->is_fresh = 1;
     map->waiting = who;
     map->waits++;
     ivy_in_map_pump(p);
@@ -413,11 +466,13 @@ uint32_t ivy_in_map_acquire(ivy_process *p, uint32_t page, uint32_t to, map_thre
 /* The thread of a fault. Whether it ran since it had its last page. */
 static map_thread *thread_of(ivy_process *p, uint32_t thread, uint32_t page) {
   map_thread *who = &p->map->threads[thread % MAP_THREADS];
-  if (who->thread != thread || did_run(who)) {
+  int64_t took = ran(thread);
+  if (who->thread != thread || took - who->ran > RAN_NS) {
     if (p->map->has_token && p->map->holder == who) ivy_in_map_end_token(p);
     who->many = who->failed = 0;
   }
   who->thread = thread;
+  who->ran = took;
   who->failed = is_of(who, page) ? who->failed + 1 : 0;
   return who;
 }
@@ -430,7 +485,7 @@ static void go_on_with(ivy_mapping *map, map_thread *who, uint32_t page) {
     if (who->many < MAP_LAST) who->many++;
   }
   map->shown_at = ivy_in_now();
-  who->ran = ran(who->thread);
+  if (!map->image->wait) who->ran = ran(who->thread); /* else it did not run meanwhile */
 }
 
 void ivy_in_map_fault(ivy_process *p, uint32_t page, uint32_t to, uint32_t thread) {
@@ -441,12 +496,9 @@ void ivy_in_map_fault(ivy_process *p, uint32_t page, uint32_t to, uint32_t threa
     status = ivy_in_map_acquire(p, page, to, who);
     go_on_with(p->map, who, page);
   }
-  if (status == IVY_DONE) {
-    ivy_in_leave(p);
-    return;
-  }
-  p->exits = 0;
+  if (status != IVY_DONE) p->exits = 0;
   ivy_in_leave(p);
+  if (status == IVY_DONE) return;
   if (!p->dead) fprintf(stderr, "ivy: node %u: an access at %llu: %s\n", p->me, (unsigned long long)ivy_in_map_address(page), ivy_text(status));
   _exit(ivy_exit_status(status));
 }

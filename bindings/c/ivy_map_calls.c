@@ -172,6 +172,7 @@ uint32_t ivy_map(ivy_process *p) {
   if (status != IVY_DONE) return status;
   ivy_in_lock(p);
   status = begin_mapping(p);
+  if (status == IVY_DONE) ivy_in_speak(p);
   ivy_in_unlock(p);
   return status;
 }

@@ -20,15 +20,6 @@
 #define MAP_BASE ((uintptr_t)0x200000000000u)
 enum { MOST_PAGES = 65536 + 1, WAIT_MS = 100 };
 
-/* What the kernel's headers may not have yet (Linux 6.7): write protection without a message, and who was written since. */
-#define WP_UNPOPULATED (1ull << 13)
-#define WP_ASYNC (1ull << 15)
-#define WP_SHARED (1ull << 12)
-typedef struct { uint64_t start, end, categories; } scan_region;
-typedef struct { uint64_t size, flags, start, end, walk_end, vec, vec_len, max_pages, inverted, mask, anyof, returned; } scan_argument;
-#define SCAN _IOWR('f', 16, scan_argument)
-enum { SCAN_PROTECTS = 1, SCAN_CHECKS = 2, IS_WRITTEN = 2, MOST_REGIONS = 64 };
-
 static size_t size_of(const ivy_mapping *map) { return (size_t)map->count * MAP_PAGE; }
 static uint32_t page_at(uintptr_t at) { return (uint32_t)((at - MAP_BASE) / MAP_PAGE); }
 
@@ -81,41 +72,6 @@ static void protection_raise(ivy_mapping *map, uint32_t page, uint32_t many) { a
 static const uint8_t *protection_lower(ivy_mapping *map, uint32_t page, uint32_t many, uint32_t on) {
   if (!protect(map, page, many, on)) hide(map);
   return ivy_in_map_at(map->bytes, page);
-}
-
-/* Asks for pages that were written, which are protected again. */
-static long ask_scan(const ivy_mapping *map, uintptr_t from, uintptr_t end, scan_region *found, scan_argument *scan) {
-  memset(scan, 0, sizeof *scan);
-  scan->size = sizeof *scan;
-  scan->flags = SCAN_PROTECTS | SCAN_CHECKS;
-  scan->start = from;
-  scan->end = end;
-  scan->vec = (uintptr_t)found;
-  scan->vec_len = MOST_REGIONS;
-  scan->mask = scan->returned = IS_WRITTEN;
-  return ioctl(map->scanner, SCAN, scan);
-}
-
-void ivy_in_map_written(ivy_process *p, uint32_t first, uint32_t end, void (*tell)(ivy_process *p, uint32_t page)) {
-  const uintptr_t last = (uintptr_t)ivy_in_map_at(p->map->base, end);
-  scan_region found[MOST_REGIONS];
-  scan_argument scan;
-  for (uintptr_t at = (uintptr_t)ivy_in_map_at(p->map->base, first); at < last; at = (uintptr_t)scan.walk_end) {
-    long many = ask_scan(p->map, at, last, found, &scan);
-    if (many < 0) many = 1, found[0].start = at, found[0].end = scan.walk_end = last; /* who knows: all of them */
-    for (long i = 0; i < many; i++)
-      for (uint64_t it = found[i].start; it < found[i].end; it += MAP_PAGE) tell(p, page_at(it));
-  }
-}
-
-void ivy_in_map_watch(ivy_mapping *map) {
-  scan_region found[MOST_REGIONS];
-  scan_argument scan;
-  map->watch = faults_of(map->base, size_of(map), UFFD_USER_MODE_ONLY, WP_ASYNC | WP_UNPOPULATED | WP_SHARED, UFFDIO_REGISTER_MODE_WP);
-  map->scanner = map->watch < 0 ? -1 : open("/proc/self/pagemap", O_RDONLY | O_CLOEXEC);
-  if (map->scanner < 0 || ask_scan(map, MAP_BASE, MAP_BASE + MAP_PAGE, found, &scan) >= 0) return;
-  close(map->scanner);
-  map->scanner = -1;
 }
 
 static int protection_open(ivy_mapping *map) {
@@ -277,7 +233,7 @@ int ivy_in_map_catch(ivy_process *p) {
   own.sa_flags = SA_SIGINFO | SA_RESTART;
   block_handlers(&own.sa_mask);
   ivy_mapping *map = p->map;
-  map->scanner = map->watch = map->faults = -1;
+  map->faults = -1;
   map->child_of = (int)getpid();
   if (mapped || !reserve()) return 0;
   const char *said = getenv("IVY_IMAGE");
@@ -300,8 +256,6 @@ void ivy_in_map_close(ivy_mapping *map) {
     munmap((void *)MAP_BASE, (size_t)MOST_PAGES * MAP_PAGE);
     if (map->bytes && map->bytes != map->base) munmap(map->bytes, size_of(map));
   }
-  if (map->scanner >= 0) close(map->scanner);
-  if (map->watch >= 0) close(map->watch);
   if (map->faults >= 0) close(map->faults);
   free(map->room);
 }

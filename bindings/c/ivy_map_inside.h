@@ -26,9 +26,14 @@ typedef struct {
   void *(*wait)(void *process);
 } ivy_image;
 
-/* A page: until when it is kept; what the node lends of it, what the image shows of it; and whether it is open: it may have been
- * written since the node had its bytes. Then, where it is in the list of these. */
-typedef struct { int64_t until; uint32_t place; uint8_t lent, shown, is_open; } map_page;
+/* A page: until when it is kept; what the node lends of it, what the image shows of it; whether others may ask for it, and whether
+ * they know that this process may; and whether it is open: it may have been written since the node had its bytes. Then it is in a
+ * list, at a place, if others may ask for it. */
+enum { CLOSED, OPEN, LISTED };
+typedef struct { int64_t until; uint32_t place; uint8_t lent, shown, is_common, is_told, is_open; } map_page;
+
+/* Pages in a row: the first, and how many. */
+typedef struct { uint32_t first, many; } map_row;
 
 /* A thread that faults: the pages that it had last for what it does, how often they were gone before it could go on, and what
  * time of a processor it had taken when it got the last one. */
@@ -46,12 +51,15 @@ struct ivy_mapping {
   uint8_t *room;  /* where a page is loaded to before it is shown, if that is not in `bytes` */
   uint32_t count;
   map_page *pages;
-  uint32_t *open, opens; /* the pages that are open */
-  uint32_t next, row;    /* the page behind those that were opened last in a row, and how many these were to be at most */
-  uint32_t scattered;    /* so often they were much and not in rows, before a call */
-  int scanner, watch, faults; /* descriptors: who tells what was written; the two of userfaultfd */
+  uint32_t *open, opens; /* the pages that are listed */
+  map_row opened, told;  /* how many were opened last in a row, at most, and the page behind them; the same of those told of */
+  int faults;            /* the descriptor of userfaultfd */
   int child_of, has_thread, ending;
   pthread_t thread;
+
+  uint32_t met, members, known; /* who has mapped the memory; who is told what is asked for; who knows that of this process */
+  uint32_t heard;               /* who heard what is told now */
+  map_row asks[MOST_NODES];     /* what each may ask for, which is not heeded yet */
 
   kept_string *first[MOST_NODES], **end[MOST_NODES];
   uint32_t many[MOST_NODES], kept; /* so many strings of each peer, and of all */
@@ -62,7 +70,7 @@ struct ivy_mapping {
   int asking;           /* a page is asked for, which is lent once it comes: */
   uint32_t page, to, answer;
   map_thread *waiting;  /* who waits for it, if that is an instruction */
-  int waits;
+  int waits, is_fresh;  /* so many waits, before which all is kept, but for what is listed since */
   map_thread threads[MAP_THREADS];
   int is_hidden;
   int has_token, lowers; /* it has the token; pages are lowered before a call, since the program goes on meanwhile */
@@ -93,10 +101,6 @@ void ivy_in_map_keep(ivy_process *p);
 /* Opens the image that is allowed, and hands faults on to it; tells of addresses where nothing is. */
 int ivy_in_map_catch(ivy_process *p);
 void ivy_in_map_close(ivy_mapping *map);
-/* From now on the kernel says which pages were written, where it can: then a page that is written first takes somewhat longer. */
-void ivy_in_map_watch(ivy_mapping *map);
-/* Tells of each of some pages that was written since that was asked last. */
-void ivy_in_map_written(ivy_process *p, uint32_t first, uint32_t end, void (*tell)(ivy_process *p, uint32_t page));
 
 #pragma GCC visibility pop
 #endif

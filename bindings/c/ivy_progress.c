@@ -163,12 +163,14 @@ void ivy_in_wait(ivy_process *p) {
 }
 
 void ivy_in_rest(ivy_process *p, uint32_t changes, int64_t until) {
-  int64_t now = ivy_in_now(), last = now + LISTEN_US;
-  if (until && until < last) last = until;
   ivy_in_lock(p);
+  int64_t now = ivy_in_now(), last = now + patience(p);
+  if (until && until < last) last = until;
   if (p->changes == changes && !p->error && last > now) {
+    p->waits++;
     if (p->receiving) sleep_on(p, (long)(last - now));
     else ivy_in_serve(p, (long)(last - now), 1);
+    p->waits--;
   }
   ivy_in_unlock(p);
 }

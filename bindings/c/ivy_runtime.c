@@ -6,6 +6,9 @@
 
 enum { LEAVE_US = 5000000, LISTEN_US = 500 };
 
+/* Who looks until something is so, and writes a log, looks no sooner again: each look has three lines there. */
+enum { LOG_LOOK_US = 1000 };
+
 void (*ivy_in_for_one_thread)(void *state);
 
 const char *ivy_text(uint32_t status) {
@@ -18,6 +21,7 @@ const char *ivy_text(uint32_t status) {
     case IVY_NO_TRANSPORT: return "there is no transport";
     case IVY_TIMEOUT: return "the time is over";
     case IVY_NO_KEY: return "the key cannot be used";
+    case IVY_LOG_TAKEN: return "another node writes the log";
     default: return ivy_status_text(status);
   }
 }
@@ -141,6 +145,7 @@ static uint32_t open_node(ivy_process *p, const ivy_start *start) {
 
 static uint32_t set_up(ivy_process *p, const ivy_start *start) {
   uint32_t status = open_node(p, start), nodes = start->config.nodes;
+  if (status == IVY_DONE) status = ivy_in_take_log(p);
   if (status != IVY_DONE) return status;
   p->config = start->config;
   p->transport = start->transport;
@@ -158,6 +163,7 @@ static uint32_t set_up(ivy_process *p, const ivy_start *start) {
 }
 
 static void end(ivy_process *p) {
+  ivy_in_give_log(p);
   if (p->owns_log) fclose(p->log);
   for (int i = 0; i < MOST_NODES; i++)
     for (int j = 0; j < MOST_AHEAD; j++) free(p->early[i][j].bytes);
@@ -236,6 +242,8 @@ uint32_t ivy_leave(ivy_process *p) {
 
 void ivy_in_end_call(ivy_process *p) {
   p->in_call = 0;
+  p->pending = p->pending && ivy_in_is_over(p); /* it cannot be withdrawn */
+  if (p->map) ivy_in_map_heed(p);
   p->changes++;
   ivy_in_wake(p);
 }
@@ -260,7 +268,7 @@ static uint32_t go_on(ivy_process *p, const call *c, uint32_t status, uint64_t *
     if (p->in_call || (p->shared && c->kind != IVY_LOAD && c->kind != IVY_COUNT)) ivy_in_end_call(p);
     return status;
   }
-  p->in_call = 1;
+  p->in_call = p->pending = 1;
   *(c->kind == IVY_AWAIT ? &p->counts.waits : &p->counts.misses) += 1;
   ivy_in_send_frames(p);
   while ((status == IVY_PENDING || status == IVY_MEMORY) && !ivy_in_is_over(p)) {
@@ -295,6 +303,7 @@ __attribute__((always_inline)) static inline uint32_t make_call(ivy_process *p, 
 
 uint32_t ivy_call(ivy_process *p, uint32_t kind, uint32_t width, uint64_t place, uint64_t operand, uint64_t expected,
                   uint64_t *value) {
+  if (kind == IVY_AWAIT && p->map) return ivy_await_for(p, place, operand, -1, value); /* for long no call is in progress */
   const call c = { kind, width, place, operand, expected };
   uint64_t own = 0; /* the program's may be mapped memory, which is not touched while the lock is held */
   uint32_t status = make_call(p, &c, &own);
@@ -330,6 +339,14 @@ static int is_so(uint64_t value, ivy_comparison comparison, uint64_t number) {
   }
 }
 
+/* Rests between two looks, before a time that is not 0. */
+static void rest(ivy_process *p, uint32_t changes, int64_t until) {
+  int64_t least = p->log ? ivy_in_now() + LOG_LOOK_US : 0;
+  if (until && least > until) least = until;
+  ivy_in_rest(p, changes, until);
+  while (ivy_in_now() < least && !ivy_error(p)) ivy_in_rest(p, changes_of(p), least);
+}
+
 /* Looks by a call, with rests, until its value compares so, or a time is over. */
 static uint32_t look_until(ivy_process *p, const call *c, ivy_comparison comparison, uint64_t number, long wait_us,
                            uint64_t *value) {
@@ -339,7 +356,7 @@ static uint32_t look_until(ivy_process *p, const call *c, ivy_comparison compari
     uint32_t status = ivy_call(p, c->kind, c->width, c->place, 0, 0, value);
     if (status != IVY_DONE || is_so(*value, comparison, number)) return status;
     if (wait_us >= 0 && ivy_in_now() >= until) return IVY_TIMEOUT;
-    ivy_in_rest(p, changes, wait_us >= 0 ? until : 0);
+    rest(p, changes, wait_us >= 0 ? until : 0);
   }
 }
 
@@ -389,10 +406,10 @@ uint64_t ivy_fetch_add(ivy_process *p, uint32_t width, uint64_t address, uint64_
 uint64_t ivy_count(ivy_process *p, uint64_t count) { return sure(p, IVY_COUNT, 0, count, 0, 0); }
 void ivy_advance(ivy_process *p, uint64_t count) { sure(p, IVY_ADVANCE, 0, count, 0, 0); }
 
-/* An await in the memory keeps the other threads of the program from calls until it is over. */
+/* An await in the memory keeps the other threads of the program from calls until it is over, and what is written from others. */
 uint64_t ivy_await(ivy_process *p, uint64_t count, uint64_t least) {
   uint64_t value = 0;
-  if (!p->shared) return sure(p, IVY_AWAIT, 0, count, least, 0);
+  if (!p->shared && !p->map) return sure(p, IVY_AWAIT, 0, count, least, 0);
   uint32_t status = ivy_await_for(p, count, least, -1, &value);
   if (status == IVY_DONE) return value;
   ivy_in_refuse(p, IVY_AWAIT, count, status);

@@ -53,7 +53,8 @@ enum {
   IVY_LOG_FULL = 404,     /* the log takes no more */
   IVY_NO_TRANSPORT = 405, /* the transport could not be opened */
   IVY_TIMEOUT = 406,      /* the time is over: nothing was done */
-  IVY_NO_KEY = 407        /* there is a key that cannot be used */
+  IVY_NO_KEY = 407,       /* there is a key that cannot be used */
+  IVY_LOG_TAKEN = 408     /* another node writes the log */
 };
 
 /* The name of a status of the runtime or of ivy.h; never null. */
@@ -97,9 +98,19 @@ ivy_process *ivy_join(const ivy_config *config, uint32_t me, ivy_transport trans
 /* The same, and the node's log of own code is written to `log`: what the node did, and each call with its reply, as
  * docs/man/ivynode.1 says. Logs of all nodes are joined, by which it is checked that one flat memory could have replied so.
  * What a string follows from is in the log, and flushed, before the string is sent; where a log takes no more the run is over.
- * The file is the caller's, who may close it after ivy_leave. */
+ * The file is the caller's, who may close it after ivy_leave.
+ *
+ * Where it is a regular file it is locked until then, by flock, before anything is written: a log that another node writes, of
+ * this process or of another one, stays as it is, and the status is IVY_LOG_TAKEN, with a line on stderr that names the log. A
+ * file system without such locks has none between processes. Programs that this one starts do not get the file, and in a child
+ * of fork what is written to it is dropped, so that no child keeps the lock; but where it is stdin, stdout or stderr they share
+ * it, and keep the lock where this process is killed. fopen(path, "w") empties a log that is locked: ivy_open_log does not. */
 ivy_process *ivy_join_logging(const ivy_config *config, uint32_t me, ivy_transport transport, ivy_progress progress,
                               long start_ms, long death_ms, FILE *log);
+
+/* Opens the log at a path, and locks it before it is emptied: IVY_LOG_TAKEN where another node writes it, IVY_BAD_ARGUMENT where
+ * it cannot be written, each with a line on stderr. */
+uint32_t ivy_open_log(const char *path, FILE **log);
 
 /* All that a process joins with. One that is `alone` has 2 as its number of nodes, and the other is never asked. */
 typedef struct ivy_start {
@@ -125,7 +136,8 @@ uint32_t ivy_nodes(const ivy_process *process);
 
 /* What a process has done: calls, which are hits, done at once, misses, which waited for a page or for the heap, and waits, which
  * are awaits of a count; strings of its node that it sent, and sent again since they were not acknowledged; and those that it
- * heard. A row counts as one call for each page at least. */
+ * heard. A row counts as one call for each page at least. Where memory is mapped, or several threads make calls, an await is made
+ * of looks, which are hits or misses. */
 typedef struct ivy_counts { uint64_t calls, hits, misses, waits, sent, again, heard; } ivy_counts;
 ivy_counts ivy_counts_of(ivy_process *process);
 

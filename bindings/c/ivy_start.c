@@ -50,15 +50,13 @@ static uint32_t open_alone(ivy_transport *transport) {
 
 /* ---- By the environment -------------------------------------------------------------------------------------------------- */
 
-/* The log of this node in the folder that IVY_LOG names, if there is one. Whether it can be written. */
-static int open_log(ivy_start *start) {
+/* The log of this node in the folder that IVY_LOG names, if there is one. */
+static uint32_t open_log(ivy_start *start) {
   const char *folder = getenv("IVY_LOG");
   char path[PATH];
-  if (!folder || !*folder) return 1;
+  if (!folder || !*folder) return IVY_DONE;
   snprintf(path, sizeof path, "%s/%u.log", folder, start->me);
-  start->log = fopen(path, "w");
-  if (!start->log) perror(path);
-  return start->log != NULL;
+  return ivy_open_log(path, &start->log);
 }
 
 /* What the variables say of the memory and of times. */
@@ -79,11 +77,10 @@ uint32_t ivy_start_over(ivy_transport transport, uint32_t me, uint32_t nodes, co
   *process = NULL;
   if (config) start.config = *config;
   start.config.nodes = nodes < 2 ? 2 : nodes;
-  if (!read_start(&start) || !open_log(&start)) {
-    if (transport.close) transport.close(transport.state);
-    return IVY_BAD_ARGUMENT;
-  }
-  return ivy_in_join(&start, 1, 1, process);
+  uint32_t status = read_start(&start) ? open_log(&start) : (uint32_t)IVY_BAD_ARGUMENT;
+  if (status == IVY_DONE) return ivy_in_join(&start, 1, 1, process);
+  if (transport.close) transport.close(transport.state);
+  return status;
 }
 
 /* The place of this process among others, over UDP. */

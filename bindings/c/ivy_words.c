@@ -44,9 +44,18 @@ void ivy_in_say(ivy_process *p, uint8_t kind, uint32_t set) {
     if (i != p->me && p->all >> i & 1u) say_to(p, i, kind, set, kind == HELLO ? p->draws[i] : nothing);
 }
 
+/* They stand in place of the draw that is answered. */
+void ivy_in_say_pages(ivy_process *p, uint32_t to, uint8_t kind, uint32_t first, uint32_t many) {
+  uint8_t pages[DRAW] = { 0 };
+  ivy_in_put32(pages, first);
+  ivy_in_put32(pages + 4, many);
+  say_to(p, to, kind, 0, pages);
+}
+
 void ivy_in_speak(ivy_process *p) {
   if (!p->is_fixed) ivy_in_say(p, HELLO, p->drawn);
   else if (p->is_done) ivy_in_say(p, DONE, p->done);
+  else if (p->known_here == p->all && p->map) ivy_in_say(p, MAPPED, ivy_in_map_members(p));
   else if (p->known_here == p->all) ivy_in_say(p, ALIVE, p->here);
   else ivy_in_say(p, p->me == 0 ? RUN : HERE, p->here);
 }
@@ -164,6 +173,7 @@ static void hear_member(ivy_process *p, uint32_t from, const uint8_t *bytes) {
   p->here |= bit;
   if ((kind != HERE && kind != RUN) || set == p->all) p->known_here |= bit;
   if (p->here == p->all && before != p->all) ivy_in_speak(p);
+  if (kind >= MAPPED && p->map) ivy_in_map_hear(p, from, kind, set, ivy_in_get32(bytes + ECHO_AT), ivy_in_get32(bytes + ECHO_AT + 4));
   if (kind == DONE) {
     p->done |= bit;
     if (set == p->all) p->known_done |= bit;

@@ -23,10 +23,9 @@ typedef struct {
 static inline FILE *open_log(const example *e, const char *folder) {
   char path[4096];
   snprintf(path, sizeof path, "%s/%u.log", folder, e->me);
-  FILE *log = fopen(path, "w");
-  if (log) return log;
-  perror(path);
-  exit(2);
+  FILE *log;
+  if (ivy_open_log(path, &log)) exit(2);
+  return log;
 }
 
 /* Where and how a process of an example joins. */

@@ -23,8 +23,8 @@ int main(int argc, char **argv) {
   for (long i = 0; i < atol(argv[3]) * 1000000 / EACH_NS; i++) {
     memset(bytes, 0, sizeof bytes);
     memset(bytes + 3, i & 1 ? 0xff : 0, 60);
-    bytes[0] = (uint8_t)(i % 10);
-    bytes[1] = (uint8_t)(i / 10 % nodes);
+    bytes[0] = (uint8_t)(i % 13);
+    bytes[1] = (uint8_t)(i / 13 % nodes);
     bytes[2] = (uint8_t)(i % nodes);
     address.sin_port = htons((uint16_t)(port + i % nodes));
     sendto(from, bytes, lengths[i / 7 % LENGTHS], 0, (struct sockaddr *)&address, sizeof address);

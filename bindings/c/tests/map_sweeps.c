@@ -1,6 +1,5 @@
-/* Stores over many pages, in order and scattered, with calls between: LAPS. Pages are closed before a call, and open again by faults,
- * or the kernel tells which of them were written. Each process has its pages, and after each lap all compare drawn pages of all with
- * an array of their own. */
+/* Stores over many pages, in order and scattered, with calls between: LAPS. Pages that others ask for are closed before a call, and
+ * open again by faults. Each process has its pages, and after each lap all compare drawn pages of all with an array of their own. */
 #include "map_test.h"
 
 enum { PAGES = 200, DRAWN = 60, COMPARED = 40, MOST = 8, CALLED = 4096 + 64 };

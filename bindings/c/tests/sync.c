@@ -6,7 +6,7 @@
 #include <time.h>
 
 enum { PAGES = 32, PAGE = 256, EACH = 40, SHORT_US = 3000, FIRST = PAGE * 4, APART = PAGE * 10, MOST_NODES = 6 };
-enum { TURN = 2, OF_LIST = 3, MET = 4, STALE = 5 };
+enum { TURN = 2, OF_LIST = 3, MET = 4 };
 
 static int64_t microseconds(void) {
   struct timespec t;

@@ -86,6 +86,7 @@ impl fmt::Display for Status {
             404 => "the log takes no more",
             405 => "there is no transport",
             407 => "the key cannot be used",
+            408 => "another node writes the log",
             _ => return write!(f, "status {}", self.0),
         };
         f.write_str(text)
