@@ -58,8 +58,26 @@ static int run(void) {
   return 0;
 }
 
+/* Of more than 256 pages one that is lent to be written is made then; where that is refused it is not lent. Nothing else of
+ * lending takes memory. */
+static int lend(void) {
+  ivy_node own = IVY_NONE;
+  uint32_t taken, on;
+  if (ivy_open(&own, 2, 300, PAGE, IVY_FIXED, 0)) return 6;
+  until = 0;
+  if (ivy_lend(&own, 2, IVY_TO_WRITE) != IVY_MEMORY || ivy_give_back(&own, 2, IVY_UNLENT) != IVY_BAD_ARGUMENT) return 7;
+  if (ivy_lend(&own, 2, IVY_TO_WRITE) != IVY_DONE) return 8;
+  until = 0;
+  if (ivy_lend(&own, 4, IVY_TO_READ) != IVY_DONE || ivy_wanted(&own, NULL, 0, &taken, &on) != IVY_DONE) return 9;
+  if (ivy_give_back(&own, 2, IVY_TO_READ) != IVY_DONE || ivy_go_on(&own, 1, &taken, &on) != IVY_DONE || until) return 10;
+  until = -1;
+  ivy_close(&own);
+  return 0;
+}
+
 int main(void) {
-  int status = run();
+  int status = lend();
+  if (!status) status = run();
   long most = grown;
   for (long n = 0; !status && n < most; n++) {
     until = n;

@@ -281,8 +281,10 @@ uint32_t ivy_pulse(ivy_node *node, uint8_t peer);
  * Then the calls of all nodes, and all accesses to images, are of one flat memory. Threads of one process see one another's
  * accesses as their machine makes them; the order across nodes adds nothing weaker. Without d nodes may stand still, and no
  * answer is wrong. A string that answered WANTED was not delivered: until it is, whoever waits for it waits on. A page is
- * given back also while a call is in progress, but blocks do nothing then: so a driver keeps what was written before it
- * begins a call that may wait, and lets no program write until it is over.
+ * given back also while a call is in progress, but blocks do nothing then. So before a call that may wait a driver keeps each
+ * page that may have been written and that others may ask for meanwhile, and lets no program write these until it is over.
+ * Where each driver tells the others of a page before it first asks for it, these are the pages told of; else they are all.
+ * One that was not kept is given back after the call, so nodes may stand still.
  *
  * None of these has a turn. No string waits after ivy_lend, ivy_give_back and ivy_wanted that did not wait before, and of
  * these ivy_lend alone may take memory. A driver that keeps a log with a line for each call does not lend. */
