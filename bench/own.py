@@ -9,6 +9,7 @@ import sys
 import tempfile
 from collections.abc import Callable
 from dataclasses import dataclass
+from math import inf
 from pathlib import Path
 
 from apart import ROOT, Apart, ran
@@ -167,6 +168,11 @@ OWN = (
     Own("own-eight", "hit", 8_000_000, words("hits", 8), own("hits", 1), 3.4, units=16, other_units=2, least=True),
     Own("own-lock", "lock, unlock", 2_000_000, words("lock", 1), own("hits", 1), 4.0, other_units=2),
     Own("own-barrier", "meeting of 8", 1_000, words("barrier", 8), text(barrier), 1.3),
+    *(
+        Own(f"own-{form}-{nodes}", f"meeting of {nodes}", 1_000, words(f"{form}_barrier", nodes), own("barrier", nodes), inf)
+        for nodes in (2, 4, 8)
+        for form in ("word", "tree")
+    ),
     Own("own-queue", "number", 10_000, words("queue", 2), text(small_queue), 1.0),
     Own("own-queue-64", "number", 10_000, words("queue", 2), text(queue), 1.0),
     Own("own-sum", "addition of 4", 5_000, words("sum", SUMMING), text(sums), 1.0),
