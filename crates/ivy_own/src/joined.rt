@@ -1,8 +1,8 @@
 //! What the workers of the nodes give, one after another.
-ghost use Rattle.std.specs.Prelude.{◌≡◌, ◌<◌, ◌≤◌, ℕ, Some, IfErr, IfOk, IfSome, length, slice_get, vec_len, vec_capacity};
+ghost use Rattle.std.specs.Prelude.{◌≡◌, ◌<◌, ◌≤◌, ℕ, Some, IfErr, IfOk, IfSome, MatchResult, length, slice_get, vec_len, vec_capacity};
 ghost use Rattle.ivy_workers.specs.Stops.{IsStop};
 ghost use Rattle.ivy_own.specs.Ended.{HasEnded};
-ghost use Rattle.ivy_own.specs.Faults.{IsNamedIn, IsOwnStop};
+ghost use Rattle.ivy_own.specs.Faults.{IsNamedIn, IsOwnStop, StopsFor};
 
 use crate::fault::OwnFault;
 use crate::{Half, Naming};
@@ -23,7 +23,7 @@ pub(crate) struct Ended<T, J: Naming> {
 pub(crate) struct GivenUp {
     /// The fault with which it did.
     pub(crate) fault: Fault,
-    /// Whether the session stopped for that.
+    /// Whether the work did so of itself, and the session stopped for that.
     pub(crate) is_first: bool,
 }
 
@@ -40,10 +40,11 @@ impl<'w, W> Drop for Works<'w, W> {
 }
 
 impl<'w, W: Work, J: Naming> Promise<Result<Ended<W::Out, J>, GivenUp>> for Works<'w, W> {
-    ghost use Rattle.std.specs.Prelude.{IfOk};
+    ghost use Rattle.std.specs.Prelude.{MatchResult};
     ghost use Rattle.ivy_own.specs.Ended.{HasEnded};
+    ghost use Rattle.ivy_own.specs.Faults.{StopsFor};
 
-    ghost kept_by = { λ p r. IfOk r (λ e. HasEnded (W.done p.work.now) p.me e.mine e.out) };
+    ghost kept_by = { λ p r. MatchResult r (λ e. HasEnded (W.done p.work.now) p.me e.mine e.out) (StopsFor (W.gives_up p.work.now) p.me) };
 }
 
 /// What is joined for a worker.
@@ -63,7 +64,7 @@ pub(crate) fn join_all<J: Naming, W: Work, R: Threads, A: Allocator + Copy>(
     requires none { vec_len all ≡ 0 }
     requires room { vec_len handles ≤ vec_capacity all }
     ensures all { vec_len result ≡ vec_len handles.entry }
-    ensures done { (i : ℕ) (r : _) → slice_get result.items i ≡ Some r → IfOk r (λ ended. HasEnded (W.done work.now) i ended.mine ended.out) }
+    ensures given { (i : ℕ) (r : _) → slice_get result.items i ≡ Some r → MatchResult r (λ ended. HasEnded (W.done work.now) i ended.mine ended.out) (StopsFor (W.gives_up work.now) i) }
 {
     let _ = work;
     let mut all = all;
@@ -75,13 +76,16 @@ pub(crate) fn join_all<J: Naming, W: Work, R: Threads, A: Allocator + Copy>(
 }
 
 /// The node whose work gave up and so ended the session, if one did.
-pub(crate) fn first_given_up<T: Drop, J: Naming>(
-    all: &[Result<Ended<T, J>, GivenUp>],
+pub(crate) fn first_given_up<J: Naming, W: Work>(
+    work: &W,
+    all: &[Result<Ended<W::Out, J>, GivenUp>],
 ) -> Option<OwnFault>
-    requires { length all.now < 256 }
+    requires few { length all.now < 256 }
+    requires given { (i : ℕ) (r : _) → slice_get all.now i ≡ Some r → MatchResult r (λ ended. HasEnded (W.done work.now) i ended.mine ended.out) (StopsFor (W.gives_up work.now) i) }
     ensures named { IfSome result (IsNamedIn all.now) }
-    ensures stop { IfSome result (IsOwnStop (length all.now)) }
+    ensures stop { IfSome result (IsOwnStop (length all.now) (W.gives_up work.now)) }
 {
+    let _ = work;
     let mut node = 0u8;
     for given in all {
         if let Err(up) = given {
@@ -103,7 +107,7 @@ pub(crate) fn take_ended<J: Naming, W: Work, A: Allocator + Copy>(
     work: &W,
     all: Vec<Result<Ended<W::Out, J>, GivenUp>, A>,
 ) -> Result<Vec<Ended<W::Out, J>, A>, Fault>
-    requires done { (i : ℕ) (r : _) → slice_get all.items i ≡ Some r → IfOk r (λ ended. HasEnded (W.done work.now) i ended.mine ended.out) }
+    requires given { (i : ℕ) (r : _) → slice_get all.items i ≡ Some r → MatchResult r (λ ended. HasEnded (W.done work.now) i ended.mine ended.out) (StopsFor (W.gives_up work.now) i) }
     ensures all { IfOk result (λ ended. vec_len ended ≡ vec_len all) }
     ensures done { IfOk result (λ ended. (i : ℕ) (e : _) → slice_get ended.items i ≡ Some e → HasEnded (W.done work.now) i e.mine e.out) }
     ensures stop { IfErr result IsStop }

@@ -46,7 +46,7 @@ where
     requires few { vec_len mines < 256 }
     ensures all { IfOk result (λ all. vec_len all ≡ vec_len mines) }
     ensures done { IfOk result (λ all. (i : ℕ) (e : _) → slice_get all.items i ≡ Some e → HasEnded (W.done work.now) i e.mine e.out) }
-    ensures fault { IfErr result (IsOwnStop (vec_len mines)) }
+    ensures fault { IfErr result (IsOwnStop (vec_len mines) (W.gives_up work.now)) }
 {
     let shared = Shared::new(plan.rt, plan.alloc, seats.len(), plan.limits)?;
     let crew = Crew {
@@ -59,7 +59,7 @@ where
     let joined = run_crew(&crew, plan.alloc, tie, work, mines);
     let stop = shared.into_stop();
     let all = joined?;
-    if let Some(given_up) = first_given_up(&all) {
+    if let Some(given_up) = first_given_up(work, &all) {
         return Err(given_up);
     }
     if let Some(fault) = stop {
@@ -122,7 +122,7 @@ where
     requires enough { vec_len passes ≡ plan.now.config.nodes }
     ensures report { IfOk result (λ report. IsOwnReport S.config (W.done work.now) report.nodes report.outs.items) }
     ensures keep { IfOk result (λ report. AllKeep plan.now.keep report.nodes) }
-    ensures fault { IfErr result (IsOwnStop S.config.nodes) }
+    ensures fault { IfErr result (IsOwnStop S.config.nodes (W.gives_up work.now)) }
 {
     let (tie, mut lists) = opened.named::<J>();
     let mut starter = starter;
@@ -167,7 +167,7 @@ where
     requires enough { vec_len passes ≡ plan.now.config.nodes }
     ensures report { IfOk result (λ report. IsOwnReport S.config (W.done work.now) report.nodes report.outs.items) }
     ensures keep { IfOk result (λ report. AllKeep plan.now.keep report.nodes) }
-    ensures fault { IfErr result (IsOwnStop S.config.nodes) }
+    ensures fault { IfErr result (IsOwnStop S.config.nodes (W.gives_up work.now)) }
 {
     let Ok(opened) = Opened::new(plan.alloc) else {
         return Err(OwnFault::Session(Fault::Memory));
@@ -192,7 +192,7 @@ where
     requires capacity { 0 < plan.now.limits.capacity }
     ensures report { IfOk result (λ report. IsOwnReport S.config (W.done work.now) report.nodes report.outs.items) }
     ensures keep { IfOk result (λ report. AllKeep plan.now.keep report.nodes) }
-    ensures fault { IfErr result (IsOwnStop S.config.nodes) }
+    ensures fault { IfErr result (IsOwnStop S.config.nodes (W.gives_up work.now)) }
 {
     let capacity = plan.limits.capacity as usize;
     let passes = usize::from(plan.config.nodes) + 1;
@@ -207,8 +207,9 @@ where
 /// [1, 2, 17, 21]. The report has what each gave.
 ///
 /// By its own answers, which are its part of an order that one flat memory makes, each node has done what the work says.
-/// Where the work of a node gives up the session ends, and the fault names that node and its fault. It is 2 exactly where
-/// the configuration is out of the wide limits, or a limit of the run is out of its bounds.
+/// Where the work of a node gives up the session ends, and the fault names that node and its fault: one with which the work
+/// says that it gives up there. It is 2 exactly where the configuration is out of the wide limits, or a limit of the run is
+/// out of its bounds.
 pub fn run_with<A, R, G, W>(
     rt: &R,
     alloc: A,
@@ -225,7 +226,7 @@ where
     ensures report { IfOk result (λ report. IsOwnReport config (W.done work.now) report.nodes report.outs.items) }
     ensures bad { IsErrOf result (OwnFault.Session Fault.BadConfig) ↔ ¬ (IsConfig config × AreLimits limits) }
     ensures keep { IfOk result (λ report. AllKeep Keep.Nothing report.nodes) }
-    ensures fault { IfErr result (IsOwnFault config.nodes) }
+    ensures fault { IfErr result (IsOwnFault config.nodes (W.gives_up work.now)) }
 {
     run_with_keeping(rt, alloc, config, work, limits, gate, Keep::Nothing)
 }
@@ -248,7 +249,7 @@ where
     ensures report { IfOk result (λ report. IsOwnReport config (W.done work.now) report.nodes report.outs.items) }
     ensures bad { IsErrOf result (OwnFault.Session Fault.BadConfig) ↔ ¬ (IsConfig config × AreLimits limits) }
     ensures keep { IfOk result (λ report. AllKeep keep report.nodes) }
-    ensures fault { IfErr result (IsOwnFault config.nodes) }
+    ensures fault { IfErr result (IsOwnFault config.nodes (W.gives_up work.now)) }
 {
     if config.check_wide().is_err() || !limits.are_valid() {
         return Err(OwnFault::Session(Fault::BadConfig));

@@ -1,8 +1,9 @@
 //! The workers of a session of own code, two for each node.
-ghost use Rattle.std.specs.Prelude.{◌≡◌, ◌<◌, ℕ, [], Some, IfErr, IfOk, slice_get, vec_len};
+ghost use Rattle.std.specs.Prelude.{◌≡◌, ◌<◌, ℕ, [], Some, IfErr, IfOk, MatchResult, slice_get, vec_len};
 ghost use Rattle.ivy_own.specs.Known.{listed};
 ghost use Rattle.ivy_workers.specs.Stops.{IsStop};
 ghost use Rattle.ivy_own.specs.Ended.{AreFresh, HasEnded};
+ghost use Rattle.ivy_own.specs.Faults.{StopsFor};
 
 use crate::joined::{Ended, GivenUp, Works, join_all};
 use crate::memory::OwnMemory;
@@ -16,6 +17,12 @@ use std::alloc::Allocator;
 use std::sync::{Mutex, Wait};
 use std::thread;
 use std::thread::Threads;
+
+/// That a worker stopped, and its work did not give up of itself.
+const CUT_OFF: GivenUp = GivenUp {
+    fault: Fault::TurnLimit,
+    is_first: false,
+};
 
 /// Does the work of a node, whose place this is. Where it gives up the session stops.
 fn run_work<T, J, A, R, G, W>(
@@ -34,17 +41,20 @@ where
     G: Turnstile,
     W: Work,
     requires { mine ≡ listed me [] }
-    ensures { IfOk result (λ ended. HasEnded (W.done work.now) me ended.mine ended.out) }
+    ensures { MatchResult result (λ ended. HasEnded (W.done work.now) me ended.mine ended.out) (StopsFor (W.gives_up work.now) me) }
 {
     match do_work(crew, tie, work, me, seat, mine) {
         Ok(ended) => {
             crew.shared.end(crew.rt);
             Ok(ended)
         }
-        Err(fault) => Err(GivenUp {
-            fault,
-            is_first: crew.shared.stop(crew.rt, Fault::TurnLimit),
-        }),
+        Err(up) => {
+            let stops = crew.shared.stop(crew.rt, Fault::TurnLimit);
+            Err(GivenUp {
+                fault: up.fault,
+                is_first: stops && up.is_first,
+            })
+        }
     }
 }
 
@@ -56,7 +66,7 @@ fn do_work<T, J, A, R, G, W>(
     me: u8,
     seat: &Mutex<T>,
     mine: Half<Answer, J>,
-) -> Result<Ended<W::Out, J>, Fault>
+) -> Result<Ended<W::Out, J>, GivenUp>
 where
     T: OwnSeat<J, A>,
     J: Naming,
@@ -65,20 +75,23 @@ where
     G: Turnstile,
     W: Work,
     requires { mine ≡ listed me [] }
-    ensures { IfOk result (λ ended. HasEnded (W.done work.now) me ended.mine ended.out) }
+    ensures { MatchResult result (λ ended. HasEnded (W.done work.now) me ended.mine ended.out) (StopsFor (W.gives_up work.now) me) }
 {
     let Some(worker) = crew.program_worker(seat, me) else {
-        return Err(Fault::TurnLimit);
+        return Err(CUT_OFF);
     };
     let mut memory = OwnMemory::new(worker, Side::new(tie, mine, me));
-    let out = work.work(me, &mut memory)?;
-    if memory.me() != me {
-        return Err(Fault::TurnLimit);
+    match work.work(me, &mut memory) {
+        Ok(out) if memory.me() == me => Ok(Ended {
+            mine: memory.into_mine(),
+            out,
+        }),
+        Ok(_) => Err(CUT_OFF),
+        Err(fault) => Err(GivenUp {
+            fault,
+            is_first: true,
+        }),
     }
-    Ok(Ended {
-        mine: memory.into_mine(),
-        out,
-    })
 }
 
 /// Runs two workers for each node, and joins them all.
@@ -99,7 +112,7 @@ where
     requires fresh { AreFresh mines.items }
     requires few { vec_len mines < 256 }
     ensures all { IfOk result (λ all. vec_len all ≡ vec_len mines) }
-    ensures done { IfOk result (λ all. (i : ℕ) (r : _) → slice_get all.items i ≡ Some r → IfOk r (λ ended. HasEnded (W.done work.now) i ended.mine ended.out)) }
+    ensures given { IfOk result (λ all. (i : ℕ) (r : _) → slice_get all.items i ≡ Some r → MatchResult r (λ ended. HasEnded (W.done work.now) i ended.mine ended.out) (StopsFor (W.gives_up work.now) i)) }
     ensures stop { IfErr result IsStop }
 {
     thread::scope(
@@ -109,7 +122,7 @@ where
             requires fresh { AreFresh mines.items }
             requires few { vec_len mines < 256 }
             ensures all { IfOk result (λ all. vec_len all ≡ vec_len mines) }
-            ensures done { IfOk result (λ all. (i : ℕ) (r : _) → slice_get all.items i ≡ Some r → IfOk r (λ ended. HasEnded (W.done work.entry.now) i ended.mine ended.out)) }
+            ensures given { IfOk result (λ all. (i : ℕ) (r : _) → slice_get all.items i ≡ Some r → MatchResult r (λ ended. HasEnded (W.done work.entry.now) i ended.mine ended.out) (StopsFor (W.gives_up work.entry.now) i)) }
             ensures stop { IfErr result IsStop }
         {
             let mut handles = Vec::with_capacity(alloc, mines.len())?;
@@ -123,7 +136,7 @@ where
                 let works = Works { work, me };
                 let one = move || -> Result<Ended<W::Out, J>, GivenUp>
                     requires { mine ≡ listed me [] }
-                    ensures { IfOk result (λ ended. HasEnded (W.done work.entry.now) me ended.mine ended.out) }
+                    ensures { MatchResult result (λ ended. HasEnded (W.done work.entry.now) me ended.mine ended.out) (StopsFor (W.gives_up work.entry.now) me) }
                 { run_work(crew, tie, work, me, seat, mine) };
                 let wire = scope.spawn(move || crew.run_wire(seat, me));
                 let Ok(handle) = scope.spawn_with(works, one) else {

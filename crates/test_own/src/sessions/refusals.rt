@@ -13,11 +13,14 @@ use test_support::Failing;
 struct OneGivesUp;
 
 impl Work for OneGivesUp {
-    ghost use Rattle.std.specs.Prelude.{◌≢◌};
+    ghost use Rattle.std.specs.Prelude.{◌≡◌, ◌≢◌};
+    ghost use Rattle.ivy_model.specs.declared.fault.Fault.TheVariants.{CountFull};
 
     type Out = ();
 
     ghost done = { λ _ me _ _. me ≢ 1 };
+
+    ghost gives_up = { λ _ me _ fault. me ≡ 1 → fault ≡ CountFull };
 
     fn work<M: SharedMemory>(&self, me: u8, memory: &mut M) -> Result<(), Fault> {
         if me == 1 {

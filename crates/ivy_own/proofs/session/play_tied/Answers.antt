@@ -13,7 +13,10 @@ pub returns-in_err-all-clause-fault : goal.returns-in_err-all-clause-fault
 returns-in_err-all-clause-fault g c =
     let many : vec_len c.in_ok-seats.field-0.mines ≡ g.S.Setup.config.nodes =
     c.in_ok-seats.ensures.mines ∙ ap (λ (k : Config). k.nodes) c.requires.config in
-    subst (λ n. IfErr c.from_residual-in_err-all.result (IsOwnStop n)) many (search rules)
+    subst
+    (λ n. IfErr c.from_residual-in_err-all.result
+    (IsOwnStop n (g.W.Work.gives_up c.args.work.now)))
+    many (search rules)
 
 pub collect-requires-clause-nodes : goal.collect-requires-clause-nodes
 collect-requires-clause-nodes g c = λ lifetimes outlives.

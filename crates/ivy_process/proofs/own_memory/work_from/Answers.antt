@@ -1,5 +1,5 @@
 use Rattle.std.proofs.Common.{◌∙◌, length, ap, sym, subst}
-use Rattle.std.specs.Prelude.{IfOk}
+use Rattle.std.specs.Prelude.{MatchResult}
 use Rattle.std.proofs.lemmas.Result.{IfOk-from_err}
 use Rattle.ivy_process.specs.OwnNodes.{Begun, begun, HasResumed}
 use Rattle.ivy_logs.specs.Entries.{answers_in}
@@ -30,7 +30,10 @@ returns g c =
     has-worked done c.args.past.now.entries.items last.answered c.args.node last.node worked.node
     (L c.args.streams.log) (L last.streams.log) (L worked.log) told worked.gave resumed went many
     (subst (λ me. done me told worked.gave) c.me-me.ensures
-    (subst (λ r. IfOk r (λ out. done c.me-me.result told out)) gave c.work-gave.ensures)))
+    (subst
+    (λ r. MatchResult r (λ out. done c.me-me.result told out)
+    (λ fault. g.W.Work.gives_up c.args.work.now c.me-me.result told fault))
+    gave c.work-gave.ensures)))
     c.finish.ensures.gave c.finish.ensures.went c.finish.ensures.told
 
 pub returns-in_err-service : goal.returns-in_err-service
