@@ -8,3 +8,4 @@ mod Ending
 mod Ends
 mod Counting
 mod Drawing
+mod Listing

@@ -1,5 +1,5 @@
 -- A play that goes on.
-use Rattle.std.proofs.Common.{◌≡◌, ◌≢◌, ℕ, zero, suc, List, [], ◌∷◌, ◌++◌, Result, Ok, Err, OnErr, append-nil, refl, sym, ap, subst, ◌∙◌}
+use Rattle.std.proofs.Common.{◌≡◌, ◌≢◌, ℕ, zero, suc, List, [], ◌∷◌, ◌++◌, Result, Ok, Err, OnErr, append-nil, append_assoc, refl, sym, ap, subst, ◌∙◌}
 use Rattle.std.specs.Prelude.{IfOk}
 use Rattle.ivy_model.specs.declared.Call.{Call}
 use Rattle.ivy_model.specs.declared.Config.{Config}
@@ -18,7 +18,7 @@ use Rattle.ivy_world.specs.HandedWorlds.{BeginsBlock, BeginsTogether, run_handed
 use Rattle.ivy_world.specs.stated.Runs.{IsSameRun}
 use Rattle.ivy_world.specs.Settling.{HasSettled}
 use Rattle.ivy_play.specs.declared.handed.Handed.{Handed}
-use Rattle.ivy_play.specs.Played.{Step, Calls, Makes, moves_in, with_world, PlaysTo, own_opening, IsPlayed, IsStillWhere}
+use Rattle.ivy_play.specs.Played.{Step, Calls, Makes, moves_in, with_world, PlaysTo, own_opening, Moment, HasGoneOn, LeadsOn, IsPlayed, IsStillWhere}
 
 -- what is done after other steps
 pub plays_on : (r mid end : Run) (first more : List Step) → PlaysTo r first mid
@@ -50,55 +50,67 @@ played_opening c moves r none is = record {
   config = ap (λ (x : Run). x.config) is;
 }
 
+made_more : (before : List Move) (steps : List Step) (s : Step) (moves : List Move)
+    → before ++ moves_in steps ≡ moves
+    → before ++ moves_in (steps ++ s ∷ []) ≡ moves ++ moves_in (s ∷ [])
+made_more before steps s moves made =
+    ap (λ l. before ++ l) (moves_more steps s)
+    ∙ sym (append_assoc before (moves_in steps) (moves_in (s ∷ [])))
+    ∙ ap (λ l. l ++ moves_in (s ∷ [])) made
+
 -- one move more
-pub played_move : (c : Config) (moves more : List Move) (m : Move) (old new : Run)
+pub played_move : (moves more : List Move) (m : Move) (old new : Run)
     → more ≡ moves ++ m ∷ [] → IsSameRun old new
-    → Moves (host_rules managed_ops) old.config old.world m new.world → IsPlayed c moves old
-    → IsPlayed c more new
-played_move c moves more m old new is same made p =
+    → Moves (host_rules managed_ops) old.config old.world m new.world → LeadsOn moves old more new
+played_move moves more m old new is same made past p =
     record {
       steps = p.steps ++ Makes m ∷ [];
-      made = moves_more p.steps (Makes m) ∙ ap (λ l. l ++ m ∷ []) p.made ∙ sym is;
-      plays = plays_on (own_opening c) old new p.steps (Makes m ∷ []) p.plays
+      made = made_more past.moves p.steps (Makes m) moves p.made ∙ sym is;
+      plays = plays_on past.run old new p.steps (Makes m ∷ []) p.plays
           (new.world, made, went_on old new same);
       config = same.0 ∙ p.config;
     }
 
 -- calls that are made together
-pub played_calls : (c : Config) (moves : List Move) (i : ℕ) (calls : List Call) (old new : Run)
-    → new ≡ run_handed i (calls ∷ []) old → IsPlayed c moves old → IsPlayed c moves new
-played_calls c moves i calls old new is p = record {
+pub played_calls : (moves : List Move) (i : ℕ) (calls : List Call) (old new : Run)
+    → new ≡ run_handed i (calls ∷ []) old → LeadsOn moves old moves new
+played_calls moves i calls old new is past p = record {
   steps = p.steps ++ Calls i calls ∷ [];
-  made = moves_more p.steps (Calls i calls) ∙ append-nil (moves_in p.steps) ∙ p.made;
-  plays = plays_on (own_opening c) old new p.steps (Calls i calls ∷ []) p.plays is;
+  made = made_more past.moves p.steps (Calls i calls) moves p.made ∙ append-nil moves;
+  plays = plays_on past.run old new p.steps (Calls i calls ∷ []) p.plays is;
   config = ap (λ (x : Run). x.config) is ∙ p.config;
 }
 
+-- nothing was done
+pub played_same : (moves more : List Move) (old new : Run) → more ≡ moves → new ≡ old
+    → LeadsOn moves old more new
+played_same moves more old new is same past p =
+    subst (λ l. HasGoneOn past l new) (sym is) (subst (HasGoneOn past moves) (sym same) p)
+
 -- one call more, where it was not refused
-pub played_hand : (c : Config) (moves : List Move) (i : ℕ) (old new : Run) (r : Result Handed Fault)
+pub played_hand : (moves : List Move) (i : ℕ) (old new : Run) (r : Result Handed Fault)
     → IfOk r (λ h. new ≡ run_handed i ((h.call ∷ []) ∷ []) old) → OnErr r (new ≡ old)
-    → IsPlayed c moves old → IsPlayed c moves new
-played_hand c moves i old new (Ok h) ok err p = played_calls c moves i (h.call ∷ []) old new ok p
-played_hand c moves i old new (Err e) ok err p = subst (IsPlayed c moves) (sym err) p
+    → LeadsOn moves old moves new
+played_hand moves i old new (Ok h) ok err = played_calls moves i (h.call ∷ []) old new ok
+played_hand moves i old new (Err e) ok err = played_same moves moves old new refl err
 
 -- calls that are made together, and the turn in which they begin
-played_begun : (c : Config) (moves more : List Move) (i : ℕ) (calls : List Call) (old new : Run)
-    → more ≡ moves ++ Turn i ∷ [] → BeginsTogether i calls old new → IsPlayed c moves old
-    → IsPlayed c more new
-played_begun c moves more i calls old new is begun p =
+played_begun : (moves more : List Move) (i : ℕ) (calls : List Call) (old new : Run)
+    → more ≡ moves ++ Turn i ∷ [] → BeginsTogether i calls old new → LeadsOn moves old more new
+played_begun moves more i calls old new is begun past p =
     let mid : Run = run_handed i (calls ∷ []) old in
-    played_move c moves more (Turn i) mid new is begun.turn.stays begun.turn.moves
-    (played_calls c moves i calls old mid refl p)
+    played_move moves more (Turn i) mid new is begun.turn.stays begun.turn.moves past
+    (played_calls moves i calls old mid refl past p)
 
 -- so many words of a row
-pub played_block : (c : Config) (moves more : List Move) (i : ℕ) (kind : Row) (addr n : ℕ)
+pub played_block : (moves more : List Move) (i : ℕ) (kind : Row) (addr n : ℕ)
     (bytes : List ℕ) (old new : Run) → n ≢ 0 → more ≡ moves ++ Turn i ∷ []
-    → BeginsBlock i (calls_of (row kind 0 addr (numbers_in n bytes))) old new → IsPlayed c moves old
-    → IsPlayed c more new
-played_block c moves more i kind addr zero bytes old new some is begun p = absurd (some refl)
-played_block c moves more i kind addr (suc n) bytes old new some is begun p =
-    played_begun c moves more i (calls_of (row kind 0 addr (numbers_in (suc n) bytes))) old new is
-    begun p
+    → BeginsBlock i (calls_of (row kind 0 addr (numbers_in n bytes))) old new
+    → LeadsOn moves old more new
+played_block moves more i kind addr zero bytes old new some is begun past p = absurd (some refl)
+played_block moves more i kind addr (suc n) bytes old new some is begun past p =
+    played_begun moves more i (calls_of (row kind 0 addr (numbers_in (suc n) bytes))) old new is
+    begun past p
 
 -- nothing is said of a world that goes on
 pub going : (rest : Rest) (r : Run) → rest ≡ Going → IsStillWhere rest r

@@ -4,3 +4,4 @@ pub mod Played
 pub mod Reports
 pub mod Endings
 pub mod Ends
+pub mod SeedPlays

@@ -72,12 +72,29 @@ own_opening c = record {
   world = opening managed_ops c (own_code c.nodes);
 }
 
--- exactly these moves, with calls between them, lead from there to this world
-pub record IsPlayed (c : Config) (moves : List Move) (r : Run) : Type 0 where
+-- a moment of a play: the moves that were made, and the world
+pub record Moment : Type 0 where
+  pub moves : List Move
+  pub run : Run
+
+-- before any move and any call
+abbrev pub first_moment : Config → Moment
+first_moment c = record { moves = []; run = own_opening c }
+
+-- from that moment on exactly the moves behind its own, with calls between them, lead to this world
+pub record HasGoneOn (past : Moment) (moves : List Move) (r : Run) : Type 0 where
   pub steps : List Step
-  pub made : moves_in steps ≡ moves
-  pub plays : PlaysTo (own_opening c) steps r
-  pub config : r.config ≡ c
+  pub made : past.moves ++ moves_in steps ≡ moves
+  pub plays : PlaysTo past.run steps r
+  pub config : r.config ≡ past.run.config
+
+-- what led to the one world leads on to the other
+abbrev pub LeadsOn : List Move → Run → List Move → Run → Type 0
+LeadsOn old before new after = (past : Moment) → HasGoneOn past old before → HasGoneOn past new after
+
+-- exactly these moves, with calls between them, lead from the opening to this world
+abbrev pub IsPlayed : Config → List Move → Run → Type 0
+IsPlayed c moves r = HasGoneOn (first_moment c) moves r
 
 -- So many of the moves are drawn ones, or listed ones, or go with such a one: the others let the world
 -- settle. These are at most so many, and the turns of one row besides: that lies in one page, so it

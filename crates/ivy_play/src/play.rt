@@ -1,9 +1,9 @@
 //! Own code in a world whose moves are drawn, or listed.
-ghost use Rattle.std.specs.Prelude.{◌≡◌, ◌↔◌, ℕ, Some, IsErrOf, IfErr, IfOk, MatchResult, slice_get, take, vec_len};
+ghost use Rattle.std.specs.Prelude.{◌≡◌, ◌↔◌, ◌≤◌, ℕ, Some, IsErrOf, IfErr, IfOk, MatchResult, slice_get, take, vec_len};
 ghost use Rattle.ivy_model.specs.stated.Config.{IsConfig};
 ghost use Rattle.ivy_play.specs.Faults.{IsPlayFault, IsPlayStop};
 ghost use Rattle.ivy_play.specs.Ends.{HasEnded, HasGivenUp};
-ghost use Rattle.ivy_play.specs.Given.{AreAmong};
+ghost use Rattle.ivy_play.specs.Given.{AreAmong, AreDrawn, seed_moves};
 ghost use Rattle.ivy_play.specs.Played.{HasDrawn, own_opening};
 ghost use Rattle.ivy_play.specs.Reports.{IsPlayReport};
 ghost use Rattle.ivy_play.specs.Endings.{ComesToRest};
@@ -39,7 +39,7 @@ fn close<S: Setting, A: Allocator + Copy, M: MoveSource + Drop, W: Work>(
     ensures report { IfOk result (λ report. IsPlayReport S.config (W.done work.now) report.moves.items report.world report.outcomes.items report.rest) }
     ensures rests { IfOk result (λ report. ComesToRest S.config settle report.moves.items report.drawn report.world.world report.outcomes.items report.rest) }
     ensures drawn { IfOk result (λ report. HasDrawn S.config settle report.moves.items report.drawn) }
-    ensures given { IfOk result (λ report. AreAmong S.gives (take report.drawn report.moves.items)) }
+    ensures given { IfOk result (λ report. AreDrawn S.config S.gives report.moves.items report.drawn report.world) }
     ensures stand { IfOk result (λ report. (i : ℕ) (outcome : _) → slice_get report.outcomes.items i ≡ Some outcome → (r : _) → slice_get all.items i ≡ Some r → MatchResult r (λ ended. HasEnded report.world.world i ended.answers.items ended.is_cut ended.out outcome) (λ up. HasGivenUp report.world.world i up outcome)) }
     ensures stop { IfErr result IsPlayStop }
 {
@@ -94,7 +94,7 @@ where
     ensures report { IfOk result (λ report. IsPlayReport S.config (W.done work.now) report.moves.items report.world report.outcomes.items report.rest) }
     ensures rests { IfOk result (λ report. ComesToRest S.config settle report.moves.items report.drawn report.world.world report.outcomes.items report.rest) }
     ensures drawn { IfOk result (λ report. HasDrawn S.config settle report.moves.items report.drawn) }
-    ensures given { IfOk result (λ report. AreAmong S.gives (take report.drawn report.moves.items)) }
+    ensures given { IfOk result (λ report. AreDrawn S.config S.gives report.moves.items report.drawn report.world) }
     ensures stop { IfErr result IsPlayStop }
 {
     let Opening { config, world } = opening;
@@ -119,8 +119,8 @@ where
 /// The words of a row that lie in one page are answered with no other move between them where that page is at hand, each by a
 /// turn of its node. These turns go with the one before which the work made the row, and all are among the moves of the
 /// report. Those of them that the source asks for next were made already, and are not made again: so the moves, listed, play
-/// the same. In settling there can be more moves by those that go with the last one. The moves that the source gives whatever
-/// the world are among the drawn ones, in their order.
+/// the same. In settling there can be more moves by those that go with the last one. The moves that the source gives are
+/// among the drawn ones, in their order, each as it was given at a moment of the play.
 ///
 /// One legal order of records explains what all nodes were answered, and each work that has ended has done what it says,
 /// with exactly its node's part of that order as what it was answered. It is 2 exactly where the configuration is out of
@@ -141,7 +141,7 @@ where
     ensures report { IfOk result (λ report. IsPlayReport config (W.done work.now) report.moves.items report.world report.outcomes.items report.rest) }
     ensures rests { IfOk result (λ report. ComesToRest config settle report.moves.items report.drawn report.world.world report.outcomes.items report.rest) }
     ensures drawn { IfOk result (λ report. HasDrawn config settle report.moves.items report.drawn) }
-    ensures given { IfOk result (λ report. AreAmong (M.gives source) (take report.drawn report.moves.items)) }
+    ensures given { IfOk result (λ report. AreDrawn config (M.gives source) report.moves.items report.drawn report.world) }
     ensures bad { IsErrOf result Fault.BadConfig ↔ ¬ IsConfig config }
     ensures fault { IfErr result IsPlayFault }
 {
@@ -167,6 +167,8 @@ where
     ensures report { IfOk result (λ report. IsPlayReport config (W.done work.now) report.moves.items report.world report.outcomes.items report.rest) }
     ensures rests { IfOk result (λ report. ComesToRest config settle report.moves.items report.drawn report.world.world report.outcomes.items report.rest) }
     ensures drawn { IfOk result (λ report. HasDrawn config settle report.moves.items report.drawn) }
+    ensures given { IfOk result (λ report. AreDrawn config (seed_moves seed moves) report.moves.items report.drawn report.world) }
+    ensures many { IfOk result (λ report. moves ≤ report.drawn) }
     ensures bad { IsErrOf result Fault.BadConfig ↔ ¬ IsConfig config }
     ensures fault { IfErr result IsPlayFault }
 {

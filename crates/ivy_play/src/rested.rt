@@ -2,7 +2,7 @@
 ghost use Rattle.std.specs.Prelude.{◌≡◌, ◌-◌, ◌+◌, ◌≤◌, ◌<◌, ◌↔◌, false, length, max, take, IfErr, IfOk, IsTrue, OnOk};
 ghost use Rattle.ivy_model.specs.declared.Config.{Config};
 ghost use Rattle.ivy_play.specs.Faults.{IsPlayStop};
-ghost use Rattle.ivy_play.specs.Played.{HasDrawn, IsPlayed, IsStillWhere};
+ghost use Rattle.ivy_play.specs.Played.{HasDrawn, IsStillWhere, LeadsOn};
 ghost use Rattle.ivy_play.specs.Endings.{AreWaiting, ComesToRest, HaveSameCores, IsWaiting};
 
 use crate::report::Outcome;
@@ -54,7 +54,7 @@ fn spend<A: Allocator + Copy>(
     most: u64,
 ) -> Result<(), Fault>
     requires { drawn ≤ length moves.old.items }
-    ensures played { (c : Config) → IsPlayed c moves.old.items world.old → IsPlayed c moves.new.items world.new }
+    ensures played { LeadsOn moves.old.items world.old moves.new.items world.new }
     ensures cores { HaveSameCores world.old.world world.new.world }
     ensures config { world.new.config ≡ world.old.config }
     ensures spent { IfOk result (λ _. most ≤ length moves.new.items - drawn) }
@@ -79,7 +79,7 @@ pub(crate) fn rested<T, A: Allocator + Copy>(
 ) -> Result<Played<A>, Fault>
     requires count { length outcomes.now ≡ played.world.config.nodes }
     requires within { played.drawn ≤ length played.moves.items }
-    ensures played { (c : Config) → IsPlayed c played.moves.items played.world → IfOk result (λ p. IsPlayed c p.moves.items p.world) }
+    ensures played { IfOk result (λ p. LeadsOn played.moves.items played.world p.moves.items p.world) }
     ensures still { IsStillWhere played.rest played.world → IfOk result (λ p. IsStillWhere p.rest p.world) }
     ensures cores { IfOk result (λ p. HaveSameCores played.world.world p.world.world) }
     ensures config { IfOk result (λ p. p.world.config ≡ played.world.config) }

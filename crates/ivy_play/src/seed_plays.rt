@@ -1,9 +1,10 @@
 //! Plays by many seeds.
-ghost use Rattle.std.specs.Prelude.{IfErr, IfOk, IfSome};
+ghost use Rattle.std.specs.Prelude.{◌≤◌, IfErr, IfOk, IfSome};
 ghost use Rattle.ivy_play.specs.Faults.{IsPlayFault};
 ghost use Rattle.ivy_play.specs.Endings.{ComesToRest};
 ghost use Rattle.ivy_play.specs.Played.{HasDrawn};
 ghost use Rattle.ivy_play.specs.Reports.{IsPlayReport};
+ghost use Rattle.ivy_play.specs.SeedPlays.{FailsBySeed};
 
 use crate::checks::Check;
 use crate::shorter::{ShorterPlay, shortest};
@@ -55,6 +56,8 @@ where
     ensures rests { IfOk result (λ found. IfSome found (λ failing. ComesToRest config seeds.settle failing.shorter.report.moves.items failing.shorter.report.drawn failing.shorter.report.world.world failing.shorter.report.outcomes.items failing.shorter.report.rest)) }
     ensures drawn { IfOk result (λ found. IfSome found (λ failing. HasDrawn config seeds.settle failing.shorter.report.moves.items failing.shorter.report.drawn)) }
     ensures fails { IfOk result (λ found. IfSome found (λ failing. F.fails check.now failing.shorter.report.outcomes.items)) }
+    ensures seed { IfOk result (λ found. IfSome found (λ failing. (seeds.first ≤ failing.seed) × (failing.seed ≤ seeds.last))) }
+    ensures seed_fails { IfOk result (λ found. IfSome found (λ failing. FailsBySeed config (W.done work.now) failing.seed seeds.moves seeds.settle (F.fails check.now))) }
     ensures fault { IfErr result IsPlayFault }
 {
     for seed in seeds.first..=seeds.last {

@@ -1,5 +1,7 @@
 //! Where the moves of a play come from.
 ghost use Rattle.std.specs.Prelude.{◌≡◌};
+ghost use Rattle.ivy_texts.specs.Drawn.{drawn};
+ghost use Rattle.ivy_play.specs.Given.{always, seed_moves};
 
 use ivy_model::Fault;
 use ivy_texts::{draw, generator_of};
@@ -10,16 +12,15 @@ use std::alloc::Allocator;
 /// Where the moves of a play come from.
 pub trait MoveSource {
     ghost use Rattle.std.specs.Prelude.{◌≡◌, List, IfErr, IfOk};
-    ghost use Rattle.ivy_moves.specs.declared.Move.{Move};
     ghost use Rattle.ivy_play.specs.Faults.{IsPlayStop};
-    ghost use Rattle.ivy_play.specs.Given.{GivesNext};
+    ghost use Rattle.ivy_play.specs.Given.{GivesNext, Giving};
 
-    /// The moves that it gives next, whatever the world; none where the world decides.
-    ghost gives: { Self → List Move };
+    /// The moves that it gives next, each by the world in which it is asked for. Where none is left it may give any.
+    ghost gives: { Self → List Giving };
 
     /// The next move in this world, or none at the end [1].
     fn next<A: Allocator + Copy>(&mut self, world: &World<A>) -> Result<Option<Move>, Fault>
-        ensures next { IfOk result (λ step. GivesNext (gives self.old) step (gives self.new)) }
+        ensures next { IfOk result (λ step. GivesNext (gives self.old) world.now step (gives self.new)) }
         ensures same { IfErr result (λ _. gives self.new ≡ gives self.old) }
         ensures stop { IfErr result IsPlayStop };
 }
@@ -34,7 +35,9 @@ pub struct Drawn {
 
 impl Drawn {
     /// So many moves of this seed.
-    pub fn new(seed: u64, moves: u64) -> Drawn {
+    pub fn new(seed: u64, moves: u64) -> Drawn
+        ensures { ⟦<Drawn as MoveSource>⟧.gives result ≡ seed_moves seed moves }
+    {
         Drawn {
             generator: generator_of(seed),
             left: moves,
@@ -43,16 +46,18 @@ impl Drawn {
 }
 
 /// Draws a move in a world.
-fn next_drawn<A: Allocator + Copy>(generator: &mut Lcg64Xsh32, world: &World<A>) -> Move {
+fn next_drawn<A: Allocator + Copy>(generator: &mut Lcg64Xsh32, world: &World<A>) -> Move
+    ensures { (result, generator.new) ≡ drawn world.now.config.nodes world.now.world.sent generator.old }
+{
     // for the proof: what holds of a world at every moment
     world.keeps();
     draw(generator, world.nodes() as u8, world.sent())
 }
 
 impl MoveSource for Drawn {
-    ghost use Rattle.std.specs.Prelude.{[]};
+    ghost use Rattle.ivy_play.specs.Given.{moves_of};
 
-    ghost gives = { λ _. [] };
+    ghost gives = { λ d. moves_of d.left d.generator };
 
     fn next<A: Allocator + Copy>(&mut self, world: &World<A>) -> Result<Option<Move>, Fault> {
         if self.left == 0 {
@@ -73,7 +78,7 @@ pub struct Listed<'m> {
 impl<'m> Listed<'m> {
     /// These moves.
     pub fn new(moves: &'m [Move]) -> Listed<'m>
-        ensures { ⟦<Listed<'m> as MoveSource>⟧.gives result ≡ moves.now }
+        ensures { ⟦<Listed<'m> as MoveSource>⟧.gives result ≡ always moves.now }
     {
         Listed { moves, made: 0 }
     }
@@ -81,8 +86,9 @@ impl<'m> Listed<'m> {
 
 impl MoveSource for Listed<'_> {
     ghost use Rattle.std.specs.Prelude.{drop};
+    ghost use Rattle.ivy_play.specs.Given.{always};
 
-    ghost gives = { λ l. drop l.made l.moves.now };
+    ghost gives = { λ l. always (drop l.made l.moves.now) };
 
     fn next<A: Allocator + Copy>(&mut self, _world: &World<A>) -> Result<Option<Move>, Fault> {
         let Some(step) = self.moves.get(self.made) else {

@@ -11,8 +11,8 @@ ghost use Rattle.ivy_world.specs.WorldRounds.{DoesNothing};
 ghost use Rattle.ivy_world.specs.stated.Runs.{IsSameRun};
 ghost use Rattle.ivy_world.specs.Settling.{HasSettled};
 ghost use Rattle.ivy_play.specs.Faults.{IsPlayStop, IsUnanswered};
-ghost use Rattle.ivy_play.specs.Given.{AreAmong, HoldsOn};
-ghost use Rattle.ivy_play.specs.Played.{HasDrawn, IsPlayed, IsAnsweredAt, IsStillWhere, own_opening};
+ghost use Rattle.ivy_play.specs.Given.{AreDrawn, HoldsOn};
+ghost use Rattle.ivy_play.specs.Played.{HasDrawn, IsPlayed, IsAnsweredAt, IsStillWhere, LeadsOn, own_opening};
 
 use crate::ahead::Ahead;
 use crate::budget::Budget;
@@ -24,18 +24,18 @@ use ivy_world::{Move, Rest, World};
 use std::alloc::Allocator;
 use std::marker::{Brand, Model, PhantomData};
 
-/// Names the configuration of a play, how many moves may let its world settle, and the moves that its source gives whatever
-/// the world. Whoever begins one picks them, at `Brand`.
+/// Names the configuration of a play, how many moves may let its world settle, and the moves that its source gives. Whoever
+/// begins one picks them, at `Brand`.
 pub trait Setting {
     ghost use Rattle.std.specs.Prelude.{ℕ, List};
     ghost use Rattle.ivy_model.specs.declared.Config.{Config};
-    ghost use Rattle.ivy_moves.specs.declared.Move.{Move};
+    ghost use Rattle.ivy_play.specs.Given.{Giving};
 
     ghost config: { Config };
 
     ghost settle: { ℕ };
 
-    ghost gives: { List Move };
+    ghost gives: { List Giving };
 }
 
 impl Setting for Brand {
@@ -81,7 +81,7 @@ pub(crate) fn play_move<A: Allocator + Copy>(
     ensures listed { OnOk result (moves.new.items ≡ moves.old.items ++ step ∷ []) }
     ensures longer { OnOk result (length moves.new.items ≡ length moves.old.items + 1) }
     ensures refused { OnErr result ((world.new ≡ world.old) × (moves.new.items ≡ moves.old.items)) }
-    ensures played { (c : Config) → IsPlayed c moves.old.items world.old → IsPlayed c moves.new.items world.new }
+    ensures played { LeadsOn moves.old.items world.old moves.new.items world.new }
     ensures stop { IfErr result IsPlayStop }
 {
     moves.reserve(1)?;
@@ -95,7 +95,7 @@ fn find_still<A: Allocator + Copy>(
     world: &mut World<A>,
     moves: &mut Vec<Move, A>,
 ) -> Result<bool, Fault>
-    ensures played { (c : Config) → IsPlayed c moves.old.items world.old → IsPlayed c moves.new.items world.new }
+    ensures played { LeadsOn moves.old.items world.old moves.new.items world.new }
     ensures more { (more : List Move) × (moves.new.items ≡ moves.old.items ++ more) }
     ensures still { result ≡ Ok true → HasSettled world.new }
     ensures longer { length moves.old.items ≤ length moves.new.items }
@@ -153,7 +153,7 @@ impl<S: Setting, A: Allocator, M: MoveSource> Model for Stage<S, A, M> {
 
     ghost view = { λ _. tt };
 
-    ghost invariant = { λ s. IsPlayed S.config s.moves.items s.world × IsStillWhere s.rest s.world × IsConfig s.config × (s.config ≡ S.config) × (s.budget.most ≡ S.settle) × HasDrawn S.config S.settle s.moves.items s.budget.drawn × IsGiven S.gives s.moves.items s.budget s.ahead s.held (M.gives s.source) };
+    ghost invariant = { λ s. IsPlayed S.config s.moves.items s.world × IsStillWhere s.rest s.world × IsConfig s.config × (s.config ≡ S.config) × (s.budget.most ≡ S.settle) × HasDrawn S.config S.settle s.moves.items s.budget.drawn × IsGiven S.config S.gives s.moves.items s.world s.budget s.ahead s.held (M.gives s.source) };
 }
 
 impl<S: Setting, A: Allocator + Copy, M: MoveSource + Drop> Stage<S, A, M> {
@@ -311,7 +311,7 @@ impl<S: Setting, A: Allocator + Copy, M: MoveSource + Drop> Stage<S, A, M> {
     /// What was played [1]. A source that has not come to its end has given more moves than memory holds.
     pub(crate) fn into_played(self) -> Result<Played<A>, Fault>
         ensures played { IfOk result (λ p. IsPlayed S.config p.moves.items p.world × IsStillWhere p.rest p.world × HasDrawn S.config S.settle p.moves.items p.drawn) }
-        ensures given { IfOk result (λ p. AreAmong S.gives (take p.drawn p.moves.items)) }
+        ensures given { IfOk result (λ p. AreDrawn S.config S.gives p.moves.items p.drawn p.world) }
         ensures stop { IfErr result IsPlayStop }
     {
         let Stage {

@@ -5,7 +5,7 @@ ghost use Rattle.ivy_model.specs.stated.Config.{IsConfig};
 ghost use Rattle.ivy_model.specs.Rows.{calls_of, numbers_in, row};
 ghost use Rattle.ivy_world.specs.HandedWorlds.{run_handed};
 ghost use Rattle.ivy_play.specs.Faults.{IsPlayStop};
-ghost use Rattle.ivy_play.specs.Played.{AddsTurns, IsPlayed, MakesCalls};
+ghost use Rattle.ivy_play.specs.Played.{AddsTurns, LeadsOn, MakesCalls};
 
 use crate::stage::play_move;
 use ivy_model::{Config, Fault, Row, access_refusal};
@@ -60,7 +60,7 @@ fn play_block<A: Allocator + Copy>(
     words: usize,
 ) -> Result<usize, Fault>
     requires { asked.node < world.old.config.nodes }
-    ensures played { (c : Config) → IsPlayed c moves.old.items world.old → IsPlayed c moves.new.items world.new }
+    ensures played { LeadsOn moves.old.items world.old moves.new.items world.new }
     ensures made { IfOk result (λ calls. MakesCalls asked.entry.node (calls_of (row asked.entry.kind 0 asked.entry.addr (numbers_in calls asked.entry.bytes.now))) world.old world.new) }
     ensures fits { IfOk result (λ calls. 8 * calls ≤ length asked.entry.bytes.now) }
     ensures few { IfOk result (λ calls. calls ≤ words) }
@@ -115,7 +115,7 @@ fn play_words<A: Allocator + Copy>(
     requires node { asked.node < world.old.config.nodes }
     requires fits { 8 * words ≤ length asked.bytes.now }
     requires below { asked.addr + 8 * words < 2 ^ 64 }
-    ensures played { (c : Config) → IsPlayed c moves.old.items world.old → IsPlayed c moves.new.items world.new }
+    ensures played { LeadsOn moves.old.items world.old moves.new.items world.new }
     ensures made { MakesCalls asked.entry.node (calls_of (row asked.entry.kind 0 asked.entry.addr (numbers_in result asked.entry.bytes.now))) world.old world.new }
     ensures turns { AddsTurns asked.entry.node result moves.old.items moves.new.items }
     ensures few { result ≤ words }
@@ -144,7 +144,7 @@ pub(crate) fn play_row<'b, A: Allocator + Copy>(
 ) -> Result<HandedRow<'b>, Fault>
     requires node { asked.node < world.old.config.nodes }
     requires limits { IsConfig config.now }
-    ensures played { (c : Config) → IsPlayed c moves.old.items world.old → IsPlayed c moves.new.items world.new }
+    ensures played { LeadsOn moves.old.items world.old moves.new.items world.new }
     ensures own { IfOk result (λ handed. handed.asked ≡ asked.entry) }
     ensures made { IfOk result (λ handed. MakesCalls asked.entry.node (calls_of (row asked.entry.kind 0 asked.entry.addr (numbers_in handed.calls asked.entry.bytes.now))) world.old world.new) }
     ensures fits { IfOk result (λ handed. 8 * handed.calls ≤ length asked.entry.bytes.now) }

@@ -1,9 +1,10 @@
-use Rattle.std.proofs.Common.{arith, ◌≡◌, length, sym, ap, ◌∙◌, subst}
+use Rattle.std.proofs.Common.{arith, ◌≡◌, length, take, sym, ap, ◌∙◌, subst}
 use Rattle.ivy_model.specs.declared.Config.{Config}
 use Rattle.ivy_play.specs.Endings.{ComesToRest}
 use Rattle.ivy_play.proofs.Reported.{reported}
-use Rattle.ivy_play.specs.Given.{AreAmong}
-use Rattle.ivy_play.specs.Played.{HasDrawn}
+use Rattle.ivy_play.specs.Given.{AreGiven}
+use Rattle.ivy_play.specs.Played.{HasDrawn, first_moment}
+use Rattle.ivy_play.proofs.Drawing.{are_on}
 use Rattle.ivy_play.proofs.Ending.{given_there}
 use Rattle.ivy_play.proofs.Ends.{stands_there}
 use Rattle.ivy_play.proofs.play.close.Goals as goal
@@ -20,7 +21,7 @@ returns-clause-report g c =
     omega (arith, all, outcomes.ok.0, nodes) in
     reported g.S.Setting.config (g.W.Work.done c.args.work.now) e.moves.items e.world
     outcomes.items e.rest
-    (c.in_ok-ended.ensures.played g.S.Setting.config c.in_ok-played.ensures.played.0)
+    (c.in_ok-ended.ensures.played (first_moment g.S.Setting.config) c.in_ok-played.ensures.played.0)
     (c.in_ok-ended.ensures.still c.in_ok-played.ensures.played.1) c.keeps-2.ensures count
     (given_there (g.W.Work.done c.args.work.now) p.world.world e.world.world outcomes.items
     c.in_ok-ended.ensures.cores c.in_ok-outcomes.ensures.given)
@@ -56,5 +57,10 @@ returns-clause-stand g c i outcome at r given =
 
 pub returns-clause-given : goal.returns-clause-given
 returns-clause-given g c =
-    subst (AreAmong g.S.Setting.gives) (sym c.in_ok-ended.ensures.first)
-    c.in_ok-played.ensures.given
+    let p = c.in_ok-played.played in
+    let e = c.in_ok-ended.ended in
+    subst (AreGiven g.S.Setting.config e.moves.items e.world g.S.Setting.gives 0 0)
+    (sym c.in_ok-ended.ensures.first)
+    (are_on g.S.Setting.config p.moves.items e.moves.items p.world e.world
+    c.in_ok-ended.ensures.played (take p.drawn p.moves.items) g.S.Setting.gives 0 0
+    c.in_ok-played.ensures.given)

@@ -1,12 +1,11 @@
 use Rattle.std.proofs.Common.{◌≡◌, ◌≤◌, ◌+◌, length, max, take}
-use Rattle.ivy_model.specs.declared.Config.{Config}
-use Rattle.ivy_play.specs.Played.{IsPlayed}
+use Rattle.ivy_play.specs.Played.{LeadsOn}
 use Rattle.ivy_play.specs.Endings.{HaveSameCores}
 use Rattle.ivy_play.proofs.rested.spend.Given as goal
 
 abbrev pub invariant-loop : goal.invariant-loop
 invariant-loop g l = record {
-  played : (c : Config) → IsPlayed c l.fn.moves.items l.fn.world → IsPlayed c l.moves.items l.world;
+  played : LeadsOn l.fn.moves.items l.fn.world l.moves.items l.world;
   cores : HaveSameCores l.fn.world.world l.world.world;
   config : l.world.config ≡ l.fn.world.config;
   spent : l.fn.drawn + l.counter ≡ length l.moves.items;

@@ -5,10 +5,10 @@ use Rattle.ivy_play.proofs.Playing.{played_block}
 use Rattle.ivy_play.proofs.together.play_block.Goals as goal
 
 pub returns-clause-played : goal.returns-clause-played
-returns-clause-played g c = λ k p. played_block k c.args.moves.now.items
-    c.push_reserved.new.self.items c.args.asked.node c.args.asked.kind c.args.asked.addr c.in_ok-calls.calls
-    c.args.asked.bytes.now c.args.world.now c.hand_block.new.self (search rules) (search rules)
-    c.in_ok-calls.ensures.done p
+returns-clause-played g c =
+    played_block c.args.moves.now.items c.push_reserved.new.self.items c.args.asked.node
+    c.args.asked.kind c.args.asked.addr c.in_ok-calls.calls c.args.asked.bytes.now c.args.world.now
+    c.hand_block.new.self (search rules) (search rules) c.in_ok-calls.ensures.done
 
 pub returns-clause-turns : goal.returns-clause-turns
 returns-clause-turns g c =

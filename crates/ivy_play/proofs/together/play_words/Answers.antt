@@ -16,8 +16,9 @@ loop-word-preserved g c =
     let k : ℕ = 8 * m + 8 - 8 * m in
     let fits : 8 * 1 ≤ k = omega arith in
     record {
-      played = λ k p. moved.played k
-          (played_calls k c.loop-word.moves.items c.args.asked.node _ before mid handed (was.played k p));
+      played = λ past p. moved.played past
+          (played_calls c.loop-word.moves.items c.args.asked.node _ before mid handed past
+          (was.played past p));
       made =
           word_made _ c.args.asked.node c.args.asked.kind c.args.asked.addr m k c.args.asked.bytes.now
           c.args.world.now before mid c.play_move.new.world c.play_move.result fits was.made handed

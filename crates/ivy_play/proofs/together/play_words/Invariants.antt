@@ -1,12 +1,11 @@
 use Rattle.std.proofs.Common.{◌≡◌}
-use Rattle.ivy_model.specs.declared.Config.{Config}
 use Rattle.ivy_model.specs.Rows.{calls_of, numbers_in, row}
-use Rattle.ivy_play.specs.Played.{AddsTurns, IsPlayed, MakesCalls}
+use Rattle.ivy_play.specs.Played.{AddsTurns, LeadsOn, MakesCalls}
 use Rattle.ivy_play.proofs.together.play_words.Given as goal
 
 abbrev pub invariant-loop-word : goal.invariant-loop-word
 invariant-loop-word g l = record {
-  played : (c : Config) → IsPlayed c l.fn.moves.items l.fn.world → IsPlayed c l.moves.items l.world;
+  played : LeadsOn l.fn.moves.items l.fn.world l.moves.items l.world;
   made : MakesCalls l.asked.node
       (calls_of (row l.asked.kind 0 l.asked.addr (numbers_in l.word l.asked.bytes.now))) l.fn.world
       l.world;

@@ -15,7 +15,7 @@ invariant_of-result g c = (
   c.new-2.ensures.most ∙ c.requires.settle,
   none_drawn g.S.Setting.config g.S.Setting.settle c.new.result.items c.new-2.result.drawn
       c.new.ensures.items c.new-2.ensures.drawn,
-  given_first g.S.Setting.gives c.new.result.items c.new-2.result c.none.result
-      (g.M.MoveSource.gives c.args.source) c.new.ensures.items c.new-2.ensures.drawing
+  given_first g.S.Setting.config g.S.Setting.gives c.new.result.items c.args.world c.new-2.result
+      c.none.result (g.M.MoveSource.gives c.args.source) c.new.ensures.items c.new-2.ensures.drawing
       c.none.ensures c.requires.gives,
 )

@@ -12,9 +12,10 @@ invariant_of-self-in-Some-2 g c =
       c.self.invariant.3,
       c.self.invariant.4,
       c.self.invariant.5,
-      given_asked g.S.Setting.gives old.moves.items old.budget old.ahead old.held
-          (g.M.MoveSource.gives old.source) (g.M.MoveSource.gives c.next.new.self) _ _
-          c.in_default.not-Some (search rules) c.in-Some-2.is c.in_ok-step.ensures.next
+      given_asked g.S.Setting.config g.S.Setting.gives old.moves.items old.world old.budget old.ahead
+          old.held (g.M.MoveSource.gives old.source) (g.M.MoveSource.gives c.next.new.self) _ _
+          c.in_default.not-Some (search rules) c.in-Some-2.is c.self.invariant.0
+          c.in_ok-step.ensures.next
           c.self.invariant.6,
     )
 
@@ -29,7 +30,8 @@ invariant_of-self-in-None g c =
       after.ensures.most ∙ c.self.invariant.4,
       all_drawn g.S.Setting.config g.S.Setting.settle old.moves.items after.result.drawn
           (search rules),
-      given_over g.S.Setting.gives old.moves.items old.budget after.result old.ahead old.held
+      given_over g.S.Setting.config g.S.Setting.gives old.moves.items old.world old.budget
+          after.result old.ahead old.held
           (g.M.MoveSource.gives old.source) (g.M.MoveSource.gives c.next.new.self) _
           c.in_default.not-Some (search rules) after.ensures.settling (search rules) c.in-None.is
           c.in_ok-step.ensures.next c.self.invariant.6,
