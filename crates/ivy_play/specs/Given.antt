@@ -83,8 +83,8 @@ abbrev pub HoldsOn : Option Move → Move → Option Move → Type 0
 HoldsOn old step new = ((old ≡ Some step) × (new ≡ None)) ⊎ (new ≡ old)
 
 -- the moves up to some that are left are given, the last one before that place
-abbrev pub AreGivenUpTo : Config → List Move → Run → List Giving → ℕ → ℕ → List Move → List Giving → ℕ
-    → Type 0
+abbrev pub AreGivenUpTo : Config → List Move → Run → List Giving → ℕ → ℕ → List Move
+    → List Giving → ℕ → Type 0
 AreGivenUpTo c all r gives since place [] left last = (gives ≡ left) × (since ≤ last)
 AreGivenUpTo c all r gives since place (move ∷ moves) left last =
     ((give : Giving) × (others : List Giving) × (gives ≡ give ∷ others)
