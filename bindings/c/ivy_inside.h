@@ -47,6 +47,7 @@ typedef struct {
 
 struct ivy_process {
   ivy_node node;
+  uint32_t quick, granted; /* so many calls may still be made without the lock, of so many; they are not counted yet */
   ivy_config config;
   ivy_transport transport;
   uint8_t *room; /* of the transport, where it was given and nothing was sent from it yet */
@@ -128,13 +129,25 @@ enum { FREE = 0, TAKEN = 1, WAITED_FOR = 2 };
 
 void ivy_in_lock_slowly(ivy_process *p);
 void ivy_in_unlock_slowly(ivy_process *p);
-static inline int ivy_in_try_lock(ivy_process *p) {
+/* Who has the lock counts the calls that were made without it, and no more are. */
+static inline void ivy_in_end_quick(ivy_process *p) {
+  if (!p->granted) return;
+  p->counts.calls += p->granted - p->quick;
+  p->granted = p->quick = 0;
+}
+static inline int ivy_in_take_free(ivy_process *p) {
   int is_free = FREE;
   return __atomic_compare_exchange_n(&p->lock, &is_free, TAKEN, 0, __ATOMIC_ACQUIRE, __ATOMIC_RELAXED);
 }
+static inline int ivy_in_try_lock(ivy_process *p) {
+  if (!ivy_in_take_free(p)) return 0;
+  ivy_in_end_quick(p);
+  return 1;
+}
 static inline void ivy_in_lock(ivy_process *p) {
   if (__libc_single_threaded) p->lock = TAKEN;
-  else if (!ivy_in_try_lock(p)) ivy_in_lock_slowly(p);
+  else if (!ivy_in_take_free(p)) ivy_in_lock_slowly(p);
+  ivy_in_end_quick(p);
 }
 static inline void ivy_in_unlock(ivy_process *p) {
   if (__libc_single_threaded) p->lock = FREE;
@@ -225,10 +238,19 @@ static inline uint32_t ivy_in_enter(ivy_process *p) {
   if (p->in_call || p->error || ++p->counts.calls % EACH == 0) return ivy_in_enter_slowly(p);
   return IVY_DONE;
 }
+/* The only thread of a program may make calls without the lock, until it is time to serve, where nothing else is to be done. */
+static inline void ivy_in_begin_quick(ivy_process *p) {
+  if (!__libc_single_threaded || p->in_call || p->map || p->has_more) return;
+  p->granted = p->quick = (uint32_t)(EACH - 1 - p->counts.calls % EACH);
+}
 /* Frees it. */
 static inline void ivy_in_leave(ivy_process *p) {
-  if (p->error) ivy_in_leave_failed(p);
-  else ivy_in_unlock(p);
+  if (p->error) {
+    ivy_in_leave_failed(p);
+    return;
+  }
+  ivy_in_begin_quick(p);
+  ivy_in_unlock(p);
 }
 
 /* ---- ivy_runtime.c ------------------------------------------------------------------------------------------------------ */

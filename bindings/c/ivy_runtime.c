@@ -286,27 +286,44 @@ uint32_t ivy_in_call(ivy_process *p, const call *c, uint64_t *value) {
   return status < 256 && !p->has_more ? status : go_on(p, c, status, value);
 }
 
-/* It is put in place where the kind is known, since most calls are over at once. */
-__attribute__((always_inline)) static inline uint32_t make_call(ivy_process *p, const call *c, uint64_t *value) {
+/* A call by the lock. */
+__attribute__((always_inline)) static inline uint32_t make_locked(ivy_process *p, const call *c, uint64_t *value) {
   uint32_t status = ivy_in_enter(p);
   if (status == IVY_DONE) {
     status = begin(p, c, value);
-    if (status == IVY_DONE && !p->has_more) {
-      ivy_in_unlock(p);
-      return status;
-    }
     if (status >= 256 || p->has_more) status = go_on(p, c, status, value);
   }
   ivy_in_leave(p);
   return status;
 }
 
+/* A call that began without the lock with a status, and is refused, or not over. */
+__attribute__((noinline, cold)) static uint32_t go_on_locked(ivy_process *p, const call *c, uint32_t status, uint64_t *value) {
+  ivy_in_lock(p);
+  if (status >= 256) status = go_on(p, c, status, value);
+  ivy_in_leave(p);
+  return status;
+}
+
+/* It is put in place where the kind is known, since most calls are over at once. */
+__attribute__((always_inline)) static inline uint32_t make_call(ivy_process *p, uint32_t kind, uint32_t width, uint64_t place,
+                                                                uint64_t operand, uint64_t expected, uint64_t *value) {
+  if (__builtin_expect(!__libc_single_threaded || !p->quick, 0)) {
+    const call c = { kind, width, place, operand, expected };
+    return make_locked(p, &c, value);
+  }
+  p->quick--;
+  uint32_t status = ivy_begin(&p->node, kind, width, place, operand, expected, value);
+  if (status == IVY_DONE) return status;
+  const call c = { kind, width, place, operand, expected };
+  return go_on_locked(p, &c, status, value);
+}
+
 uint32_t ivy_call(ivy_process *p, uint32_t kind, uint32_t width, uint64_t place, uint64_t operand, uint64_t expected,
                   uint64_t *value) {
   if (kind == IVY_AWAIT && p->map) return ivy_await_for(p, place, operand, -1, value); /* for long no call is in progress */
-  const call c = { kind, width, place, operand, expected };
   uint64_t own = 0; /* the program's may be mapped memory, which is not touched while the lock is held */
-  uint32_t status = make_call(p, &c, &own);
+  uint32_t status = make_call(p, kind, width, place, operand, expected, &own);
   if (status == IVY_DONE) *value = own;
   return status;
 }
@@ -382,9 +399,8 @@ void ivy_in_refuse(ivy_process *p, uint32_t kind, uint64_t place, uint32_t statu
 
 __attribute__((always_inline)) static inline uint64_t sure(ivy_process *p, uint32_t kind, uint32_t width, uint64_t place,
                                                            uint64_t operand, uint64_t expected) {
-  const call c = { kind, width, place, operand, expected };
   uint64_t value = 0;
-  uint32_t status = make_call(p, &c, &value);
+  uint32_t status = make_call(p, kind, width, place, operand, expected, &value);
   if (status == IVY_DONE) return value;
   ivy_in_refuse(p, kind, place, status);
   return 0;
