@@ -115,9 +115,10 @@ pub extern "C" fn ivy_close(alloc: Global, handle: &mut Handle)
     }
 }
 
-/// Hands in a call, and begins it.
-#[unsafe(no_mangle)]
-pub extern "C" fn ivy_begin(
+/// Hands in a call, and begins it, whatever call is in progress and whatever page is lent.
+#[cold]
+#[inline(never)]
+fn begin_slowly(
     alloc: Global,
     handle: &mut Handle,
     kind: u32,
@@ -142,6 +143,40 @@ pub extern "C" fn ivy_begin(
         return LENT;
     }
     let begun = node.begin(call);
+    put(alloc, handle, node);
+    match begun {
+        Ok(progress) => tell(progress, value),
+        Err(fault) => status_of(fault),
+    }
+}
+
+/// Hands in a call, and begins it.
+#[unsafe(no_mangle)]
+pub extern "C" fn ivy_begin(
+    alloc: Global,
+    handle: &mut Handle,
+    kind: u32,
+    width: u32,
+    place: u64,
+    operand: u64,
+    expected: u64,
+    value: &mut u64,
+) -> u32
+    ensures answers { Answers result handle.old.held handle.new.held (Begins (IsRequest kind width place operand expected) result value.old value.new) (RefusesCall (IsRequest kind width place operand expected) result) }
+    ensures lent { IfSome handle.new.held LendsSoundly }
+{
+    let Some(mut node) = take(alloc, handle) else {
+        return CLOSED;
+    };
+    if !node.is_ready(place) {
+        put(alloc, handle, node);
+        return begin_slowly(alloc, handle, kind, width, place, operand, expected, value);
+    }
+    let Some(call) = call_of(kind, width, place, operand, expected) else {
+        put(alloc, handle, node);
+        return BAD_ARGUMENT;
+    };
+    let begun = node.begin_ready(call);
     put(alloc, handle, node);
     match begun {
         Ok(progress) => tell(progress, value),

@@ -1,4 +1,4 @@
--- A call whose first number is no address in a page that is lent may be made.
+-- A call whose number is no address in a page that is lent may be made.
 use Rattle.std.proofs.Common.{◌≡◌, ◌<◌, ℕ, ◌/◌, ◌^◌, true, List, length, Option, Some, None, refl, sym, ap, subst, ◌∙◌}
 use Rattle.std.specs.Prelude.{Result, Ok, Err}
 use Rattle.std.specs.Int.Count.{count_trailing_zeros}
@@ -19,8 +19,10 @@ use Rattle.ivy_memory.proofs.serving.Asking.{can_ask}
 use Rattle.ivy_memory.proofs.serving.Placing as placing
 use Rattle.ivy_embedded.specs.declared.lending.Lending.{Lending}
 use Rattle.ivy_embedded.specs.declared.lending.Lending.TheVariants.{Unlent}
-use Rattle.ivy_embedded.specs.Calls.{IsLender, first_number}
-use Rattle.ivy_embedded.specs.Lending.{lending_in, may_ask, permits}
+use Rattle.ivy_embedded.specs.Calls.{IsLender}
+use Rattle.ivy_embedded.specs.Exports.{IsRequest, MayBegin}
+use Rattle.ivy_embedded.specs.Lending.{lending_at, lending_in, may_ask, permits}
+use Rattle.ivy_embedded.specs.Nodes.{Embedded}
 use Rattle.ivy_site.specs.SiteView.{SiteView}
 
 -- the page of an address
@@ -39,34 +41,37 @@ module _ (c : Config) (lent : List Lending) where
   by_count (Ok w) unlent = ap (λ l. permits l w) unlent
   by_count (Err fault) unlent = refl
 
-  by_page : (call : Call) → lending_in lent 0 ≡ Unlent
-      → lending_in lent (first_number call / c.page_size) ≡ Unlent
-      → may_ask lent (asked_of c call) ≡ true
-  by_page (Load width addr) first unlent = by_word (access_refusal c width addr) _ _ unlent
-  by_page (Store width addr value) first unlent = by_word (access_refusal c width addr) _ _ unlent
-  by_page (Swap width addr value) first unlent = by_word (access_refusal c width addr) _ _ unlent
-  by_page (Cas width addr expected value) first unlent =
-      by_word (access_refusal c width addr) _ _ unlent
-  by_page (FetchAdd width addr value) first unlent =
-      by_word (access_refusal c width addr) _ _ unlent
-  by_page (Count k) first unlent = by_count (word_of_count c k word.Count) first
-  by_page (Advance k) first unlent = by_count (word_of_count c k word.Advance) first
-  by_page (Await k least) first unlent =
+  by_place : (place addr : ℕ) → addr ≡ place → lending_in lent (place / c.page_size) ≡ Unlent
+      → lending_in lent (addr / c.page_size) ≡ Unlent
+  by_place place addr is unlent = ap (λ a. lending_in lent (a / c.page_size)) is ∙ unlent
+
+  by_request : (place : ℕ) → lending_in lent 0 ≡ Unlent
+      → lending_in lent (place / c.page_size) ≡ Unlent
+      → (kind width operand expected : ℕ) (call : Call)
+      → IsRequest kind width place operand expected call → may_ask lent (asked_of c call) ≡ true
+  by_request place first unlent kind width operand expected (Load w addr) is =
+      by_word (access_refusal c w addr) _ _ (by_place place addr is.2 unlent)
+  by_request place first unlent kind width operand expected (Store w addr value) is =
+      by_word (access_refusal c w addr) _ _ (by_place place addr is.2 unlent)
+  by_request place first unlent kind width operand expected (Swap w addr value) is =
+      by_word (access_refusal c w addr) _ _ (by_place place addr is.2 unlent)
+  by_request place first unlent kind width operand expected (Cas w addr old value) is =
+      by_word (access_refusal c w addr) _ _ (by_place place addr is.2 unlent)
+  by_request place first unlent kind width operand expected (FetchAdd w addr value) is =
+      by_word (access_refusal c w addr) _ _ (by_place place addr is.2 unlent)
+  by_request place first unlent kind width operand expected (Count k) is =
+      by_count (word_of_count c k word.Count) first
+  by_request place first unlent kind width operand expected (Advance k) is =
+      by_count (word_of_count c k word.Advance) first
+  by_request place first unlent kind width operand expected (Await k least) is =
       by_count (word_of_count c k (λ offset. word.Await offset least)) first
-  by_page (Alloc size) first unlent = refl
-  by_page (Free addr) first unlent = refl
+  by_request place first unlent kind width operand expected (Alloc size) is = refl
+  by_request place first unlent kind width operand expected (Free addr) is = refl
 
--- no page is lent
-pub none_may : (c : Config) (lent : List Lending) (call : Call)
-    → ((page : ℕ) → lending_in lent page ≡ Unlent) → may_ask lent (asked_of c call) ≡ true
-none_may c lent call none = by_page c lent call (none 0) (none (first_number call / c.page_size))
-
--- or not the one of the address
-pub other_may : (s : SiteView) (lent : List Lending) (page : ℕ) (call : Call) → IsLender s lent page
-    → (at : ℕ) → at ≡ first_number call / s.config.page_size → lending_in lent at ≡ Unlent
-    → may_ask lent (asked_of s.config call) ≡ true
-other_may s lent page call l at is unlent =
-    by_page s.config lent call l.first (ap (lending_in lent) (sym is) ∙ unlent)
+-- the page of the address is not lent
+pub begins : (e : Embedded) (place page : ℕ) → IsLender e.site e.lent page
+    → lending_at e (place / e.site.config.page_size) ≡ Unlent → MayBegin place e
+begins e place page l unlent = by_request e.site.config e.lent place l.first unlent
 
 -- the page of a word that is asked for has its mark
 pub has_mark : (s : SiteView) (lent : List Lending) (at : ℕ) (c : Config) (call : Call) (page : ℕ)

@@ -1,7 +1,6 @@
 -- What a node keeps of its calls that have no reply yet, and of what it lends.
 use Rattle.std.specs.Prelude.{◌≡◌, ℕ, true, List, length}
 use Rattle.ivy_model.specs.declared.Call.{Call}
-use Rattle.ivy_model.specs.declared.Call.TheVariants.{Load, Store, Swap, Cas, FetchAdd, Count, Advance, Await, Alloc, Free}
 use Rattle.ivy_model.specs.stated.Legal.{HasWidth}
 use Rattle.ivy_coherence.specs.Leavings.{access_at}
 use Rattle.ivy_memory.specs.stated.Asking.{asked_of}
@@ -25,16 +24,3 @@ pub record IsLender (s : SiteView) (lent : List Lending) (page : ℕ) : Type 0 w
   pub wide : (call : Call) → HasUnanswered s.node.core.process call → HasWidth call
   pub at : (call : Call) → HasUnanswered s.node.core.process call
       → page_asked (asked_of s.config call) ≡ page
-
--- the number that a call names first: of an access its address
-abbrev pub first_number : Call → ℕ
-first_number (Load width addr) = addr
-first_number (Store width addr value) = addr
-first_number (Swap width addr value) = addr
-first_number (Cas width addr expected value) = addr
-first_number (FetchAdd width addr value) = addr
-first_number (Count k) = k
-first_number (Advance k) = k
-first_number (Await k least) = k
-first_number (Alloc size) = size
-first_number (Free addr) = addr

@@ -1,7 +1,7 @@
 -- What the exports answer, and what they do to the node of a handle. A status below 256 is a reply
 -- of the memory; one from there on is none, and where it is no PENDING either, the node is as it
 -- was.
-use Rattle.std.specs.Prelude.{◌≡◌, ◌≢◌, ◌⊎◌, ℕ, ◌+◌, ◌*◌, ◌<◌, ◌≤◌, true, false, List, [], ◌∷◌, ◌++◌, take, length, slice_get, Option, None, Some, IfSome, IsSomeAnd, MatchResult}
+use Rattle.std.specs.Prelude.{◌≡◌, ◌≢◌, ◌⊎◌, ℕ, ◌+◌, ◌*◌, ◌/◌, ◌<◌, ◌≤◌, true, false, List, [], ◌∷◌, ◌++◌, take, length, slice_get, Option, None, Some, IfSome, IsSomeAnd, MatchResult}
 use Rattle.ivy_model.specs.declared.Call.{Call}
 use Rattle.ivy_model.specs.declared.Call.TheVariants.{Load, Store, Swap, Cas, FetchAdd, Count, Advance, Await, Alloc, Free}
 use Rattle.ivy_model.specs.declared.Fault.{Fault}
@@ -27,7 +27,8 @@ use Rattle.ivy_site.specs.SiteView.{SiteView, after_pulse_to}
 use Rattle.ivy_site.specs.Sites.{AfterDelivery, SiteTurns}
 use Rattle.ivy_embedded.specs.declared.lending.Lending.{Lending}
 use Rattle.ivy_embedded.specs.declared.lending.Want.{Want}
-use Rattle.ivy_embedded.specs.Lending.{IsWanted, may_call}
+use Rattle.ivy_embedded.specs.declared.lending.Lending.TheVariants.{Unlent}
+use Rattle.ivy_embedded.specs.Lending.{IsWanted, lending_at, may_call}
 use Rattle.ivy_embedded.specs.Nodes.{Embedded, waiting_in}
 use Rattle.ivy_embedded.specs.declared.status.TheConstants.{DONE, PENDING, CLOSED, MEMORY, BUSY, NO_CALL, BAD_ARGUMENT, NO_FRAME, SHORT_BUFFER, LENT, WANTED}
 use Rattle.ivy_embedded.specs.declared.status.TheConstants.{LOAD, STORE, SWAP, COMPARE_AND_SWAP, FETCH_AND_ADD, COUNT, ADVANCE, AWAIT, ALLOCATE, FREE}
@@ -129,6 +130,16 @@ abbrev pub Begins : (Call → Type 0) → ℕ → ℕ → ℕ → Embedded → E
 Begins Asked status before value s t = (call : Call) × Asked call × (progress : Option Reply)
     × TellsProgress progress status before value × OfSite (AfterBegin call progress) s t
     × HasNoCall s.site × (may_call s call ≡ true)
+
+-- each call has its reply, and the page of this address is not lent
+abbrev pub IsReady : ℕ → Embedded → Type 0
+IsReady place s = HasNoCall s.site × (lending_at s (place / s.site.config.page_size) ≡ Unlent)
+
+-- each call that names this address, or another number, at this place may be made, as its page is
+-- lent
+abbrev pub MayBegin : ℕ → Embedded → Type 0
+MayBegin place s = (kind width operand expected : ℕ) (call : Call)
+    → IsRequest kind width place operand expected call → may_call s call ≡ true
 
 -- with this fault: the one before is in progress; or there is no memory
 abbrev pub IsBeginFault : Fault → SiteView → Type 0

@@ -9,15 +9,14 @@ ghost use Rattle.ivy_moves.specs.stated.Nodes.{pulsing};
 ghost use Rattle.ivy_program.specs.OwnCode.{IsFree};
 ghost use Rattle.ivy_memory.specs.AtOnce.{IsStored, row_at_hand};
 ghost use Rattle.ivy_memory.specs.BatchedReplies.{left_in};
-ghost use Rattle.ivy_site.specs.Calls.{AreAnswered, AreTaken, BeginsRow, MayCallInRow, MayCallTogether, MayTakeRow, row_together};
+ghost use Rattle.ivy_site.specs.Calls.{AreAnswered, AreTaken, BeginsCall, BeginsRow, MayCallInRow, MayCallTogether, MayTakeRow, row_together};
 ghost use Rattle.ivy_site.specs.SiteView.{after_pulse_to};
 ghost use Rattle.ivy_site.specs.Handed.{site_handed};
 ghost use Rattle.ivy_site.specs.Sites.{AfterDelivery, IsSpentTurn};
 ghost use Rattle.ivy_wire.specs.stated.DecodeErrors.{checked};
 ghost use Rattle.ivy_embedded.specs.Taking.{IsTaken};
 ghost use Rattle.ivy_embedded.specs.Nodes.{first_embedded, waiting_in};
-ghost use Rattle.ivy_embedded.specs.Calls.{first_number};
-ghost use Rattle.ivy_embedded.specs.Exports.{AfterCall, AfterBegin, ChangesWaiting, IsBeginFault, OfSite};
+ghost use Rattle.ivy_embedded.specs.Exports.{AfterCall, AfterBegin, ChangesWaiting, IsBeginFault, IsReady, MayBegin, OfSite};
 ghost use Rattle.ivy_embedded.specs.Turns.{CountsTurns};
 ghost use Rattle.ivy_embedded.specs.Peers.{AreThose, KeepsFor, OwesTo};
 ghost use Rattle.ivy_embedded.specs.Lending.{IsWanted, LendsSoundly, WaitsFor, access_to, is_had, is_more, lending_at, may_call, page_asked, row_lending};
@@ -119,21 +118,40 @@ fn turn(site: &mut Site<Global>, turns: &mut u64) -> Result<Option<Reply>, Fault
     }
 }
 
-/// A call begins at a node that has none [1, 18]: its reply, or none yet. A call whose first turn is
-/// refused is in progress: the next turn tries again.
+/// Makes a call. Each arm is compiled for its kind of call, so that the most frequent ones take no further look at it.
+#[inline(always)]
+fn make_call(site: &mut Site<Global>, call: Call) -> Result<Option<Reply>, Fault>
+    requires width { HasWidth call }
+    ensures done { MatchResult result (λ reply. BeginsCall call reply site.old site.new) (λ _. site.new ≡ site.old) }
+{
+    match call {
+        Call::Load { width: 8, addr } => site.call_in_place(Call::Load { width: 8, addr }),
+        Call::Store {
+            width: 8,
+            addr,
+            value,
+        } => site.call_in_place(Call::Store {
+            width: 8,
+            addr,
+            value,
+        }),
+        other => site.call_in_place(other),
+    }
+}
+
+/// A call begins at a node that has none [1]: its reply, or none yet. A call whose first turn is refused is in progress:
+/// the next turn tries again.
 #[tactic(auto, using(crate::proofs::Recording::begun))]
+#[inline(always)]
 fn begin(site: &mut Site<Global>, turns: &mut u64, call: Call) -> Result<Option<Reply>, Fault>
     requires width { HasWidth call }
+    requires free { IsFree site.old.node.core.process }
     requires counts { CountsTurns turns.old site.old.events }
     ensures counted { CountsTurns turns.new site.new.events }
     ensures done { MatchResult result (λ progress. AfterBegin call progress site.old site.new) (λ _. site.new ≡ site.old) }
-    ensures free { IfOk result (λ _. IsFree site.old.node.core.process) }
-    ensures refused { IfErr result (λ fault. IsBeginFault fault site.old) }
+    ensures memory { IsOkUnless result Fault.Memory }
 {
-    if !site.is_free() {
-        return Err(Fault::Busy);
-    }
-    match site.call(call) {
+    match make_call(site, call) {
         Ok(progress) => {
             *turns = turns.wrapping_add(1);
             Ok(progress)
@@ -161,23 +179,6 @@ fn page_called(site: &Site<Global>, call: Call) -> u32
     ensures { result ≡ page_asked (asked_of site.now.config call) }
 {
     page_asked(asked_of(&site.config(), call))
-}
-
-/// The number that a call names first: of an access its address.
-#[inline(always)]
-fn first_number(call: Call) -> u64
-    ensures { result ≡ first_number call }
-{
-    match call {
-        Call::Load { addr, .. }
-        | Call::Store { addr, .. }
-        | Call::Swap { addr, .. }
-        | Call::Cas { addr, .. }
-        | Call::FetchAdd { addr, .. }
-        | Call::Free { addr } => addr,
-        Call::Count { k } | Call::Advance { k } | Call::Await { k, .. } => k,
-        Call::Alloc { size } => size,
-    }
 }
 
 /// Makes a page that is to be lent to be written, so that keeping what was written takes no memory [1].
@@ -253,16 +254,6 @@ impl Embedded {
         }
     }
 
-    /// Whether a call may be a word of a page that is lent. It is none where no page is lent, or not the one of the number
-    /// that it names first: a hit asks no more.
-    #[tactic(auto, using(crate::proofs::Unlent::none_may, crate::proofs::Unlent::other_may))]
-    #[inline(always)]
-    fn may_be_lent(&self, call: Call) -> bool
-        ensures { IsFalse result → may_call self.now call ≡ true }
-    {
-        !self.lendings.is_none() && self.lendings.has(self.page_of(first_number(call)))
-    }
-
     /// The page of an address. Pages have a power of two of bytes, so it takes no division.
     #[tactic(auto, using(crate::proofs::Unlent::page_by_shift))]
     #[inline(always)]
@@ -301,16 +292,43 @@ impl Embedded {
         ensures yes { IsTrue result → IsFree self.now.site.node.core.process × (may_call self.now call ≡ false) }
         ensures no { IsFalse result → IsFree self.now.site.node.core.process → may_call self.now call ≡ true }
     {
-        self.may_be_lent(call) && self.site.is_free() && !self.may_call(call)
+        self.site.is_free() && !self.may_call(call)
     }
 
-    /// Hands in a call, and begins it, as [`begin`] says [1, 18]. Its page is not lent, or so that it may be made.
+    /// Whether each call has its reply, and no page is lent, or not the one of this address. Then a call of this address may
+    /// be made, and one that names another number there: a hit asks no more.
+    #[tactic(auto, using(crate::proofs::Unlent::begins))]
+    #[inline(always)]
+    pub fn is_ready(&self, place: u64) -> bool
+        ensures yes { IsTrue result → IsReady place self.now }
+        ensures no { IsFalse result → IsReady place self.now → ⊥ }
+        ensures may { IsTrue result → MayBegin place self.now }
+    {
+        self.site.is_free() && (self.lendings.is_none() || !self.lendings.has(self.page_of(place)))
+    }
+
+    /// Hands in a call, and begins it [1, 18]. Its page is not lent, or so that it may be made.
     pub fn begin(&mut self, call: Call) -> Result<Option<Reply>, Fault>
         requires width { HasWidth call }
         requires may { IsFree self.old.site.node.core.process → may_call self.old call ≡ true }
         ensures done { MatchResult result (λ progress. OfSite (AfterBegin call progress) self.old self.new) (λ _. self.new ≡ self.old) }
         ensures free { IfOk result (λ _. IsFree self.old.site.node.core.process) }
         ensures refused { IfErr result (λ fault. IsBeginFault fault self.old.site) }
+    {
+        if !self.site.is_free() {
+            return Err(Fault::Busy);
+        }
+        self.begin_ready(call)
+    }
+
+    /// What [`Embedded::begin`] does where each call before has its reply [1], compiled in its caller.
+    #[inline(always)]
+    pub fn begin_ready(&mut self, call: Call) -> Result<Option<Reply>, Fault>
+        requires width { HasWidth call }
+        requires free { IsFree self.old.site.node.core.process }
+        requires may { may_call self.old call ≡ true }
+        ensures done { MatchResult result (λ progress. OfSite (AfterBegin call progress) self.old self.new) (λ _. self.new ≡ self.old) }
+        ensures memory { IsOkUnless result Fault.Memory }
     {
         self.site.sound();
         match begin(&mut self.site, &mut self.turns, call) {

@@ -122,7 +122,8 @@ impl Lendings {
     /// Whether the page of this number is lent, if there is one.
     #[inline(always)]
     pub(crate) fn has(&self, page: u64) -> bool
-        ensures { IsFalse result → lending_in self.now page ≡ Lending.Unlent }
+        ensures yes { IsTrue result → lending_in self.now page ≢ Lending.Unlent }
+        ensures no { IsFalse result → lending_in self.now page ≡ Lending.Unlent }
     {
         let place = page as usize;
         place < self.each.len() && self.each[place] != Lending::Unlent
