@@ -141,6 +141,10 @@ row_kept kind addr (suc words) bytes old new lent page l k free within some unle
     )) b)
 
 -- what is so inside a node is so of it
+pub free_inside : (e s : Embedded) → e ≡ s → IsFree e.site.node.core.process
+    → IsFree s.site.node.core.process
+free_inside e s same free = rw (← same) free
+
 pub inside_free : (e s : Embedded) → e ≡ s → IsFree s.site.node.core.process
     → IsFree e.site.node.core.process
 inside_free e s same free = rw same free

@@ -118,6 +118,32 @@ fn turn(site: &mut Site<Global>, turns: &mut u64) -> Result<Option<Reply>, Fault
     }
 }
 
+/// A call begins at a node that has none [1, 18]: its reply, or none yet. A call whose first turn is
+/// refused is in progress: the next turn tries again.
+#[tactic(auto, using(crate::proofs::Recording::begun))]
+fn begin(site: &mut Site<Global>, turns: &mut u64, call: Call) -> Result<Option<Reply>, Fault>
+    requires width { HasWidth call }
+    requires counts { CountsTurns turns.old site.old.events }
+    ensures counted { CountsTurns turns.new site.new.events }
+    ensures done { MatchResult result (λ progress. AfterBegin call progress site.old site.new) (λ _. site.new ≡ site.old) }
+    ensures free { IfOk result (λ _. IsFree site.old.node.core.process) }
+    ensures refused { IfErr result (λ fault. IsBeginFault fault site.old) }
+{
+    if !site.is_free() {
+        return Err(Fault::Busy);
+    }
+    match site.call(call) {
+        Ok(progress) => {
+            *turns = turns.wrapping_add(1);
+            Ok(progress)
+        }
+        Err(_) => {
+            site.hand(call)?;
+            Ok(None)
+        }
+    }
+}
+
 /// Makes a call. Each arm is compiled for its kind of call, so that the most frequent ones take no further look at it.
 #[inline(always)]
 fn make_call(site: &mut Site<Global>, call: Call) -> Result<Option<Reply>, Fault>
@@ -139,11 +165,14 @@ fn make_call(site: &mut Site<Global>, call: Call) -> Result<Option<Reply>, Fault
     }
 }
 
-/// A call begins at a node that has none [1]: its reply, or none yet. A call whose first turn is refused is in progress:
-/// the next turn tries again.
+/// What [`begin`] does at a node that has none [1], compiled in its caller.
 #[tactic(auto, using(crate::proofs::Recording::begun))]
 #[inline(always)]
-fn begin(site: &mut Site<Global>, turns: &mut u64, call: Call) -> Result<Option<Reply>, Fault>
+fn begin_in_place(
+    site: &mut Site<Global>,
+    turns: &mut u64,
+    call: Call,
+) -> Result<Option<Reply>, Fault>
     requires width { HasWidth call }
     requires free { IsFree site.old.node.core.process }
     requires counts { CountsTurns turns.old site.old.events }
@@ -307,7 +336,7 @@ impl Embedded {
         self.site.is_free() && (self.lendings.is_none() || !self.lendings.has(self.page_of(place)))
     }
 
-    /// Hands in a call, and begins it [1, 18]. Its page is not lent, or so that it may be made.
+    /// Hands in a call, and begins it, as [`begin`] says [1, 18]. Its page is not lent, or so that it may be made.
     pub fn begin(&mut self, call: Call) -> Result<Option<Reply>, Fault>
         requires width { HasWidth call }
         requires may { IsFree self.old.site.node.core.process → may_call self.old call ≡ true }
@@ -315,26 +344,31 @@ impl Embedded {
         ensures free { IfOk result (λ _. IsFree self.old.site.node.core.process) }
         ensures refused { IfErr result (λ fault. IsBeginFault fault self.old.site) }
     {
-        if !self.site.is_free() {
-            return Err(Fault::Busy);
-        }
-        self.begin_ready(call)
-    }
-
-    /// What [`Embedded::begin`] does where each call before has its reply [1], compiled in its caller.
-    #[inline(always)]
-    pub fn begin_ready(&mut self, call: Call) -> Result<Option<Reply>, Fault>
-        requires width { HasWidth call }
-        requires free { IsFree self.old.site.node.core.process }
-        requires may { may_call self.old call ≡ true }
-        ensures done { MatchResult result (λ progress. OfSite (AfterBegin call progress) self.old self.new) (λ _. self.new ≡ self.old) }
-        ensures memory { IsOkUnless result Fault.Memory }
-    {
         self.site.sound();
         match begin(&mut self.site, &mut self.turns, call) {
             Ok(Some(reply)) => Ok(Some(reply)),
             Ok(None) => {
                 self.waits_at = page_called(&self.site, call);
+                Ok(None)
+            }
+            Err(fault) => Err(fault),
+        }
+    }
+
+    /// What [`Embedded::begin`] does where each call before has its reply [1], compiled in its caller.
+    #[inline(always)]
+    pub fn begin_ready(&mut self, asked: Call) -> Result<Option<Reply>, Fault>
+        requires width { HasWidth asked }
+        requires free { IsFree self.old.site.node.core.process }
+        requires may { may_call self.old asked ≡ true }
+        ensures done { MatchResult result (λ progress. OfSite (AfterBegin asked progress) self.old self.new) (λ _. self.new ≡ self.old) }
+        ensures memory { IsOkUnless result Fault.Memory }
+    {
+        self.site.sound();
+        match begin_in_place(&mut self.site, &mut self.turns, asked) {
+            Ok(Some(reply)) => Ok(Some(reply)),
+            Ok(None) => {
+                self.waits_at = page_called(&self.site, asked);
                 Ok(None)
             }
             Err(fault) => Err(fault),

@@ -5,6 +5,6 @@ use Rattle.ivy_embedded.proofs.embedded.begin.Goals as goal
 
 pub returns-in-Ok-clause-counted : goal.returns-in-Ok-clause-counted
 returns-in-Ok-clause-counted c =
-    counted_turn (site_handed ((c.args.call ∷ []) ∷ []) c.args.site.now) c.make_call.new.site
+    counted_turn (site_handed ((c.args.call ∷ []) ∷ []) c.args.site.now) c.call.new.self
     c.in-Ok.ensures.done.turns c.args.turns.now
     ((c.args.turns.now + 1) % 2 ^ 64) c.requires.counts refl
