@@ -4,7 +4,7 @@ use crate::access::{Access, Accesses};
 use crate::head::RunHead;
 use crate::labels::Labels;
 use crate::log::{Happening, RunLog};
-use crate::marks::{Marks, Spot, Way, between, lane, row};
+use crate::marks::{Marks, Spot, Way, lane, row};
 use crate::part::{Drawn, Part};
 use ivy_link::Verdict;
 use ivy_model::Record;
@@ -94,29 +94,36 @@ fn name_of(alloc: Global, way: &Way, head: &RunHead) -> Result<String, AllocErro
     }
 }
 
-/// The name of a string, and where it stands.
+/// The name of a string, and where it stands, unless it would lie over another text.
 #[derive(Drop)]
 struct Label {
-    at: Spot,
+    at: Option<Spot>,
     name: String,
 }
 
-/// Draws the name of a string beside its way.
+/// Draws the name of a string beside its way, where it has a place.
 fn draw_name<W: Write>(way: &Way, label: &Label, out: &mut W) -> io::Result<()> {
+    let Some(at) = label.at else {
+        return Ok(());
+    };
     let look = if look_of(way) == "again" { "old" } else { "" };
-    begin_text(look, label.at, out)?;
+    begin_text(look, at, out)?;
     writeln!(out, "{}</text>", label.name.as_str())
+}
+
+/// Where the cross of a lost string stands.
+fn cross_of(way: &Way) -> Spot {
+    let tip = way.tip();
+    Spot {
+        x: tip.x.saturating_sub(4),
+        y: tip.y.saturating_add(4),
+    }
 }
 
 /// Draws the way of a string that is lost: a line that ends in a cross.
 fn draw_lost<W: Write>(way: &Way, out: &mut W) -> io::Result<()> {
-    let end = between(way.from, way.to, 70);
-    draw_line(look_of(way), way.from, end, "", out)?;
-    let at = Spot {
-        x: end.x.saturating_sub(4),
-        y: end.y.saturating_add(4),
-    };
-    begin_text("cross", at, out)?;
+    draw_line(look_of(way), way.from, way.tip(), "", out)?;
+    begin_text("cross", cross_of(way), out)?;
     out.write_all("×</text>\n".as_bytes())
 }
 
@@ -135,10 +142,20 @@ fn draw_way<W: Write>(way: &Way, out: &mut W) -> io::Result<()> {
     }
 }
 
+/// Draws the way of a string. A name that has no place is told where one points at the way.
+fn draw_named<W: Write>(way: &Way, label: &Label, out: &mut W) -> io::Result<()> {
+    if label.at.is_some() {
+        return draw_way(way, out);
+    }
+    writeln!(out, "<g><title>{}</title>", label.name.as_str())?;
+    draw_way(way, out)?;
+    out.write_all(b"</g>\n")
+}
+
 /// Draws all ways, and above them their names.
 fn draw_ways<W: Write>(marks: &Marks, labels: &[Label], out: &mut W) -> io::Result<()> {
-    for way in marks.ways.iter() {
-        draw_way(way, out)?;
+    for (way, label) in marks.ways.iter().zip(labels) {
+        draw_named(way, label, out)?;
     }
     for (way, label) in marks.ways.iter().zip(labels) {
         draw_name(way, label, out)?;
@@ -274,8 +291,10 @@ fn letters_of(alloc: Global, record: Record) -> Result<u64, AllocError> {
     Ok(format!(in alloc; "{call} = {reply}")?.len() as u64)
 }
 
-/// How many letters a move stands in, about.
-const MOVE: u64 = 16;
+/// How many letters a move stands in, with its number.
+fn letters_of_move(alloc: Global, number: u64, happening: &Happening) -> Result<u64, AllocError> {
+    Ok(format!(in alloc; "{number} {}", MoveText(happening.step))?.len() as u64)
+}
 
 /// A reply that is drawn: where it stands, and how many letters it has.
 #[derive(Clone, Copy)]
@@ -327,17 +346,49 @@ fn width_of(chart: Chart, replies: &[Beside]) -> u64 {
     width
 }
 
-/// Where no name may stand: at moves and replies.
-fn taken_of(alloc: Global, marks: &Marks, replies: &[Beside]) -> Result<Labels, AllocError> {
-    let mut taken = Labels::new(alloc);
-    for number in 1..marks.height.saturating_add(1) {
-        let y = row(number).saturating_add(4);
-        taken.put(Spot { x: 8, y }, MOVE)?;
+/// Notes the moves that are drawn.
+fn take_moves(
+    alloc: Global,
+    marks: &Marks,
+    log: &RunLog,
+    taken: &mut Labels,
+) -> Result<(), AllocError> {
+    for place in 0..log.happenings.len() {
+        if marks.is_drawn(place) {
+            let at = Spot {
+                x: 8,
+                y: text_height(marks, place),
+            };
+            let number = (place as u64).saturating_add(1);
+            taken.put(at, letters_of_move(alloc, number, &log.happenings[place])?)?;
+        }
     }
+    Ok(())
+}
+
+/// Notes the replies, whose letters are bold and so wider, and the crosses.
+fn take_rest(marks: &Marks, replies: &[Beside], taken: &mut Labels) -> Result<(), AllocError> {
     for reply in replies {
-        // bold letters are wider
         taken.put(reply.at, reply.letters.saturating_add(reply.letters / 6))?;
     }
+    for way in marks.ways.iter() {
+        if way.heard.is_none() {
+            taken.put(cross_of(way), 1)?;
+        }
+    }
+    Ok(())
+}
+
+/// Where no name may stand: at moves, replies and crosses.
+fn taken_of(
+    alloc: Global,
+    marks: &Marks,
+    replies: &[Beside],
+    log: &RunLog,
+) -> Result<Labels, AllocError> {
+    let mut taken = Labels::new(alloc, &marks.ways)?;
+    take_moves(alloc, marks, log, &mut taken)?;
+    take_rest(marks, replies, &mut taken)?;
     Ok(taken)
 }
 
@@ -348,14 +399,15 @@ fn labels_of(
     replies: &[Beside],
     log: &RunLog,
 ) -> Result<Vec<Label>, AllocError> {
-    let mut taken = taken_of(alloc, marks, replies)?;
+    let mut taken = taken_of(alloc, marks, replies, log)?;
     let mut labels = Vec::new(alloc);
-    for way in marks.ways.iter() {
+    for place in 0..marks.ways.len() {
+        let way = &marks.ways[place];
         let name = match log.strings.get(way.string) {
             Some(head) => name_of(alloc, way, head)?,
             None => String::new(alloc),
         };
-        let at = taken.place(way, name.len() as u64)?;
+        let at = taken.place(&marks.ways, place, name.len() as u64)?;
         labels.push(Label { at, name })?;
     }
     Ok(labels)

@@ -8,6 +8,7 @@
 mod access;
 mod chart;
 mod counts;
+mod crossings;
 mod head;
 mod labels;
 mod log;

@@ -30,6 +30,11 @@ pub(crate) fn lane(node: u64) -> u64 {
     node.saturating_mul(LANE).saturating_add(LEFT)
 }
 
+/// How many lines of nodes are left of here, or here.
+pub(crate) fn lanes_left_of(x: u64) -> u64 {
+    if x < LEFT { 0 } else { (x - LEFT) / LANE + 1 }
+}
+
 /// Where a row is.
 pub(crate) fn row(number: u64) -> u64 {
     number.saturating_mul(ROW).saturating_add(TOP)
@@ -63,6 +68,33 @@ pub(crate) struct Way {
     pub(crate) heard: Option<Verdict>,
     /// Whether a pulse sent it.
     pub(crate) is_again: bool,
+}
+
+/// How much of a lost string's way is drawn, in hundredths.
+const LOST: u64 = 70;
+
+impl Way {
+    /// Where its line ends: short of the node where it was lost.
+    pub(crate) fn tip(&self) -> Spot {
+        match self.heard {
+            Some(_) => self.to,
+            None => between(self.from, self.to, LOST),
+        }
+    }
+
+    /// How far right its line is at a height: where it begins above, and where it ends below.
+    pub(crate) fn x_at(&self, y: u64) -> u64 {
+        let (from, tip) = (self.from, self.tip());
+        let all = tip.y.saturating_sub(from.y);
+        let down = y.saturating_sub(from.y).min(all);
+        let across = from.x.abs_diff(tip.x).saturating_mul(down);
+        let across = across.checked_div(all).unwrap_or(0);
+        if tip.x >= from.x {
+            from.x.saturating_add(across)
+        } else {
+            from.x.saturating_sub(across)
+        }
+    }
 }
 
 /// The move that sent a string: its row, whether it was a pulse, and whether it is drawn.
