@@ -95,10 +95,10 @@ pub record OwnStreams (from : Begun) (new : Served) (log : Option (List ℕ)) (t
     pub all : part ++ new.unlogged ≡ from.unlogged ++ entry_lines entries
 
 -- so it did, and after so many answers the call was answered so
-pub record Replies (call : Call) (reply : Reply) (count : ℕ) (old new : Served) (log log' : Option (List ℕ)) : Type 0
-  where
-    pub streams : OwnStreams (begun [] old log) new log' (record { call = call; reply = reply } ∷ [])
-    pub last : IsAnsweredLast count (record { call = call; reply = reply }) new.site.node.core.history
+pub record Replies (call : Call) (reply : Reply) (count : ℕ) (old new : Served) (log log' : Option (List ℕ))
+    : Type 0 where
+  pub streams : OwnStreams (begun [] old log) new log' (record { call = call; reply = reply } ∷ [])
+  pub last : IsAnsweredLast count (record { call = call; reply = reply }) new.site.node.core.history
 
 -- its work was told again what the log says up to this place, and then, once the log had no more, was answered by
 -- the node. The log has so many answers now; where those that it had were the node's first ones, so are these
@@ -114,7 +114,8 @@ pub record Resumes (from : Begun) (place count : ℕ) (new : Served) (log : Opti
       → StandFirst (answers_in from.past ++ fresh) new.site.node.core.history
 
 -- so it did, unless it failed
-abbrev pub ResumesUnless : Option NodeFailure → Begun → ℕ → ℕ → Served → Option (List ℕ) → List Answer → Type 0
+abbrev pub ResumesUnless : Option NodeFailure → Begun → ℕ → ℕ → Served → Option (List ℕ) → List Answer
+    → Type 0
 ResumesUnless (Some failure) from place count new log told = Unit {0}
 ResumesUnless None from place count new log told = Resumes from place count new log told
 
@@ -127,14 +128,14 @@ pub record RepliesFrom (past : List LogEntry) (call : Call) (reply : Reply) (pla
       → Resumes from place' count' new log' (told ++ record { call = call; reply = reply } ∷ [])
 
 -- its work was told again all that the log says, and then was answered by the node
-pub record HasResumed (from : Begun) (count : ℕ) (new : Served) (log : Option (List ℕ)) (told : List Answer) : Type 0
-  where
-    pub fresh : List Answer
-    pub streams : OwnStreams from new log fresh
-    pub are : told ≡ answers_in from.past ++ fresh
-    pub many : count ≡ length (answers_in from.past ++ fresh)
-    pub first : StandFirst (answers_in from.past) from.history
-        → StandFirst (answers_in from.past ++ fresh) new.site.node.core.history
+pub record HasResumed (from : Begun) (count : ℕ) (new : Served) (log : Option (List ℕ)) (told : List Answer)
+    : Type 0 where
+  pub fresh : List Answer
+  pub streams : OwnStreams from new log fresh
+  pub are : told ≡ answers_in from.past ++ fresh
+  pub many : count ≡ length (answers_in from.past ++ fresh)
+  pub first : StandFirst (answers_in from.past) from.history
+      → StandFirst (answers_in from.past ++ fresh) new.site.node.core.history
 
 -- by what the log says that the node was answered, before and since, its work has done what it had to, and given
 -- this; behind the log was written what it lacked, and the lines of all that the node did, called and was answered
