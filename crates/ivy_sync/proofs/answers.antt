@@ -5,4 +5,5 @@ pub mod AnswerTotals
 pub mod HeapWords
 pub mod First
 pub mod Failing
+pub mod Looked
 pub mod Below

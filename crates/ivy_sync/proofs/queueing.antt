@@ -1,4 +1,5 @@
 -- Queues: what is taken is what was sent.
+pub mod Added
 pub mod Messages
 pub mod Queues
 pub mod Pushing

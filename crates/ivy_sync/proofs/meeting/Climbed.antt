@@ -1,6 +1,7 @@
 -- What a node of a tree has done so far at the barrier.
-use Rattle.std.proofs.Common.{◌≡◌, ℕ, zero, suc, ◌+◌, ◌-◌, ◌/◌, ◌≤◌, inl, inr, List, [], ◌∷◌, ◌++◌}
+use Rattle.std.proofs.Common.{◌≡◌, ℕ, zero, suc, ◌+◌, ◌-◌, ◌*◌, ◌/◌, ◌^◌, ◌<◌, ◌≤◌, inl, inr, List, [], ◌∷◌, ◌++◌}
 use Rattle.std.proofs.Common.{refl, ap, subst, ◌∙◌, append_assoc, arith}
+use Rattle.std.proofs.Math.Nat.{mul-le-mul_left}
 use Rattle.ivy_model.specs.declared.call.Call.TheVariants.{Store}
 use Rattle.ivy_model.specs.declared.fault.Fault.{Fault}
 use Rattle.ivy_calls.specs.declared.answer.Answer.{Answer}
@@ -11,6 +12,21 @@ use Rattle.ivy_sync.specs.declared.tree_barrier.TreeBarrier.{TreeBarrier}
 use Rattle.ivy_sync.specs.Doing.{AddsLooks, LooksUntil, stores}
 use Rattle.ivy_sync.specs.meeting.TreeBarriers.{AddsAbove, AddsGathered, Awaits, FailsToClimb, Gathered}
 use Rattle.ivy_sync.specs.meeting.TreeBarriers.{opened_at, phase_of, raised_at}
+
+-- where the words of all nodes have addresses, so has a node's
+pub apart_fits : (base apart me n : ℕ) → base + apart * 256 < 2 ^ 64 → n ≡ me → me < 256
+    → apart * n < 2 ^ 64
+apart_fits base apart me n fits is small =
+    let few : n ≤ 256 = omega (arith, is, small) in
+    let most = mul-le-mul_left apart few in
+    omega (arith, most, fits)
+
+pub word_fits : (base apart me n : ℕ) → base + apart * 256 < 2 ^ 64 → n ≡ me → me < 256
+    → base + apart * n < 2 ^ 64
+word_fits base apart me n fits is small =
+    let few : n ≤ 256 = omega (arith, is, small) in
+    let most = mul-le-mul_left apart few in
+    omega (arith, most, fits)
 
 -- the looks at one child more
 pub gathered_more : (raised : ℕ → ℕ) (phase first n : ℕ) (old mid new : List Answer)

@@ -8,6 +8,7 @@ use Rattle.ivy_sync.specs.declared.error.SyncError.TheVariants as error
 use Rattle.ivy_sync.specs.Failing.{FailsToTake}
 use Rattle.ivy_sync.specs.queueing.Queues.{slot}
 use Rattle.ivy_sync.proofs.answers.Failing.{fails_as, fails_weaker, take_stops_second, take_stops_third}
+use Rattle.ivy_sync.proofs.queueing.Added.{takes_so}
 use Rattle.ivy_sync.proofs.queue.Receiver.take.Goals as goal
 
 pub returns-in_err-value-clause-fails : goal.returns-in_err-value-clause-fails
@@ -54,3 +55,17 @@ returns-in_err-advance_count-clause-fails g c =
     (fails_weaker (g.M.SharedMemory.can_fail c.load.new.memory) can (λ fault may.
     (c.load.new.memory, may)) (Advance q.taken) e later new
     c.in_err-advance_count.ensures.fails))
+
+pub returns-clause-takes : goal.returns-clause-takes
+returns-clause-takes g c =
+    let q = c.args.self.now.queue in
+    let n : ℕ = c.args.self.now.next in
+    let old : List Answer = g.M.SharedMemory.answers c.args.memory.now in
+    let mid : List Answer = g.M.SharedMemory.answers c.await_.new.memory in
+    let later : List Answer = g.M.SharedMemory.answers c.load.new.memory in
+    let new : List Answer = g.M.SharedMemory.answers c.advance_count.new.memory in
+    let least : c.in-Some.after ≡ n + 1 = search rules in
+    let place : c.slot.result ≡ slot q n = search rules in
+    takes_so q n c.in-Some.after c.slot.result c.in_ok-value.value c.in_ok-await_.field-0 old mid
+    later new least place c.in_ok-await_.ensures.asks c.in_ok-value.ensures.asks
+    c.in_ok-advance_count.ensures.asks

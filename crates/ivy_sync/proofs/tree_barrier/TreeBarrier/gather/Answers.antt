@@ -1,8 +1,29 @@
-use Rattle.std.proofs.Common.{◌≡◌, ◌+◌, ◌*◌, subst, rules}
+use Rattle.std.proofs.Common.{◌≡◌, ◌+◌, ◌*◌, ◌≤◌, subst, arith, rules}
+use Rattle.std.proofs.Math.Nat.{mul-le-mul_left}
 use Rattle.ivy_sync.specs.Doing.{AddsLooks}
 use Rattle.ivy_sync.specs.meeting.TreeBarriers.{phase_of, raised_at}
 use Rattle.ivy_sync.proofs.meeting.Climbed.{gathered_more}
 use Rattle.ivy_sync.proofs.tree_barrier.TreeBarrier.gather.Goals as goal
+
+pub overflow_mul-self : goal.overflow_mul-self
+overflow_mul-self g c =
+    let t = c.args.self.now in
+    let place : c.from.result ≡ c.args.me = c.from.ensures in
+    let less = c.children-up-end.ensures.there c.loop-up.up c.loop-up-test.true in
+    let few : 4 * c.from.result + 1 + c.loop-up.up ≤ 256 = omega (arith, less, place) in
+    let most = mul-le-mul_left t.apart few in
+    let fits = c.requires.tree.raised in
+    omega (arith, most, fits)
+
+pub overflow_add-self : goal.overflow_add-self
+overflow_add-self g c =
+    let t = c.args.self.now in
+    let place : c.from.result ≡ c.args.me = c.from.ensures in
+    let less = c.children-up-end.ensures.there c.loop-up.up c.loop-up-test.true in
+    let few : 4 * c.from.result + 1 + c.loop-up.up ≤ 256 = omega (arith, less, place) in
+    let most = mul-le-mul_left t.apart few in
+    let fits = c.requires.tree.raised in
+    omega (arith, most, fits)
 
 pub loop-up-preserved : goal.loop-up-preserved
 loop-up-preserved g c =

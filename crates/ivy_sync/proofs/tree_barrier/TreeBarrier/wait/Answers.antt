@@ -1,4 +1,4 @@
-use Rattle.std.proofs.Common.{◌≡◌, ◌++◌, [], ◌∷◌, List, ap₂, subst, ◌∙◌, rules}
+use Rattle.std.proofs.Common.{◌≡◌, arith, ◌<◌, ◌++◌, [], ◌∷◌, List, ap₂, subst, ◌∙◌, rules}
 use Rattle.ivy_model.specs.declared.call.Call.TheVariants.{Store}
 use Rattle.ivy_model.specs.declared.fault.Fault.{Fault}
 use Rattle.ivy_calls.specs.declared.answer.Answer.{Answer}
@@ -9,8 +9,40 @@ use Rattle.ivy_sync.specs.Doing.{stores}
 use Rattle.ivy_sync.specs.Failing.{AtSome}
 use Rattle.ivy_sync.specs.meeting.TreeBarriers.{FailsToClimb, opened_at, phase_of, raised_at}
 use Rattle.ivy_sync.proofs.answers.Failing.{fails_as, fails_weaker}
-use Rattle.ivy_sync.proofs.meeting.Climbed.{open_stops}
+use Rattle.ivy_sync.proofs.meeting.Climbed.{apart_fits, word_fits, open_stops}
 use Rattle.ivy_sync.proofs.tree_barrier.TreeBarrier.wait.Goals as goal
+
+pub overflow_mul-self : goal.overflow_mul-self
+overflow_mul-self g c =
+    let t = c.args.self.now in
+    let is : c.from.result ≡ c.args.me = c.from.ensures in
+    let small : c.args.me < 256 = omega arith in
+    let fits = apart_fits t.raised t.apart c.args.me c.from.result c.requires.raised is small in
+    omega (arith, fits)
+
+pub overflow_add-self : goal.overflow_add-self
+overflow_add-self g c =
+    let t = c.args.self.now in
+    let is : c.from.result ≡ c.args.me = c.from.ensures in
+    let small : c.args.me < 256 = omega arith in
+    let fits = word_fits t.raised t.apart c.args.me c.from.result c.requires.raised is small in
+    omega (arith, fits)
+
+pub overflow_mul-self-2 : goal.overflow_mul-self-2
+overflow_mul-self-2 g c =
+    let t = c.args.self.now in
+    let is : c.from-2.result ≡ c.args.me = c.from-2.ensures in
+    let small : c.args.me < 256 = omega arith in
+    let fits = apart_fits t.opened t.apart c.args.me c.from-2.result c.requires.opened is small in
+    omega (arith, fits)
+
+pub overflow_add-self-2 : goal.overflow_add-self-2
+overflow_add-self-2 g c =
+    let t = c.args.self.now in
+    let is : c.from-2.result ≡ c.args.me = c.from-2.ensures in
+    let small : c.args.me < 256 = omega arith in
+    let fits = word_fits t.opened t.apart c.args.me c.from-2.result c.requires.opened is small in
+    omega (arith, fits)
 
 pub returns-in_err-store-2-clause-fails : goal.returns-in_err-store-2-clause-fails
 returns-in_err-store-2-clause-fails g c =

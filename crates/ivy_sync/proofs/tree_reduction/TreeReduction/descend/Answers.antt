@@ -1,4 +1,4 @@
-use Rattle.std.proofs.Common.{◌≡◌, ◌++◌, [], ◌∷◌, List, ap, subst, ◌∙◌, rules}
+use Rattle.std.proofs.Common.{◌≡◌, arith, ◌<◌, ◌++◌, [], ◌∷◌, List, ap, subst, ◌∙◌, rules}
 use Rattle.ivy_model.specs.declared.call.Call.TheVariants.{Store}
 use Rattle.ivy_model.specs.declared.fault.Fault.{Fault}
 use Rattle.ivy_calls.specs.declared.answer.Answer.{Answer}
@@ -11,8 +11,41 @@ use Rattle.ivy_sync.specs.meeting.TreeBarriers.{phase_of}
 use Rattle.ivy_sync.specs.meeting.TreeFolds.{FailsToDescend, word_at}
 use Rattle.ivy_sync.specs.meeting.TreeReductions.{Given, Opened}
 use Rattle.ivy_sync.proofs.answers.Failing.{fails_as, fails_weaker}
+use Rattle.ivy_sync.proofs.meeting.Climbed.{apart_fits, word_fits}
 use Rattle.ivy_sync.proofs.meeting.TreeFolded.{descent_stops}
 use Rattle.ivy_sync.proofs.tree_reduction.TreeReduction.descend.Goals as goal
+
+pub overflow_mul-self : goal.overflow_mul-self
+overflow_mul-self g c =
+    let r = c.args.self.now in
+    let is : c.from.result ≡ c.args.me = c.from.ensures in
+    let small : c.args.me < 256 = omega arith in
+    let fits = apart_fits r.given r.tree.apart c.args.me c.from.result c.requires.tree.given is small in
+    omega (arith, fits)
+
+pub overflow_add-self : goal.overflow_add-self
+overflow_add-self g c =
+    let r = c.args.self.now in
+    let is : c.from.result ≡ c.args.me = c.from.ensures in
+    let small : c.args.me < 256 = omega arith in
+    let fits = word_fits r.given r.tree.apart c.args.me c.from.result c.requires.tree.given is small in
+    omega (arith, fits)
+
+pub overflow_mul-self-2 : goal.overflow_mul-self-2
+overflow_mul-self-2 g c =
+    let r = c.args.self.now in
+    let is : c.from-2.result ≡ c.args.me = c.from-2.ensures in
+    let small : c.args.me < 256 = omega arith in
+    let fits = apart_fits r.tree.opened r.tree.apart c.args.me c.from-2.result c.requires.tree.tree.opened is small in
+    omega (arith, fits)
+
+pub overflow_add-self-2 : goal.overflow_add-self-2
+overflow_add-self-2 g c =
+    let r = c.args.self.now in
+    let is : c.from-2.result ≡ c.args.me = c.from-2.ensures in
+    let small : c.args.me < 256 = omega arith in
+    let fits = word_fits r.tree.opened r.tree.apart c.args.me c.from-2.result c.requires.tree.tree.opened is small in
+    omega (arith, fits)
 
 pub returns-in_err-store-2-clause-fails : goal.returns-in_err-store-2-clause-fails
 returns-in_err-store-2-clause-fails g c =

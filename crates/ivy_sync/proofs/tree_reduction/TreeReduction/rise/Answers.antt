@@ -11,6 +11,7 @@ use Rattle.ivy_sync.specs.meeting.TreeBarriers.{phase_of}
 use Rattle.ivy_sync.specs.meeting.TreeFolds.{FailsToRise, word_at}
 use Rattle.ivy_sync.specs.meeting.TreeReductions.{Part, Raised}
 use Rattle.ivy_sync.proofs.answers.Failing.{fails_as, fails_weaker}
+use Rattle.ivy_sync.proofs.meeting.Climbed.{apart_fits, word_fits}
 use Rattle.ivy_sync.proofs.meeting.TreeFolded.{part_not_left, rise_stops, rises_so}
 use Rattle.ivy_sync.proofs.tree_reduction.TreeReduction.rise.Given as given
 use Rattle.ivy_sync.proofs.tree_reduction.TreeReduction.rise.Goals as goal
@@ -18,6 +19,38 @@ use Rattle.ivy_sync.proofs.tree_reduction.TreeReduction.rise.Goals as goal
 -- what the calls of the closure are
 abbrev calls : (g : given.Over) → g.row.F.Denot → ℕ → ℕ → ℕ → Type 0
 calls g f p x q = given.F-post g f p x q
+
+pub overflow_mul-self : goal.overflow_mul-self
+overflow_mul-self g c =
+    let r = c.args.self.now in
+    let is : c.from.result ≡ c.args.me = c.from.ensures in
+    let small : c.args.me < 256 = omega arith in
+    let fits = apart_fits r.part r.tree.apart c.args.me c.from.result c.requires.tree.part is small in
+    omega (arith, fits)
+
+pub overflow_add-self : goal.overflow_add-self
+overflow_add-self g c =
+    let r = c.args.self.now in
+    let is : c.from.result ≡ c.args.me = c.from.ensures in
+    let small : c.args.me < 256 = omega arith in
+    let fits = word_fits r.part r.tree.apart c.args.me c.from.result c.requires.tree.part is small in
+    omega (arith, fits)
+
+pub overflow_mul-self-2 : goal.overflow_mul-self-2
+overflow_mul-self-2 g c =
+    let r = c.args.self.now in
+    let is : c.from-2.result ≡ c.args.me = c.from-2.ensures in
+    let small : c.args.me < 256 = omega arith in
+    let fits = apart_fits r.tree.raised r.tree.apart c.args.me c.from-2.result c.requires.tree.tree.raised is small in
+    omega (arith, fits)
+
+pub overflow_add-self-2 : goal.overflow_add-self-2
+overflow_add-self-2 g c =
+    let r = c.args.self.now in
+    let is : c.from-2.result ≡ c.args.me = c.from-2.ensures in
+    let small : c.args.me < 256 = omega arith in
+    let fits = word_fits r.tree.raised r.tree.apart c.args.me c.from-2.result c.requires.tree.tree.raised is small in
+    omega (arith, fits)
 
 pub returns-in_err-store-2-clause-fails : goal.returns-in_err-store-2-clause-fails
 returns-in_err-store-2-clause-fails g c =
