@@ -6,6 +6,7 @@ ghost use Rattle.ivy_wire.specs.Lent.{owned_message};
 ghost use Rattle.ivy_wire.specs.stated.Spelling.{FitsMessage};
 ghost use Rattle.ivy_wire.specs.Posts.{IsPostOf, HasRefused};
 ghost use Rattle.ivy_pagetable.specs.declared.Request.TheVariants as request;
+ghost use Rattle.ivy_pagetable.specs.stated.Entries.{is_locked};
 ghost use Rattle.ivy_pagetable.specs.stated.Tables.{entry_at};
 ghost use Rattle.ivy_pagetable.specs.stated.NodeSets.{IsBelow};
 ghost use Rattle.ivy_coherence.specs.stated.IdleSound.{CanBeServed, AreOthers};
@@ -74,6 +75,32 @@ impl<M: Manager, A: Allocator> Coherence<M, A> {
                 )?;
                 self.table.set_entry(page, Entry::Idle(after));
             }
+            LentEntry::AwaitRead(_) | LentEntry::AwaitWrite(_) | LentEntry::AwaitAcks(_) => {
+                self.asked_later(page, message, post)?;
+            }
+        }
+        Ok(())
+    }
+
+    /// What [`Coherence::asked`] does where a word waits for the page.
+    ///
+    /// It stands apart, so that a page or a copy is given with no room cleared for what is put off.
+    #[inline(never)]
+    fn asked_later<P: Post>(
+        &mut self,
+        page: u32,
+        message: PutOff,
+        post: &mut P,
+    ) -> Result<(), Fault>
+        requires page { page < self.old.config.pages }
+        requires message { CanBeServed self.old.config self.old.me message }
+        requires locked { is_locked (entry_at self.old.table page) ≡ true }
+        requires post { IsPostOf P.ops post.old self.old.config self.old.me }
+        ensures { IsStep P.ops post.old post.new result self.old self.new
+            (asked_at M.ops self.old page message) }
+    {
+        match self.table.entry(page) {
+            LentEntry::Idle(_) => unreachable!(),
             LentEntry::AwaitRead(_) => self.put_aside(page, message),
             LentEntry::AwaitWrite(state) => {
                 if message.kind == Request::Invalidate {

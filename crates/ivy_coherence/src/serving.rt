@@ -19,8 +19,8 @@ use ivy_wire::{Content, Parcel, Post, parcel_to};
 /// How many messages a node posts in one event at most.
 const MOST_POSTED: usize = MOST_NODES as usize;
 
-/// What a node posts in one event, in order.
-type Parcels<'a> = ArrayVec<Parcel<&'a [u8]>, MOST_POSTED>;
+/// What a node posts in one event, in order, so many at most.
+type Parcels<'a, const MOST: usize> = ArrayVec<Parcel<&'a [u8]>, MOST>;
 
 /// Where messages are served: this node, the one whose message brings that about, and the page with its bytes.
 #[derive(Clone, Copy)]
@@ -41,15 +41,15 @@ pub fn count(breaches: &mut u64)
 }
 
 /// The owner serves a message: it gives a copy, or the page.
-fn serve_as_owner<'a, M: Manager>(
+fn serve_as_owner<'a, M: Manager, const MOST: usize>(
     at: Place<'a>,
     idle: &mut Idle,
     manager: &mut M,
     breaches: &mut u64,
     message: PutOff,
-    out: &mut Parcels<'a>,
+    out: &mut Parcels<'a, MOST>,
 )
-    requires room { length out.old.items < most_posted }
+    requires room { length out.old.items < MOST }
     requires owner { idle.old.owner ≡ true }
     requires origin { message.origin < most_nodes }
     ensures after { let before = serving idle.old manager.old breaches.old (map owned_parcel out.old.items) in
@@ -93,14 +93,14 @@ fn serve_as_owner<'a, M: Manager>(
 }
 
 /// Another node serves a message: it sends a request on, or gives its copy up.
-fn serve_as_other<'a, M: Manager>(
+fn serve_as_other<'a, M: Manager, const MOST: usize>(
     at: Place<'a>,
     idle: &mut Idle,
     manager: &mut M,
     message: PutOff,
-    out: &mut Parcels<'a>,
+    out: &mut Parcels<'a, MOST>,
 )
-    requires room { length out.old.items < most_posted }
+    requires room { length out.old.items < MOST }
     ensures after { (breaches : ℕ) →
         let before = serving idle.old manager.old breaches (map owned_parcel out.old.items) in
         let after = serving idle.new manager.new breaches (map owned_parcel out.new.items) in
@@ -130,15 +130,15 @@ fn serve_as_other<'a, M: Manager>(
 }
 
 /// Serves a message at an idle entry.
-fn serve<'a, M: Manager>(
+fn serve<'a, M: Manager, const MOST: usize>(
     at: Place<'a>,
     idle: &mut Idle,
     manager: &mut M,
     breaches: &mut u64,
     message: PutOff,
-    out: &mut Parcels<'a>,
+    out: &mut Parcels<'a, MOST>,
 )
-    requires room { length out.old.items < most_posted }
+    requires room { length out.old.items < MOST }
     requires origin { message.origin < most_nodes }
     ensures after { let before = serving idle.old manager.old breaches.old (map owned_parcel out.old.items) in
         let after = serving idle.new manager.new breaches.new (map owned_parcel out.new.items) in
@@ -153,15 +153,15 @@ fn serve<'a, M: Manager>(
 }
 
 /// Serves messages at an idle entry, in order.
-fn serve_all<'a, M: Manager>(
+fn serve_all<'a, M: Manager, const MOST: usize>(
     at: Place<'a>,
     idle: &mut Idle,
     manager: &mut M,
     breaches: &mut u64,
     messages: &[PutOff],
-    out: &mut Parcels<'a>,
+    out: &mut Parcels<'a, MOST>,
 )
-    requires few { length messages.now ≤ most_posted }
+    requires few { length messages.now ≤ MOST }
     requires empty { out.old.items ≡ [] }
     requires origins { All (λ q. q.origin < most_nodes) messages.now }
     ensures after { let before = serving idle.old manager.old breaches.old [] in
@@ -194,6 +194,74 @@ fn is_write(kind: Request) -> bool
     }
 }
 
+/// What [`serve_put_off`] does, with room for what is posted.
+fn serve_in<'a, M: Manager, P: Post, const MOST: usize>(
+    at: Place<'a>,
+    reply: Option<Request>,
+    idle: Idle,
+    manager: &mut M,
+    breaches: &mut u64,
+    messages: &[PutOff],
+    post: &mut P,
+    room: &mut Parcels<'a, MOST>,
+) -> Result<Idle, Fault>
+    requires mine { at.me ≡ M.ops.me manager.old }
+    requires few { length messages.now ≤ MOST }
+    requires empty { room.old.items ≡ [] }
+    requires origins { All (λ q. q.origin < most_nodes) messages.now }
+    requires fits { All (FitsParcel (P.ops.config post.old) (P.ops.node post.old))
+        (put_off_served M.ops at.me at.from at.page at.bytes.now
+        idle manager.old breaches.old reply messages.now).posted }
+    ensures { HasServed P.ops post.old post.new result
+        manager.old manager.new breaches.old breaches.new
+        (put_off_served M.ops at.entry.me at.entry.from at.entry.page at.entry.bytes.now
+        idle manager.old breaches.old reply messages.now) }
+{
+    let hop = manager.next_hop(at.page);
+    if let Some(kind) = reply {
+        manager.on_replied(at.page, is_write(kind), at.from);
+    }
+    let mut after = idle;
+    let mut counted = *breaches;
+    serve_all(at, &mut after, manager, &mut counted, messages, room);
+    if let Err(fault) = post.post(room.as_slice()) {
+        take_back(at, hop, manager);
+        return Err(fault);
+    }
+    *breaches = counted;
+    Ok(after)
+}
+
+/// What [`serve_put_off`] does, of as many messages as there are.
+///
+/// It stands apart, so that one message is served with no room cleared for more.
+#[inline(never)]
+fn serve_many<M: Manager, P: Post>(
+    at: Place,
+    reply: Option<Request>,
+    idle: Idle,
+    manager: &mut M,
+    breaches: &mut u64,
+    messages: &[PutOff],
+    post: &mut P,
+) -> Result<Idle, Fault>
+    requires mine { at.me ≡ M.ops.me manager.old }
+    requires few { length messages.now ≤ most_posted }
+    requires origins { All (λ q. q.origin < most_nodes) messages.now }
+    requires fits { All (FitsParcel (P.ops.config post.old) (P.ops.node post.old))
+        (put_off_served M.ops at.me at.from at.page at.bytes.now
+        idle manager.old breaches.old reply messages.now).posted }
+    ensures { HasServed P.ops post.old post.new result
+        manager.old manager.new breaches.old breaches.new
+        (put_off_served M.ops at.entry.me at.entry.from at.entry.page at.entry.bytes.now
+        idle manager.old breaches.old reply messages.now) }
+{
+    let mut room: Parcels<MOST_POSTED> = ArrayVec::new();
+    serve_in(
+        at, reply, idle, manager, breaches, messages, post, &mut room,
+    )
+}
+
 /// Serves messages at an idle entry and posts what comes of it, or changes nothing [1, 17]. First the manager
 /// learns that `from` replied, to a request to write or to read, where that brings it about. What the entry is
 /// then.
@@ -217,27 +285,13 @@ pub fn serve_put_off<M: Manager, P: Post>(
         (put_off_served M.ops at.entry.me at.entry.from at.entry.page at.entry.bytes.now
         idle manager.old breaches.old reply messages.now) }
 {
-    let hop = manager.next_hop(at.page);
-    if let Some(kind) = reply {
-        manager.on_replied(at.page, is_write(kind), at.from);
+    if messages.len() > 1 {
+        return serve_many(at, reply, idle, manager, breaches, messages, post);
     }
-    let mut after = idle;
-    let mut counted = *breaches;
-    let mut parcels: Parcels = ArrayVec::new();
-    serve_all(
-        at,
-        &mut after,
-        manager,
-        &mut counted,
-        messages,
-        &mut parcels,
-    );
-    if let Err(fault) = post.post(parcels.as_slice()) {
-        take_back(at, hop, manager);
-        return Err(fault);
-    }
-    *breaches = counted;
-    Ok(after)
+    let mut room: Parcels<1> = ArrayVec::new();
+    serve_in(
+        at, reply, idle, manager, breaches, messages, post, &mut room,
+    )
 }
 
 /// Tells each of these nodes to give its copy up, or changes nothing [1, 17].
@@ -254,7 +308,7 @@ pub fn invalidate<P: Post>(
     ensures { HasPosted P.ops post.old post.new result
         (invalidations me page call nodes.now) }
 {
-    let mut parcels: Parcels = ArrayVec::new();
+    let mut parcels: Parcels<MOST_POSTED> = ArrayVec::new();
     for node in nodes.nodes().as_slice() {
         parcels.push(parcel_to(me, *node, me, call, Content::Inval { page }));
     }

@@ -6,7 +6,7 @@ use Rattle.ivy_pagetable.specs.stated.States.{IdleState}
 use Rattle.ivy_pagetable.specs.stated.Manager.{Ops}
 use Rattle.ivy_coherence.specs.stated.Serving.{Serving, serving, all_served, told, put_off_served}
 use Rattle.ivy_coherence.proofs.keeping.Undoing.{IsMadeBy, put_off_served-follows, me-follows, undone}
-use Rattle.ivy_coherence.proofs.serving.serve_put_off.Goals as goal
+use Rattle.ivy_coherence.proofs.serving.serve_in.Goals as goal
 
 -- the manager learns of the reply first, then all messages are served
 settled_then : {S : Type 0} (ops : Ops S) (me from page : ℕ) (bytes : List ℕ) (idle : IdleState)
