@@ -130,6 +130,15 @@ impl<A: Allocator> Events<A> {
         }
     }
 
+    /// Lists one more delivery, of a whole string whose bytes these are, where the entries are not kept.
+    pub fn push_unkept(&mut self, bytes: &[u8])
+        requires { self.old.kept ≡ false }
+        ensures marks { self.new.marks ≡ self.old.marks ++ Delivery bytes.now ∷ [] }
+        ensures kept { self.new.kept ≡ self.old.kept }
+    {
+        self.story.push_delivery(bytes);
+    }
+
     /// Lists one more pulse, to a node by its number, in the place that [`Events::reserve`] made.
     #[tactic(auto, using(crate::proofs::Noted::marks_push))]
     pub fn push_pulse(&mut self, to: u8)

@@ -1,5 +1,5 @@
 //! One node: its program, its memory, its link, and the strings that wait to be put on the wire.
-ghost use Rattle.std.specs.Prelude.{◌*◌, ◌≡◌, ◌↔◌, ◌≢◌, ◌+◌, ◌<◌, ◌≤◌, [], ◌∷◌, None, Some, Err, length, vec_len, vec_capacity};
+ghost use Rattle.std.specs.Prelude.{◌*◌, ◌≡◌, ◌↔◌, ◌≢◌, ◌+◌, ◌<◌, ◌≤◌, [], ◌∷◌, None, Some, Err, length, vec_len, vec_capacity, ◌++◌, false};
 ghost use Rattle.std.specs.Prelude.{IsTrue, IsSome, IfOk, IfErr, OnOk, OnErr, IfSome, IsOkUnless, MatchBool, MatchResult, MatchOption, Contains};
 ghost use Rattle.ivy_model.specs.stated.Config.{IsConfig};
 ghost use Rattle.ivy_model.specs.Wants.{RanOut};
@@ -23,7 +23,7 @@ ghost use Rattle.ivy_site.specs.Sites.{most_sent, most_delivered, first_shown, f
 ghost use Rattle.ivy_moves.specs.Keeping.{keeps_history, keeps_events, read_of, last_of};
 ghost use Rattle.ivy_site.specs.Sites.{SpellsFrame, GoesAsFar, DeliversWhole, IsHeld, early_at, without_ready, IsSpentTurn, IsSpentDelivery, TakesFrame, IsSameNode, IsMadeByEvents, IsSentBy, Awaits, await_in};
 ghost use Rattle.ivy_site.specs.Inside.{Hears, Receives, AfterOnce, HoldsString};
-ghost use Rattle.ivy_moves.specs.Marks.{marks};
+ghost use Rattle.ivy_moves.specs.Marks.{Delivery, marks};
 ghost use Rattle.ivy_model.specs.stated.Legal.{HasWidth};
 
 use crate::host::Host;
@@ -80,17 +80,64 @@ impl<A: Allocator> Model for Site<A> {
     ghost invariant = { λ s. IsSite (shown_of s.keep (host_in s.host) s.outbox s.events.marks) × AreKept s.keep s.host.history.kept s.events.kept };
 }
 
+/// The string of these bytes once more: shared where there is one, else a copy of them.
+fn once_more<A: Allocator + Copy>(
+    alloc: A,
+    bytes: &[u8],
+    string: &Option<Bytes<A>>,
+) -> Result<Bytes<A>, AllocError>
+    requires string { IfSome string.now (λ s. s ≡ bytes.now) }
+    ensures { IfOk result (λ s. s ≡ bytes.now) }
+{
+    match string {
+        Some(string) => string.share(),
+        None => Bytes::new(alloc, bytes),
+    }
+}
+
 /// The string once more, where its frame came before its turn.
 fn if_ahead<A: Allocator + Copy>(
     verdict: Verdict,
-    string: &Bytes<A>,
+    alloc: A,
+    bytes: &[u8],
+    string: &Option<Bytes<A>>,
 ) -> Result<Option<Bytes<A>>, AllocError>
-    ensures { IfOk result (λ o. MatchOption o (verdict ≢ Verdict.Ahead) (λ held. (held ≡ string.now) × (verdict ≡ Verdict.Ahead))) }
+    requires string { IfSome string.now (λ s. s ≡ bytes.now) }
+    ensures { IfOk result (λ o. MatchOption o (verdict ≢ Verdict.Ahead) (λ held. (held ≡ bytes.now) × (verdict ≡ Verdict.Ahead))) }
 {
     if verdict == Verdict::Ahead {
-        return Ok(Some(string.share()?));
+        return Ok(Some(once_more(alloc, bytes, string)?));
     }
     Ok(None)
+}
+
+/// The string once more, where the events are kept to be read.
+fn if_kept<A: Allocator + Copy>(
+    events: &Events<A>,
+    alloc: A,
+    bytes: &[u8],
+    string: &Option<Bytes<A>>,
+) -> Result<Option<Bytes<A>>, AllocError>
+    requires string { IfSome string.now (λ s. s ≡ bytes.now) }
+    ensures { IfOk result (λ o. MatchOption o (events.now.kept ≡ false) (λ listed. listed ≡ bytes.now)) }
+{
+    if events.is_kept() {
+        return Ok(Some(once_more(alloc, bytes, string)?));
+    }
+    Ok(None)
+}
+
+/// Lists the delivery of these bytes, with the string of them where that is to be read.
+fn list<A: Allocator>(events: &mut Events<A>, bytes: &[u8], string: Option<Bytes<A>>)
+    requires room { IsTrue events.old.has_room }
+    requires string { MatchOption string (events.old.kept ≡ false) (λ s. s ≡ bytes.now) }
+    ensures marks { events.new.marks ≡ events.old.marks ++ Delivery bytes.now ∷ [] }
+    ensures kept { events.new.kept ≡ events.old.kept }
+{
+    match string {
+        Some(string) => events.push_delivery(string),
+        None => events.push_unkept(bytes),
+    }
 }
 
 impl<A: Allocator + Copy> Site<A> {
@@ -502,18 +549,23 @@ impl<A: Allocator + Copy> Site<A> {
 
     /// A string that spells a frame comes, and neither is it held nor does the site go on. The answer is the verdict,
     /// the node that the frame comes from, and, of a frame that came before its turn, the string once more, to be
-    /// held. Of a frame that is not the next one no more than the head is read.
-    fn hear(&mut self, string: &Bytes<A>) -> Result<(Verdict, u8, Option<Bytes<A>>), Fault>
-        requires spelled { SpellsFrame self.old.config string.now }
+    /// held. Of a frame that is not the next one no more than the head is read. Where bytes come with no string of them,
+    /// they are copied only to be held or to be listed.
+    fn hear(
+        &mut self,
+        bytes: &[u8],
+        string: Option<Bytes<A>>,
+    ) -> Result<(Verdict, u8, Option<Bytes<A>>), Fault>
+        requires spelled { SpellsFrame self.old.config bytes.now }
+        requires string { IfSome string (λ s. s ≡ bytes.now) }
         ensures same { IsSameNode self.old self.new }
-        ensures done { MatchResult result (λ h. Hears string.now h.0 h.1 h.2 self.old self.new) (λ _. self.new ≡ self.old) }
+        ensures done { MatchResult result (λ h. Hears bytes.now h.0 h.1 h.2 self.old self.new) (λ _. self.new ≡ self.old) }
         ensures from { IfOk result (λ h. h.1 < self.old.config.nodes) }
         ensures want { IfErr result RanOut }
         ensures few { length self.new.waiting ≤ length self.old.waiting + most_posted }
-        ensures spent { IfErr result (IsSpentDelivery self.old string.now) }
+        ensures spent { IfErr result (IsSpentDelivery self.old bytes.now) }
     {
         let config = self.outbox.config();
-        let bytes = string.bytes();
         let head = head_of(bytes);
         let from = head.source;
         let verdict = self.outbox.offer(&head);
@@ -521,15 +573,15 @@ impl<A: Allocator + Copy> Site<A> {
             return Ok((verdict, from, None));
         }
         self.events.reserve()?;
-        let held = if_ahead(verdict, string)?;
-        let listed = string.share()?;
+        let held = if_ahead(verdict, self.alloc, bytes, &string)?;
+        let listed = if_kept(&self.events, self.alloc, bytes, &string)?;
         if verdict == Verdict::Next {
             if let Some(message) = message_of(&config, bytes) {
                 self.host.memory.handle(from, message, &mut self.outbox)?;
             }
         }
         self.outbox.accept(&head);
-        self.events.push_delivery(listed);
+        list(&mut self.events, bytes, listed);
         Ok((verdict, from, held))
     }
 
@@ -544,6 +596,28 @@ impl<A: Allocator + Copy> Site<A> {
         self.outbox.hold(&head, string);
     }
 
+    /// What [`Site::receive`] does, of bytes with their string, or alone.
+    fn receive_lent(
+        &mut self,
+        bytes: &[u8],
+        string: Option<Bytes<A>>,
+    ) -> Result<(Verdict, u8), Fault>
+        requires spelled { SpellsFrame self.old.config bytes.now }
+        requires string { IfSome string (λ s. s ≡ bytes.now) }
+        ensures same { IsSameNode self.old self.new }
+        ensures done { MatchResult result (λ r. Receives bytes.now r.0 r.1 self.old self.new) (λ _. self.new ≡ self.old) }
+        ensures from { IfOk result (λ r. r.1 < self.old.config.nodes) }
+        ensures want { IfErr result RanOut }
+        ensures few { length self.new.waiting ≤ length self.old.waiting + most_posted }
+        ensures spent { IfErr result (IsSpentDelivery self.old bytes.now) }
+    {
+        let (verdict, from, early) = self.hear(bytes, string)?;
+        if let Some(held) = early {
+            self.hold(held);
+        }
+        Ok((verdict, from))
+    }
+
     /// What [`Site::deliver`] does before the site goes on, with the node that the frame comes from.
     fn receive(&mut self, string: &Bytes<A>) -> Result<(Verdict, u8), Fault>
         requires spelled { SpellsFrame self.old.config string.now }
@@ -554,11 +628,8 @@ impl<A: Allocator + Copy> Site<A> {
         ensures few { length self.new.waiting ≤ length self.old.waiting + most_posted }
         ensures spent { IfErr result (IsSpentDelivery self.old string.now) }
     {
-        let (verdict, from, early) = self.hear(string)?;
-        if let Some(held) = early {
-            self.hold(held);
-        }
-        Ok((verdict, from))
+        let shared = string.share()?;
+        self.receive_lent(string.bytes(), Some(shared))
     }
 
     /// Takes out the string that is held of the next number from a node.
@@ -673,8 +744,7 @@ impl<A: Allocator + Copy> Site<A> {
     {
         let config = self.outbox.config();
         read_frame(&config, bytes)?;
-        let string = Bytes::new(self.alloc, bytes)?;
-        self.receive(&string)
+        self.receive_lent(bytes, None)
     }
 
     /// A string comes that spells a frame, as [`Site::deliver_shared`] says [1, 17]. It is not tested again.

@@ -1,4 +1,4 @@
-use Rattle.std.proofs.Common.{refl, sym, ap, subst, ◌∙◌}
+use Rattle.std.proofs.Common.{refl, ap, subst, ◌∙◌}
 use Rattle.ivy_model.specs.stated.Config.{IsConfig}
 use Rattle.ivy_wire.specs.Lent.{owned_frame}
 use Rattle.ivy_memory.proofs.keeping.Beginning.{err_there}
@@ -15,13 +15,11 @@ returns-in_err-read_frame-clause-spent g c =
     (spent_reading _ _ c.self.view_is c.config-config.result c.args.bytes.now _ _
     c.config-config.ensures.is c.in_err-read_frame.ensures.fault)
 
-pub receive-requires : goal.receive-requires
-receive-requires g c = record {
-  spelled =
-      reads_frame c.args.self.now _ c.self.view_is c.config-config.result c.config-config.ensures.is
-      (owned_frame c.in_ok-read_frame.field-0) c.in_ok-string.string c.args.bytes.now
-      (sym c.in_ok-string.ensures) c.in_ok-read_frame.ensures.found;
-}
+pub receive_lent-requires-clause-spelled : goal.receive_lent-requires-clause-spelled
+receive_lent-requires-clause-spelled g c =
+    reads_frame c.args.self.now _ c.self.view_is c.config-config.result c.config-config.ensures.is
+    (owned_frame c.in_ok-read_frame.field-0) c.args.bytes.now c.args.bytes.now refl
+    c.in_ok-read_frame.ensures.found
 
 pub returns-clause-refused : goal.returns-clause-refused
 returns-clause-refused g c =
@@ -31,4 +29,4 @@ returns-clause-refused g c =
     (reads_frame c.args.self.now _ c.self.view_is c.config-config.result
     c.config-config.ensures.is (owned_frame c.in_ok-read_frame.field-0) c.args.bytes.now
     c.args.bytes.now refl c.in_ok-read_frame.ensures.found)
-    c.receive.result c.receive.ensures.want
+    c.receive_lent.result c.receive_lent.ensures.want

@@ -1,5 +1,5 @@
 use denote.Enum.Bare.{sameb}
-use Rattle.std.proofs.Common.{rules, true, ◌≡◌, ◌≢◌, ℕ, List, ◌<◌, ◌++◌, ◌∷◌, [], None, sym, refl, ap, subst, ◌∙◌}
+use Rattle.std.proofs.Common.{rules, true, ◌≡◌, ◌≢◌, ℕ, List, ◌<◌, ◌++◌, ◌∷◌, [], None, sym, refl, ap, subst, ◌∙◌, inl, inr}
 use Rattle.ivy_model.specs.stated.Config.{IsConfig}
 use Rattle.ivy_wire.specs.stated.Spelling.{Spells}
 use Rattle.ivy_model.specs.declared.Config.{Config}
@@ -39,10 +39,9 @@ module _ (g : Over) (c : After-accept g) where
   apart = search rules
 
   -- the string is read under the configuration of the outbox
-  lent : Spells c.config-config.result c.requires.spelled.0 c.bytes-bytes.result.now
+  lent : Spells c.config-config.result c.requires.spelled.0 c.args.bytes.now
   lent =
-      subst (Spells c.config-config.result c.requires.spelled.0) (sym c.bytes-bytes.ensures)
-      (read_head c.args.self.now c.args.string.now c.bytes-bytes.result.now c.bytes-bytes.ensures
+      (read_head c.args.self.now c.args.bytes.now c.args.bytes.now refl
       c.requires.spelled c.head_of-head.result c.head_of-head.ensures _ c.self.view_is
       c.config-config.result c.config-config.ensures.is c.config-config.ensures.limits
       c.offer-verdict.result c.offer-verdict.ensures).spelled
@@ -61,7 +60,7 @@ module _ (g : Over) (c : After-accept g) where
         rw w.self-inside-is
         (heard_from _ c.requires.spelled.0 c.offer-verdict.result
         (owned_message w.in-Some.message) _ _ c.head_of-head.result.source
-        (source_is c.args.self.now c.args.string.now c.bytes-bytes.result.now c.bytes-bytes.ensures
+        (source_is c.args.self.now c.args.bytes.now c.args.bytes.now refl
         c.requires.spelled c.head_of-head.result c.head_of-head.ensures) next
         (sym (w.message_of.ensures c.requires.spelled.0 lent) ∙ ap owned_body w.in-Some.is)
         w.in_ok-handle.ensures.ok w.in_ok-handle.ensures.took w.in_ok-handle.ensures.few
@@ -87,23 +86,22 @@ module _ (g : Over) (c : After-accept g) where
       is
       ∙ ap (λ h. with_holding c.if-eq-2.self-inside.outbox
       (accepted_at (holding_of c.if-eq-2.self-inside.outbox) h))
-      (head_is c.args.self.now c.args.string.now c.bytes-bytes.result.now c.bytes-bytes.ensures
+      (head_is c.args.self.now c.args.bytes.now c.args.bytes.now refl
       c.requires.spelled c.head_of-head.result c.head_of-head.ensures)
 
   -- the delivery is listed behind the events before
-  listed : (marks : List Mark) (copy bytes : List ℕ)
+  listed : (marks : List Mark) (bytes : List ℕ)
       → c.reserve.new.self.marks ≡ c.self.inside.events.marks
-      → marks ≡ c.if-eq-2.self-inside.events.marks ++ Delivery copy ∷ [] → copy ≡ bytes
+      → marks ≡ c.if-eq-2.self-inside.events.marks ++ Delivery bytes ∷ []
       → marks ≡ c.self.inside.events.marks ++ Delivery bytes ∷ []
-  listed marks copy bytes same pushed copied =
+  listed marks bytes same pushed =
       let kept : c.if-eq-2.self-inside.events.marks ≡ c.self.inside.events.marks =
       elim c.if-eq-2.branch [
         | then-eq-2+in-Some+in_ok-handle w ↦ rw w.self-inside-is same
         | then-eq-2+in_default w ↦ rw w.self-inside-is same
         | else-eq-2 w ↦ rw w.self-inside-is same
       ] in
-      pushed ∙ (ap (λ (ms : List Mark). ms ++ Delivery copy ∷ []) kept
-      ∙ ap (λ b. c.self.inside.events.marks ++ Delivery b ∷ []) copied)
+      pushed ∙ ap (λ (ms : List Mark). ms ++ Delivery bytes ∷ []) kept
 
   -- what is kept of the past stays
   same_keep : c.if-eq-2.self-inside.keep ≡ c.self.inside.keep
@@ -132,66 +130,78 @@ pub returns-then-eq-clause-done : goal.returns-then-eq-clause-done
 returns-then-eq-clause-done g c =
     let not : c.offer-verdict.result ≡ verdict.NotMine = search rules in
     let config = c.config-config.ensures.is ∙ ap (λ (x : SiteView). x.config) c.self.view_is in
-    hears c.args.string.now c.offer-verdict.result c.head_of-head.result.source None _ _
+    hears c.args.bytes.now c.offer-verdict.result c.head_of-head.result.source None _ _
     (subst IsConfig config c.config-config.ensures.limits) c.requires.spelled.0
     c.requires.spelled.1
-    (source_is c.args.self.now c.args.string.now c.bytes-bytes.result.now c.bytes-bytes.ensures
+    (source_is c.args.self.now c.args.bytes.now c.args.bytes.now refl
     c.requires.spelled c.head_of-head.result c.head_of-head.ensures)
-    (not_mine _ _ c.self.view_is c.config-config.result c.requires.spelled.0 c.args.string.now
+    (not_mine _ _ c.self.view_is c.config-config.result c.requires.spelled.0 c.args.bytes.now
     c.offer-verdict.result
-    (read_head c.args.self.now c.args.string.now c.bytes-bytes.result.now c.bytes-bytes.ensures
+    (read_head c.args.self.now c.args.bytes.now c.args.bytes.now refl
     c.requires.spelled c.head_of-head.result c.head_of-head.ensures _ c.self.view_is
     c.config-config.result c.config-config.ensures.is c.config-config.ensures.limits
     c.offer-verdict.result c.offer-verdict.ensures) not)
-    (subst (λ v. CameEarlyAs v c.args.string.now c.args.self.now) (sym not) tt)
+    (subst (λ v. CameEarlyAs v c.args.bytes.now c.args.self.now) (sym not) tt)
     (λ ahead. mine_or_ahead _ not ahead)
 
 pub returns-in_err-handle-clause-spent : goal.returns-in_err-handle-clause-spent
 returns-in_err-handle-clause-spent g c =
     let next : c.offer-verdict.result ≡ verdict.Next = search rules in
     err_there c.from_residual-in_err-handle.result
-    (IsSpentDelivery c.args.self.now c.args.string.now) _
+    (IsSpentDelivery c.args.self.now c.args.bytes.now) _
     c.from_residual-in_err-handle.ensures.1
-    (spent_from _ _ c.self.view_is c.config-config.result c.requires.spelled.0 c.args.string.now
+    (spent_from _ _ c.self.view_is c.config-config.result c.requires.spelled.0 c.args.bytes.now
     c.offer-verdict.result
-    (read_head c.args.self.now c.args.string.now c.bytes-bytes.result.now c.bytes-bytes.ensures
+    (read_head c.args.self.now c.args.bytes.now c.args.bytes.now refl
     c.requires.spelled c.head_of-head.result c.head_of-head.ensures _ c.self.view_is
     c.config-config.result c.config-config.ensures.is c.config-config.ensures.limits
     c.offer-verdict.result c.offer-verdict.ensures) next
     (owned_message c.in-Some.message)
     (sym (c.message_of.ensures c.requires.spelled.0
-    (subst (Spells c.config-config.result c.requires.spelled.0) (sym c.bytes-bytes.ensures)
-    (read_head c.args.self.now c.args.string.now c.bytes-bytes.result.now c.bytes-bytes.ensures
+    ((read_head c.args.self.now c.args.bytes.now c.args.bytes.now refl
     c.requires.spelled c.head_of-head.result c.head_of-head.ensures _ c.self.view_is
     c.config-config.result c.config-config.ensures.is c.config-config.ensures.limits
     c.offer-verdict.result c.offer-verdict.ensures).spelled))
     ∙ ap owned_body c.in-Some.is)
     _ c.head_of-head.result.source
-    (source_is c.args.self.now c.args.string.now c.bytes-bytes.result.now c.bytes-bytes.ensures
+    (source_is c.args.self.now c.args.bytes.now c.args.bytes.now refl
     c.requires.spelled c.head_of-head.result c.head_of-head.ensures)
     c.in_err-handle.ensures.fault)
+
+-- a refused message changes nothing
+pub invariant_of-self-in_err-handle : goal.invariant_of-self-in_err-handle
+invariant_of-self-in_err-handle g c =
+    let box : c.handle.new.post ≡ c.self.inside.outbox = elim c.in_err-handle.ensures.fault [
+      | inl want ↦ want.1
+      | inr refused ↦ refused.1
+    ] in
+    rw (
+      c.in_err-handle.ensures.err,
+      box,
+      c.in_ok-reserve.ensures.same,
+      c.in_ok-reserve.ensures.kept,
+    ) c.self.invariant
 
 pub invariant_of-self-2 : goal.invariant_of-self-2
 invariant_of-self-2 g c =
     let after = (goal.at.invariant_of-self-2 g c).After-accept in (
       subst (λ k. IsSite (shown_of k
-          (host_in c.if-eq-2.self-inside.host) c.accept.new.self c.push_delivery.new.self.marks))
+          (host_in c.if-eq-2.self-inside.host) c.accept.new.self c.list.new.events.marks))
           (sym (same_keep g after))
-          (heard_site _ c.config-config.result c.requires.spelled.0 c.args.string.now
+          (heard_site _ c.config-config.result c.requires.spelled.0 c.args.bytes.now
           c.offer-verdict.result c.config-config.ensures.fits
-          (read_head c.args.self.now c.args.string.now c.bytes-bytes.result.now c.bytes-bytes.ensures
+          (read_head c.args.self.now c.args.bytes.now c.args.bytes.now refl
           c.requires.spelled c.head_of-head.result c.head_of-head.ensures _ c.self.view_is
           c.config-config.result c.config-config.ensures.is c.config-config.ensures.limits
           c.offer-verdict.result c.offer-verdict.ensures)
           (apart g after) _ _ c.accept.new.self
-          c.push_delivery.new.self.marks c.self.invariant.0 (heard g after)
+          c.list.new.events.marks c.self.invariant.0 (heard g after)
           (accepts g after _ c.accept.ensures)
-          (listed g after c.push_delivery.new.self.marks
-          c.in_ok-listed.listed c.args.string.now c.in_ok-reserve.ensures.same c.push_delivery.ensures.marks
-          c.in_ok-listed.ensures)),
+          (listed g after c.list.new.events.marks
+          c.args.bytes.now c.in_ok-reserve.ensures.same c.list.ensures.marks)),
       (
         same_history g after ∙ c.self.invariant.1.0 ∙ ap keeps_history (sym (same_keep g after)),
-        c.push_delivery.ensures.kept ∙ same_events g after c.in_ok-reserve.ensures.kept
+        c.list.ensures.kept ∙ same_events g after c.in_ok-reserve.ensures.kept
             ∙ c.self.invariant.1.1 ∙ ap keeps_events (sym (same_keep g after)),
       ),
     )
@@ -201,29 +211,29 @@ returns-clause-done g c =
     let after = (goal.at.returns-clause-done g c).After-accept in
     let config = c.config-config.ensures.is ∙ ap (λ (x : SiteView). x.config) c.self.view_is in
     let events =
-    listed g after c.push_delivery.new.self.marks c.in_ok-listed.listed c.args.string.now
-    c.in_ok-reserve.ensures.same c.push_delivery.ensures.marks c.in_ok-listed.ensures in
+    listed g after c.list.new.events.marks c.args.bytes.now
+    c.in_ok-reserve.ensures.same c.list.ensures.marks in
     let read =
-    (read_head c.args.self.now c.args.string.now c.bytes-bytes.result.now c.bytes-bytes.ensures
+    (read_head c.args.self.now c.args.bytes.now c.args.bytes.now refl
     c.requires.spelled c.head_of-head.result c.head_of-head.ensures _ c.self.view_is
     c.config-config.result c.config-config.ensures.is c.config-config.ensures.limits
     c.offer-verdict.result c.offer-verdict.ensures) in
-    subst (λ k. Hears c.args.string.now c.offer-verdict.result c.head_of-head.result.source
+    subst (λ k. Hears c.args.bytes.now c.offer-verdict.result c.head_of-head.result.source
     c.in_ok-held.held c.args.self.now (shown_of k
-    (host_in c.if-eq-2.self-inside.host) c.accept.new.self c.push_delivery.new.self.marks))
+    (host_in c.if-eq-2.self-inside.host) c.accept.new.self c.list.new.events.marks))
     (sym (same_keep g after))
-    (hears c.args.string.now c.offer-verdict.result c.head_of-head.result.source _ _ _
+    (hears c.args.bytes.now c.offer-verdict.result c.head_of-head.result.source _ _ _
     (subst IsConfig config c.config-config.ensures.limits) c.requires.spelled.0
     c.requires.spelled.1
-    (source_is c.args.self.now c.args.string.now c.bytes-bytes.result.now c.bytes-bytes.ensures
+    (source_is c.args.self.now c.args.bytes.now c.args.bytes.now refl
     c.requires.spelled c.head_of-head.result c.head_of-head.ensures)
     (heard_delivers _ _ c.self.view_is c.config-config.result c.requires.spelled.0
-    c.args.string.now c.offer-verdict.result read
-    (apart g after) _ _ c.accept.new.self c.push_delivery.new.self.marks (heard g after)
+    c.args.bytes.now c.offer-verdict.result read
+    (apart g after) _ _ c.accept.new.self c.list.new.events.marks (heard g after)
     (accepts g after _ c.accept.ensures) events)
-    (heard_early _ c.config-config.result c.requires.spelled.0 c.args.string.now
+    (heard_early _ c.config-config.result c.requires.spelled.0 c.args.bytes.now
     c.offer-verdict.result read
-    (apart g after) _ _ c.accept.new.self c.push_delivery.new.self.marks c.self.invariant.0
+    (apart g after) _ _ c.accept.new.self c.list.new.events.marks c.self.invariant.0
     (heard g after) (accepts g after _ c.accept.ensures) events)
     c.in_ok-held.ensures)
 
@@ -231,7 +241,7 @@ pub returns-clause-few : goal.returns-clause-few
 returns-clause-few g c =
     let after = (goal.at.returns-clause-few g c).After-accept in
     let read =
-    (read_head c.args.self.now c.args.string.now c.bytes-bytes.result.now c.bytes-bytes.ensures
+    (read_head c.args.self.now c.args.bytes.now c.args.bytes.now refl
     c.requires.spelled c.head_of-head.result c.head_of-head.ensures _ c.self.view_is
     c.config-config.result c.config-config.ensures.is c.config-config.ensures.limits
     c.offer-verdict.result c.offer-verdict.ensures) in
@@ -243,7 +253,7 @@ pub offer-verdict-requires : goal.offer-verdict-requires
 offer-verdict-requires g c = record {
   source =
       subst (λ (x : SiteView). c.head_of-head.result.source < x.config.nodes) (sym c.self.view_is)
-      (source_there c.args.self.now c.args.string.now c.bytes-bytes.result.now c.bytes-bytes.ensures
+      (source_there c.args.self.now c.args.bytes.now c.args.bytes.now refl
       c.requires.spelled c.head_of-head.result c.head_of-head.ensures);
 }
 
@@ -261,16 +271,16 @@ accept-requires g c =
           subst (λ (k : Config). c.head_of-head.result.source < k.nodes) (sym config)
           (subst (λ (x : SiteView). c.head_of-head.result.source < x.config.nodes)
           (sym c.self.view_is)
-          (source_there c.args.self.now c.args.string.now c.bytes-bytes.result.now c.bytes-bytes.ensures
+          (source_there c.args.self.now c.args.bytes.now c.args.bytes.now refl
           c.requires.spelled c.head_of-head.result c.head_of-head.ensures));
-      number = number_small c.args.self.now c.args.string.now c.bytes-bytes.result.now c.bytes-bytes.ensures
+      number = number_small c.args.self.now c.args.bytes.now c.args.bytes.now refl
           c.requires.spelled c.head_of-head.result c.head_of-head.ensures;
     }
 
 pub handle-requires : goal.handle-requires
 handle-requires g c =
     let read =
-    (read_head c.args.self.now c.args.string.now c.bytes-bytes.result.now c.bytes-bytes.ensures
+    (read_head c.args.self.now c.args.bytes.now c.args.bytes.now refl
     c.requires.spelled c.head_of-head.result c.head_of-head.ensures _ c.self.view_is
     c.config-config.result c.config-config.ensures.is c.config-config.ensures.limits
     c.offer-verdict.result c.offer-verdict.ensures) in
@@ -280,23 +290,22 @@ handle-requires g c =
           (sym c.self.invariant.0.config)
           (subst (λ (x : SiteView). c.head_of-head.result.source < x.config.nodes)
           (sym c.self.view_is)
-          (source_there c.args.self.now c.args.string.now c.bytes-bytes.result.now c.bytes-bytes.ensures
+          (source_there c.args.self.now c.args.bytes.now c.args.bytes.now refl
           c.requires.spelled c.head_of-head.result c.head_of-head.ensures));
       foreign =
-          source_foreign _ c.config-config.result c.requires.spelled.0 c.args.string.now
+          source_foreign _ c.config-config.result c.requires.spelled.0 c.args.bytes.now
           c.offer-verdict.result read (search rules) c.config-config.ensures.mine
           c.self.invariant.0 c.head_of-head.result.source
-          (source_is c.args.self.now c.args.string.now c.bytes-bytes.result.now c.bytes-bytes.ensures
+          (source_is c.args.self.now c.args.bytes.now c.args.bytes.now refl
           c.requires.spelled c.head_of-head.result c.head_of-head.ensures);
       fits =
-          message_fits c.args.self.now c.args.string.now c.bytes-bytes.result.now c.bytes-bytes.ensures
+          message_fits c.args.self.now c.args.bytes.now c.args.bytes.now refl
           c.requires.spelled c.head_of-head.result c.head_of-head.ensures
           c.self.inside.host.memory.coherence.config
           (c.self.invariant.0.config ∙ ap (λ (x : SiteView). x.config) c.self.view_is)
           (owned_message c.in-Some.message)
           (sym (c.message_of.ensures c.requires.spelled.0
-          (subst (Spells c.config-config.result c.requires.spelled.0)
-          (sym c.bytes-bytes.ensures) read.spelled))
+          read.spelled)
           ∙ ap owned_body c.in-Some.is);
       post = search rules;
     }
@@ -307,8 +316,7 @@ message_of-requires g c = record {
   limits = c.config-config.ensures.limits;
   spelled = (
     c.requires.spelled.0,
-    subst (Spells c.config-config.result c.requires.spelled.0) (sym c.bytes-bytes.ensures)
-        (read_head c.args.self.now c.args.string.now c.bytes-bytes.result.now c.bytes-bytes.ensures
+    (read_head c.args.self.now c.args.bytes.now c.args.bytes.now refl
         c.requires.spelled c.head_of-head.result c.head_of-head.ensures _ c.self.view_is
         c.config-config.result c.config-config.ensures.is c.config-config.ensures.limits
         c.offer-verdict.result c.offer-verdict.ensures).spelled,
@@ -319,16 +327,15 @@ pub head_of-head-requires : goal.head_of-head-requires
 head_of-head-requires g c = (
   c.args.self.now.config,
   c.requires.spelled.0,
-  subst (Spells c.args.self.now.config c.requires.spelled.0) (sym c.bytes-bytes.ensures)
-      c.requires.spelled.1,
+  c.requires.spelled.1,
 )
 
 pub returns-clause-from : goal.returns-clause-from
 returns-clause-from g c =
-    source_there c.args.self.now c.args.string.now c.bytes-bytes.result.now c.bytes-bytes.ensures
+    source_there c.args.self.now c.args.bytes.now c.args.bytes.now refl
     c.requires.spelled c.head_of-head.result c.head_of-head.ensures
 
 pub returns-then-eq-clause-from : goal.returns-then-eq-clause-from
 returns-then-eq-clause-from g c =
-    source_there c.args.self.now c.args.string.now c.bytes-bytes.result.now c.bytes-bytes.ensures
+    source_there c.args.self.now c.args.bytes.now c.args.bytes.now refl
     c.requires.spelled c.head_of-head.result c.head_of-head.ensures
