@@ -4,7 +4,7 @@ use Rattle.std.proofs.lemmas.Bool.{cases_eq, cases_lt, cond_both, eq-eqb, ne_eqb
 use Rattle.std.proofs.lemmas.List.{get_or_past, length-set, length-append, length-drop, length-take, length-replicate}
 use Rattle.std.proofs.lemmas.List.Elements.{All-nil, All-cons, All-head, All-tail, All-append, All-set, All-take, All-drop, All-replicate}
 use Rattle.ivy_model.specs.declared.Config.{Config}
-use Rattle.ivy_wire.specs.stated.Data.{Message, Frame, Parcel}
+use Rattle.ivy_wire.specs.stated.Data.{Message, Parcel}
 use Rattle.ivy_wire.specs.stated.Spelling.{FitsMessage, FitsParcel, Fits}
 use Rattle.ivy_wire.specs.declared.frame.Frame as frame
 use Rattle.ivy_link.specs.stated.Linked.{Peer, Linked, fresh, first_link, peer_at, with_peer, with_message, sent_one, frame_of, after_sends, frames_of, has_numbers, AreWithin}

@@ -9,3 +9,4 @@ pub mod Orderly
 pub mod Holds
 pub mod Fits
 pub mod Boxes
+mod Kepts

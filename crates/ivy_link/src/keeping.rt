@@ -5,8 +5,9 @@ ghost use Rattle.ivy_link.specs.stated.LinkLimits.{greatest_number};
 ghost use Rattle.ivy_link.specs.stated.Linked.{after_sends, has_numbers, AreWithin};
 ghost use Rattle.ivy_link.specs.Sides.{peer_of, held_of, linked, message_of, count_to, HasRoomFor};
 
+use crate::kept::Kept;
 use crate::side::Side;
-use ivy_wire::{Message, OwnedPage, Parcel};
+use ivy_wire::Parcel;
 use std::alloc::{AllocError, Allocator};
 use std::collections::VecDeque;
 
@@ -52,7 +53,7 @@ pub(crate) fn reserve<A: Allocator>(
 pub(crate) fn keep_each<A: Allocator>(
     sides: &mut Vec<Side<A>, A>,
     parcels: &[Parcel<&[u8]>],
-    mut copies: VecDeque<Message<OwnedPage<A>>, A>,
+    mut copies: VecDeque<Kept<A>, A>,
 )
     requires within { AreWithin (linked 0 sides.old.items) (map owned_parcel parcels.now) }
     requires room { HasRoomFor sides.old.items (map owned_parcel parcels.now) }

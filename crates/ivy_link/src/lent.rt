@@ -3,7 +3,8 @@ ghost use Rattle.std.specs.Prelude.{◌≡◌, [], ◌∷◌, ◌++◌, length, 
 ghost use Rattle.ivy_wire.specs.Lent.{owned_parcel, owned_frame};
 ghost use Rattle.ivy_link.specs.Sides.{message_of};
 
-use ivy_wire::{Frame, Message, OwnedPage, Parcel};
+use crate::kept::Kept;
+use ivy_wire::{Frame, OwnedPage, Parcel};
 use std::alloc::{AllocError, Allocator};
 use std::collections::VecDeque;
 
@@ -22,13 +23,13 @@ pub(crate) fn add<'p, A: Allocator>(
 pub(crate) fn copies<A: Allocator + Copy>(
     alloc: A,
     parcels: &[Parcel<&[u8]>],
-) -> Result<VecDeque<Message<OwnedPage<A>>, A>, AllocError>
+) -> Result<VecDeque<Kept<A>, A>, AllocError>
     ensures ok { IfOk result (λ copies. copies.items ≡ map message_of (map owned_parcel parcels.now)) }
     ensures sure { length parcels.now ≡ 0 → IsOk result }
 {
     let mut copies = VecDeque::with_capacity(alloc, parcels.len())?;
     for parcel in parcels {
-        copies.push_back(parcel.message.owned(alloc)?)?;
+        copies.push_back(Kept::copied(alloc, &parcel.message)?)?;
     }
     Ok(copies)
 }

@@ -13,6 +13,7 @@
 
 mod counts;
 mod keeping;
+mod kept;
 mod lent;
 mod link;
 mod order;

@@ -5,19 +5,24 @@ ghost use Rattle.ivy_model.specs.declared.Fault.TheVariants.{Memory, NumbersSpen
 ghost use Rattle.ivy_wire.specs.Lent.{owned_parcel, owned_frame};
 ghost use Rattle.ivy_link.specs.stated.Linked.{peer_at};
 ghost use Rattle.ivy_link.specs.stated.Pulsed.{repeated};
-ghost use Rattle.ivy_link.specs.Sides.{IsCountOf};
+ghost use Rattle.ivy_wire.specs.Heads.{content_page};
+ghost use Rattle.ivy_link.specs.Kept.{EndsWith};
+ghost use Rattle.ivy_link.specs.Sides.{IsCountOf, message_of};
 ghost use Rattle.ivy_link.specs.Holding.{link_of, first_holding, offered_at, accepted_at, after_sending, frames_for, has_numbers_for};
 ghost use Rattle.ivy_link.specs.Holding.{AreToPeers, frames_repeated, after_pulsing, after_hold, given_back, ready_of, after_taking};
 
 use crate::counts::Counts;
 use crate::keeping::{has_numbers_to, keep_each, reserve};
+use crate::kept::Kept;
 use crate::lent::{add, copied, copies};
 use crate::side::Side;
 use crate::verdict::Verdict;
 use ivy_model::Fault;
 use ivy_wire::{Bytes, Frame, OwnedPage, Parcel};
 use std::alloc::{AllocError, Allocator};
+use std::collections::VecDeque;
 use std::marker::Model;
+use std::slice;
 
 /// How many kept messages are sent again at once.
 pub const MOST_AGAIN: usize = 32;
@@ -250,9 +255,47 @@ impl<A: Allocator + Copy> Link<A> {
             return Err(Fault::NumbersSpent);
         }
         let copies = copies(self.alloc, parcels)?;
+        self.keep_copies(parcels, copies)?;
+        Ok(())
+    }
+
+    /// Keeps these copies of the messages of the parcels. Err only where the allocator has no memory; then the link stays as
+    /// it was.
+    fn keep_copies(
+        &mut self,
+        parcels: &[Parcel<&[u8]>],
+        copies: VecDeque<Kept<A>, A>,
+    ) -> Result<(), AllocError>
+        requires within { AreToPeers self.old (map owned_parcel parcels.now) }
+        requires numbers { has_numbers_for self.old (map owned_parcel parcels.now) ≡ true }
+        requires copies { copies.items ≡ map message_of (map owned_parcel parcels.now) }
+        ensures ok { OnOk result (self.new ≡ after_sending self.old (map owned_parcel parcels.now)) }
+        ensures nodes { length self.new.peers ≡ length self.old.peers }
+        ensures err { OnErr result (self.new ≡ self.old) }
+        ensures sure { length parcels.now ≡ 0 → IsOk result }
+    {
         reserve(&mut self.sides, parcels)?;
         keep_each(&mut self.sides, parcels, copies);
         Ok(())
+    }
+
+    /// Keeps the message of a parcel, as [`Link::keep`] does, with its page at the end of the string of its frame, which is
+    /// shared. Err only where the allocator has no memory; then the link stays as it was.
+    pub(crate) fn keep_spelled(
+        &mut self,
+        parcel: &Parcel<&[u8]>,
+        string: &Bytes<A>,
+    ) -> Result<(), AllocError>
+        requires within { AreToPeers self.old (owned_parcel parcel.now ∷ []) }
+        requires numbers { has_numbers_for self.old (owned_parcel parcel.now ∷ []) ≡ true }
+        requires ends { EndsWith string.now (content_page (owned_parcel parcel.now).message.content) }
+        ensures ok { OnOk result (self.new ≡ after_sending self.old (owned_parcel parcel.now ∷ [])) }
+        ensures nodes { length self.new.peers ≡ length self.old.peers }
+        ensures err { OnErr result (self.new ≡ self.old) }
+    {
+        let mut copies = VecDeque::with_capacity(self.alloc, 1)?;
+        copies.push_back(Kept::shared(self.alloc, &parcel.message, string)?)?;
+        self.keep_copies(slice::from_ref(parcel), copies)
     }
 
     /// Keeps the messages, as [`Link::keep`] does, and gives their frames [1, 17]. Of no parcel that

@@ -1,5 +1,5 @@
 //! A node's link, and the strings that wait to be put on the wire.
-ghost use Rattle.std.specs.Prelude.{◌≡◌, ◌≢◌, ◌↔◌, ◌+◌, ◌++◌, ◌<◌, ◌≤◌, ◌^◌, [], replicate, map, take, true, None, Some, MatchOption, All, IfOk, OnOk, OnErr, IsOkUnless, IsTrue, length};
+ghost use Rattle.std.specs.Prelude.{ℕ, List, ◌≡◌, ◌≢◌, ◌↔◌, ◌+◌, ◌++◌, ◌<◌, ◌≤◌, ◌^◌, [], replicate, map, take, true, None, Some, MatchOption, All, IfOk, OnOk, OnErr, IsOkUnless, IsTrue, length};
 ghost use Rattle.ivy_model.specs.stated.Config.{IsConfig};
 ghost use Rattle.ivy_wire.specs.Lent.{owned_frame, owned_parcel};
 ghost use Rattle.ivy_wire.specs.stated.Spelling.{spelling, Fits, FitsParcel};
@@ -8,7 +8,7 @@ ghost use Rattle.ivy_link.specs.stated.Accepted.{offered};
 ghost use Rattle.ivy_link.specs.Fitting.{FitsLink};
 ghost use Rattle.ivy_link.specs.stated.LinkLimits.{most_again};
 ghost use Rattle.ivy_link.specs.Windows.{first_window};
-ghost use Rattle.ivy_link.specs.Holding.{link_of, accepted_at, after_hold, ready_of, after_taking};
+ghost use Rattle.ivy_link.specs.Holding.{link_of, AreToPeers, has_numbers_for, after_sending, accepted_at, after_hold, ready_of, after_taking};
 ghost use Rattle.ivy_link.specs.stated.Pulsed.{frames_again, pulsed};
 ghost use Rattle.ivy_link.specs.Outboxes.{holding_of, with_holding, with_waiting, with_sending, TakesFirst, next_dest};
 
@@ -85,6 +85,29 @@ fn spell<A: Allocator + Copy>(
         strings.push_back(string_of(alloc, config, &frame)?)?;
     }
     Ok(())
+}
+
+/// Keeps the messages of the parcels, of whose frames the last strings are. One alone shares its page with its string.
+fn keep_sent<A: Allocator + Copy>(
+    link: &mut Link<A>,
+    strings: &VecDeque<Bytes<A>, A>,
+    parcels: &[Parcel<&[u8]>],
+) -> Result<(), Fault>
+    requires within { AreToPeers link.old (map owned_parcel parcels.now) }
+    requires numbers { has_numbers_for link.old (map owned_parcel parcels.now) ≡ true }
+    requires spelled { (before : List (List ℕ)) × (strings.now.items ≡ before ++ map spelling (frames_of (link_of link.old) (map owned_parcel parcels.now))) }
+    ensures ok { OnOk result (link.new ≡ after_sending link.old (map owned_parcel parcels.now)) }
+    ensures nodes { length link.new.peers ≡ length link.old.peers }
+    ensures err { OnErr result (link.new ≡ link.old) }
+    ensures memory { IsOkUnless result Fault.Memory }
+{
+    if let [parcel] = parcels {
+        if let Some(string) = strings.back() {
+            link.keep_spelled(parcel, string)?;
+            return Ok(());
+        }
+    }
+    link.keep(parcels)
 }
 
 impl<A: Allocator + Copy> Outbox<A> {
@@ -276,7 +299,7 @@ impl<A: Allocator + Copy> Outbox<A> {
             &self.link,
             parcels,
         )?;
-        self.link.keep(parcels)?;
+        keep_sent(&mut self.link, &self.waiting, parcels)?;
         Ok(())
     }
 }

@@ -4,9 +4,10 @@ ghost use Rattle.ivy_link.specs.stated.LinkLimits.{greatest_number};
 ghost use Rattle.ivy_link.specs.stated.Linked.{with_message};
 ghost use Rattle.ivy_link.specs.Windows.{first_window, place_at, place_of, can_hold, with_string, without_first, moved_by};
 
+use crate::kept::Kept;
 use crate::verdict::Verdict;
 use crate::window::Window;
-use ivy_wire::{Bytes, Message, OwnedPage};
+use ivy_wire::Bytes;
 use std::alloc::{AllocError, Allocator};
 use std::collections::VecDeque;
 use std::marker::Model;
@@ -18,7 +19,7 @@ pub(crate) struct Side<A: Allocator> {
     /// How many messages were sent.
     sent: u64,
     /// The last ones of them: those not acknowledged yet.
-    kept: VecDeque<Message<OwnedPage<A>>, A>,
+    kept: VecDeque<Kept<A>, A>,
     /// How many messages were delivered.
     delivered: u64,
     /// Whether an acknowledgement is owed.
@@ -83,7 +84,7 @@ impl<A: Allocator> Side<A> {
         self.owed
     }
 
-    pub(crate) fn kept(&self) -> &VecDeque<Message<OwnedPage<A>>, A>
+    pub(crate) fn kept(&self) -> &VecDeque<Kept<A>, A>
         ensures items { result.now.items ≡ self.now.peer.kept }
         ensures within { length self.now.peer.kept ≤ self.now.peer.sent }
     {
@@ -100,7 +101,7 @@ impl<A: Allocator> Side<A> {
     }
 
     /// One more message was sent: it is kept, in the room that was made, and nothing is owed.
-    pub(crate) fn keep(&mut self, message: Message<OwnedPage<A>>)
+    pub(crate) fn keep(&mut self, message: Kept<A>)
         requires room { 1 ≤ self.old.room }
         requires number { self.old.peer.sent < greatest_number }
         ensures peer { self.new.peer ≡ with_message self.old.peer message }

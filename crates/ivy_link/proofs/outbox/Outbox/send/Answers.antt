@@ -18,16 +18,18 @@ spell-requires-clause-fit g c =
     sent-fit _ _ c.self.view_is c.self.invariant (map owned_parcel c.args.parcels.now)
     c.requires.fits c.requires.numbers
 
-pub keep-requires : goal.keep-requires
-keep-requires g c =
+pub keep_sent-requires : goal.keep_sent-requires
+keep_sent-requires g c =
     record {
       within =
           sent-within _ _ c.self.view_is c.self.invariant (map owned_parcel c.args.parcels.now)
           c.requires.fits;
+      numbers = numbers-at _ _ c.self.view_is (map owned_parcel c.args.parcels.now) c.requires.numbers;
+      spelled = (_, c.in_ok-spell.ensures.ok);
     }
 
 pub invariant_of-self-2 : goal.invariant_of-self-2
 invariant_of-self-2 g c =
     sent-box _ _ c.self.view_is c.self.invariant (map owned_parcel c.args.parcels.now)
-    (link_of c.keep.new.self) c.spell.new.strings.items c.keep.new.self.held c.requires.fits
-    c.requires.numbers (ap link_of c.in_ok-keep.ensures.ok)
+    (link_of c.keep_sent.new.link) c.spell.new.strings.items c.keep_sent.new.link.held c.requires.fits
+    c.requires.numbers (ap link_of c.in_ok-keep_sent.ensures.ok)

@@ -5,7 +5,7 @@ use Rattle.ivy_link.specs.Holding.{Holding, link_of}
 use Rattle.ivy_link.specs.Sides.{Sided, linked, seen}
 use Rattle.ivy_link.proofs.Peers.{holding-is}
 use Rattle.ivy_link.proofs.Sending.{send-numbers, send-done, sends-nodes}
-use Rattle.ivy_link.proofs.link.Link.keep.Goals as goal
+use Rattle.ivy_link.proofs.link.Link.keep_copies.Goals as goal
 
 -- the sides as they are seen from the link's own number
 same-view : (l : Linked) (me : ℕ) (sides : List Sided) → linked me sides ≡ l → linked l.me sides ≡ l
@@ -17,7 +17,7 @@ keep_each-requires-clause-numbers g c =
     (map owned_parcel c.args.parcels.now)
     (same-view (link_of c.args.self.now) c.self.inside.me c.self.inside.sides.items
     (ap link_of c.self.view_is)) c.requires.within c.reserve.ensures.peers
-    (sym c.has_numbers.ensures ∙ c.if-not-has_numbers.false)
+    c.requires.numbers
 
 pub returns-clause-ok : goal.returns-clause-ok
 returns-clause-ok g c =
