@@ -5,7 +5,6 @@
 #![tactic(auto)]
 
 mod event;
-mod history;
 mod keep;
 mod laws;
 mod moves;
@@ -13,8 +12,7 @@ mod note;
 mod same;
 mod story;
 
-pub use event::{Event, Events};
-pub use history::History;
+pub use event::{Event, Events, History};
 pub use keep::Keep;
 pub use laws::{events_carry_over, parts_go_on, runs_are_their_parts, runs_carry_over};
 pub use moves::Move;

@@ -4,7 +4,7 @@ use Rattle.ivy_model.specs.Rows.{numbers_in, row}
 use Rattle.ivy_moves.specs.Keeping.{last_of}
 use Rattle.ivy_moves.proofs.Lasts.{last_of_more, last_as_before}
 use Rattle.ivy_moves.proofs.Rowed.{counted, last-in-row, unread}
-use Rattle.ivy_moves.proofs.history.History.push_row.Goals as goal
+use Rattle.ivy_moves.proofs.event.History.push_row.Goals as goal
 
 pub invariant_of-self : goal.invariant_of-self
 invariant_of-self g c =
