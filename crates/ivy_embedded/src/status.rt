@@ -159,8 +159,8 @@ fn access_of(kind: u32, width: u8, addr: u64, value: u64, expected: u64) -> Opti
     }
 }
 
-/// The call that is asked for, if there is one.
-pub fn call_of(kind: u32, width: u32, place: u64, operand: u64, expected: u64) -> Option<Call>
+/// The call of any kind and width that is asked for, if there is one.
+fn any_call_of(kind: u32, width: u32, place: u64, operand: u64, expected: u64) -> Option<Call>
     ensures { MatchOption result (AsksNone (IsRequest kind width place operand expected)) (λ call. IsRequest kind width place operand expected call × HasWidth call) }
 {
     match kind {
@@ -173,6 +173,24 @@ pub fn call_of(kind: u32, width: u32, place: u64, operand: u64, expected: u64) -
         ALLOCATE => Some(Call::Alloc { size: operand }),
         FREE => Some(Call::Free { addr: place }),
         _ => access_of(kind, width_of(width)?, place, operand, expected),
+    }
+}
+
+/// The call that is asked for, if there is one. The most frequent ones take no table of kinds and widths.
+pub fn call_of(kind: u32, width: u32, place: u64, operand: u64, expected: u64) -> Option<Call>
+    ensures { MatchOption result (AsksNone (IsRequest kind width place operand expected)) (λ call. IsRequest kind width place operand expected call × HasWidth call) }
+{
+    match (kind, width) {
+        (LOAD, 8) => Some(Call::Load {
+            width: 8,
+            addr: place,
+        }),
+        (STORE, 8) => Some(Call::Store {
+            width: 8,
+            addr: place,
+            value: operand,
+        }),
+        _ => any_call_of(kind, width, place, operand, expected),
     }
 }
 
