@@ -39,7 +39,7 @@ pub peer-here : (me : ℕ) (sides : List Sided) (i : ℕ) (s : Sided) → i < le
     → s ≡ get_or sides i s → peer_at (linked me sides) i ≡ s.peer
 peer-here me sides i s lt read = get_or-map peer_of sides i s fresh lt ∙ ap peer_of (sym read)
 
-pub keeping-here : (start : List Sided) (all : List Parcel) (sides : List Sided) (p : Parcel)
+keeping-here : (start : List Sided) (all : List Parcel) (sides : List Sided) (p : Parcel)
     (ps : List Parcel) (s : Sided) → IsKeeping start all sides (p ∷ ps) → s ≡ get_or sides p.dest s
     → (p.dest < length sides) × (1 ≤ s.room) × (s.peer.sent + 1 < 2 ^ 64)
 keeping-here start all sides p ps s h read =
@@ -92,6 +92,29 @@ keeping-more start all sides p ps old new h read written less =
           (h.room j (omega (arith, lt, length-set sides p.dest new)));
       numbers = ap (λ l. has_numbers l ps) next ∙ (has-number (linked 0 sides) p ps h.numbers).1;
     }
+
+-- a parcel alone
+module _ (sides : List Sided) (p : Parcel) (n : ℕ) (here : n ≡ p.dest)
+    (within : AreWithin (linked 0 sides) (p ∷ [])) (room : HasRoomFor sides (p ∷ []))
+    (numbers : has_numbers (linked 0 sides) (p ∷ []) ≡ true) where
+  alone : IsKeeping sides (p ∷ []) sides (p ∷ [])
+  alone = record { goal = refl; within = within; room = room; numbers = numbers }
+
+  pub alone-inside : n < length sides
+  alone-inside =
+      rw here (omega (arith, within-head (linked 0 sides) p [] within, length-map sides peer_of))
+
+  pub alone-here : (s : Sided) → s ≡ get_or sides n s → (1 ≤ s.room) × (s.peer.sent + 1 < 2 ^ 64)
+  alone-here s read =
+      let facts = keeping-here sides (p ∷ []) sides p [] s alone (rw here at read) in
+      (facts.1, facts.2)
+
+  pub alone-kept : (old new : Sided) → old ≡ get_or sides n old
+      → new.peer ≡ with_message old.peer p.message → new.room + 1 ≡ old.room
+      → linked 0 (set sides n new) ≡ sent_one (linked 0 sides) p
+  alone-kept old new read written less =
+      rw here
+      (keeping-more sides (p ∷ []) sides p [] old new alone (rw here at read) written less).goal
 
 peers-alone : (a b : ℕ) (peers : List Peer) (ps : List Parcel)
     → (after_sends (record { me = a; peers = peers }) ps).peers

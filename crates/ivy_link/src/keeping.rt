@@ -1,5 +1,5 @@
 //! How messages are kept, each at the side of its node.
-ghost use Rattle.std.specs.Prelude.{◌≡◌, ◌↔◌, ◌+◌, ◌≤◌, length, map, true, IsTrue, OnOk, IsOk};
+ghost use Rattle.std.specs.Prelude.{[], ◌∷◌, ◌≡◌, ◌↔◌, ◌+◌, ◌≤◌, length, map, true, IsTrue, OnOk, IsOk};
 ghost use Rattle.ivy_wire.specs.Lent.{owned_parcel};
 ghost use Rattle.ivy_link.specs.stated.LinkLimits.{greatest_number};
 ghost use Rattle.ivy_link.specs.stated.Linked.{after_sends, has_numbers, AreWithin};
@@ -68,4 +68,20 @@ pub(crate) fn keep_each<A: Allocator>(
         };
         sides[usize::from(parcel.dest)].keep(copy);
     }
+}
+
+/// Keeps the message of one parcel at its node.
+pub(crate) fn keep_one<A: Allocator>(
+    sides: &mut Vec<Side<A>, A>,
+    parcel: &Parcel<&[u8]>,
+    kept: Kept<A>,
+)
+    requires within { AreWithin (linked 0 sides.old.items) (owned_parcel parcel.now ∷ []) }
+    requires room { HasRoomFor sides.old.items (owned_parcel parcel.now ∷ []) }
+    requires numbers { has_numbers (linked 0 sides.old.items) (owned_parcel parcel.now ∷ []) ≡ true }
+    requires kept { kept ≡ message_of (owned_parcel parcel.now) }
+    ensures after { linked 0 sides.new.items ≡ after_sends (linked 0 sides.old.items) (owned_parcel parcel.now ∷ []) }
+    ensures held { map held_of sides.new.items ≡ map held_of sides.old.items }
+{
+    sides[usize::from(parcel.dest)].keep(kept);
 }

@@ -7,12 +7,12 @@ ghost use Rattle.ivy_link.specs.stated.Linked.{peer_at};
 ghost use Rattle.ivy_link.specs.stated.Pulsed.{repeated};
 ghost use Rattle.ivy_wire.specs.Heads.{content_page};
 ghost use Rattle.ivy_link.specs.Kept.{EndsWith};
-ghost use Rattle.ivy_link.specs.Sides.{IsCountOf, message_of};
+ghost use Rattle.ivy_link.specs.Sides.{IsCountOf};
 ghost use Rattle.ivy_link.specs.Holding.{link_of, first_holding, offered_at, accepted_at, after_sending, frames_for, has_numbers_for};
 ghost use Rattle.ivy_link.specs.Holding.{AreToPeers, frames_repeated, after_pulsing, after_hold, given_back, ready_of, after_taking};
 
 use crate::counts::Counts;
-use crate::keeping::{has_numbers_to, keep_each, reserve};
+use crate::keeping::{has_numbers_to, keep_each, keep_one, reserve};
 use crate::kept::Kept;
 use crate::lent::{add, copied, copies};
 use crate::side::Side;
@@ -20,7 +20,6 @@ use crate::verdict::Verdict;
 use ivy_model::Fault;
 use ivy_wire::{Bytes, Frame, OwnedPage, Parcel};
 use std::alloc::{AllocError, Allocator};
-use std::collections::VecDeque;
 use std::marker::Model;
 use std::slice;
 
@@ -255,25 +254,6 @@ impl<A: Allocator + Copy> Link<A> {
             return Err(Fault::NumbersSpent);
         }
         let copies = copies(self.alloc, parcels)?;
-        self.keep_copies(parcels, copies)?;
-        Ok(())
-    }
-
-    /// Keeps these copies of the messages of the parcels. Err only where the allocator has no memory; then the link stays as
-    /// it was.
-    fn keep_copies(
-        &mut self,
-        parcels: &[Parcel<&[u8]>],
-        copies: VecDeque<Kept<A>, A>,
-    ) -> Result<(), AllocError>
-        requires within { AreToPeers self.old (map owned_parcel parcels.now) }
-        requires numbers { has_numbers_for self.old (map owned_parcel parcels.now) ≡ true }
-        requires copies { copies.items ≡ map message_of (map owned_parcel parcels.now) }
-        ensures ok { OnOk result (self.new ≡ after_sending self.old (map owned_parcel parcels.now)) }
-        ensures nodes { length self.new.peers ≡ length self.old.peers }
-        ensures err { OnErr result (self.new ≡ self.old) }
-        ensures sure { length parcels.now ≡ 0 → IsOk result }
-    {
         reserve(&mut self.sides, parcels)?;
         keep_each(&mut self.sides, parcels, copies);
         Ok(())
@@ -293,9 +273,10 @@ impl<A: Allocator + Copy> Link<A> {
         ensures nodes { length self.new.peers ≡ length self.old.peers }
         ensures err { OnErr result (self.new ≡ self.old) }
     {
-        let mut copies = VecDeque::with_capacity(self.alloc, 1)?;
-        copies.push_back(Kept::shared(self.alloc, &parcel.message, string)?)?;
-        self.keep_copies(slice::from_ref(parcel), copies)
+        let kept = Kept::shared(self.alloc, &parcel.message, string)?;
+        reserve(&mut self.sides, slice::from_ref(parcel))?;
+        keep_one(&mut self.sides, parcel, kept);
+        Ok(())
     }
 
     /// Keeps the messages, as [`Link::keep`] does, and gives their frames [1, 17]. Of no parcel that
