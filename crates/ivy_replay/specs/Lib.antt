@@ -1,2 +1,4 @@
 pub mod Orders
 pub mod Seen
+pub mod StateWords
+pub mod States
