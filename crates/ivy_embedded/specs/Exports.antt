@@ -135,8 +135,7 @@ Begins Asked status before value s t = (call : Call) × Asked call × (progress 
 abbrev pub IsReady : ℕ → Embedded → Type 0
 IsReady place s = HasNoCall s.site × (lending_at s (place / s.site.config.page_size) ≡ Unlent)
 
--- each call that names this address, or another number, at this place may be made, as its page is
--- lent
+-- each call whose first number is this one may be made: its page is not lent, or so that it may be
 abbrev pub MayBegin : ℕ → Embedded → Type 0
 MayBegin place s = (kind width operand expected : ℕ) (call : Call)
     → IsRequest kind width place operand expected call → may_call s call ≡ true
