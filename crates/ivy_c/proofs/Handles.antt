@@ -21,10 +21,10 @@ use denote.Steps.{nothing}
 use denote.Struct.Struct.{within}
 use denote.Struct.Owning.{shape}
 use Rattle.ivy_embedded.specs.Nodes.{Embedded}
-use Rattle.ivy_c.specs.declared.handle.Handle.{Handle}
+use Rattle.ivy_c.specs.declared.Handle.{Handle}
 use Rattle.std.proofs.GlobalToken.{dealloc_token-Testable}
 use Rattle.ivy_c.specs.Ownership.{row, heap, handle_owns}
-use Rattle.ivy_c.specs.contracts.handle.Handle.{the_row, the_type}
+use Rattle.ivy_c.specs.contracts.Handle.{the_row, the_type}
 
 -- the handle with this address
 abbrev pub cell : Ptr → Val

@@ -3,11 +3,14 @@
 //! `include/ivy.h` says what a program in C owes, and what each status leaves.
 #![tactic(auto)]
 
-ghost use Rattle.std.specs.Prelude.{◌≡◌, ◌≢◌, ◌<◌, None, Some, IfSome, MatchOption, length};
+ghost use Rattle.std.specs.Prelude.{◌≡◌, ◌≢◌, ◌<◌, Option, None, Some, IfSome, MatchOption, length};
 ghost use Rattle.std.specs.Mem.{manually_drop_value};
+ghost use Rattle.std.specs.Coded.{codes};
 ghost use Rattle.ivy_model.specs.declared.Config.{Config};
 ghost use Rattle.ivy_model.specs.declared.Row.TheVariants.{Loads, Stores};
-ghost use Rattle.ivy_embedded.specs.Nodes.{first_embedded};
+ghost use Rattle.ivy_pagetable.specs.stated.NodeSets.{nodes_code};
+ghost use Rattle.ivy_alloc.specs.Heap.{heap_state_code};
+ghost use Rattle.ivy_embedded.specs.Nodes.{Embedded, first_embedded};
 ghost use Rattle.ivy_embedded.specs.Blocks.{BeginsAll, HasWordsAt, LoadsAll, RefusesBlock, RefusesStores, StoresAll, StoresNoneRead, TakesAll};
 ghost use Rattle.ivy_embedded.specs.Exports.{Answers, Begins, BeginsBlock, CarriesOut, Delivers, IsRequest, Polls, Pulses, RefusesCall, RefusesPoll, RefusesPulse, RefusesString, TakesAt, TakesBlock, marks_at};
 ghost use Rattle.ivy_embedded.specs.Lending.{LendsSoundly};
@@ -16,11 +19,8 @@ ghost use Rattle.ivy_embedded.specs.declared.lending.Want.{Want};
 ghost use Rattle.ivy_embedded.specs.Openings.{Names, RefusesOpening};
 ghost use Rattle.ivy_embedded.specs.Peers.{KeepsFor, OwesTo, TellsThose};
 ghost use Rattle.ivy_embedded.specs.Turns.{TellsTurns};
+ghost use Rattle.ivy_c.specs.Ownership.{handle_owns};
 
-mod handle;
-
-pub use handle::{Handle, Held};
-use handle::{end, held};
 use ivy_embedded::{
     BAD_ARGUMENT, BAD_CONFIG, CLOSED, DONE, Declined, Embedded, LENT, MEMORY, NO_CALL, NO_FRAME,
     OPEN, PENDING, SHORT_BUFFER, TakenString, WANTED, Want, call_of, config_of, lending_number,
@@ -28,10 +28,73 @@ use ivy_embedded::{
 };
 use ivy_model::Row;
 use std::alloc::Global;
-use std::mem::replace;
+use std::marker::Model;
+use std::mem::{ManuallyDrop, replace};
+use std::ptr::null_mut;
 
 /// The version of the functions of `include/ivy.h`.
 pub const VERSION: u32 = 1;
+
+/// A node on the heap that is not dropped with its box: a box that C holds is none that anything
+/// drops. [`end`] drops it.
+pub type Held = Box<ManuallyDrop<Embedded>, Global>;
+
+/// Nothing, or a node on the heap. All its bytes zero, it is nothing.
+#[repr(C)]
+pub struct Handle {
+    at: *mut u8,
+    pub ghost held: { Option Embedded } by { Prim.hlevel (codes, nodes_code, heap_state_code) },
+}
+
+impl Model for Handle {
+    ghost also_owns = { λ h. handle_owns h.at h.held };
+}
+
+impl Handle {
+    /// Nothing.
+    pub fn nothing() -> Handle
+        ensures { result.held ≡ None }
+    {
+        Handle { at: null_mut() }
+    }
+
+    /// A handle of a node.
+    pub fn of(node: Held) -> Handle
+        ensures { result.held ≡ Some (manually_drop_value node.value) }
+    {
+        let at = Box::into_raw(node);
+        Handle { at: at as *mut u8 }
+    }
+
+    /// The node, if there is one.
+    pub fn into_box(self, alloc: Global) -> Option<Held>
+        ensures { MatchOption result (self.held ≡ None) (λ node. self.held ≡ Some (manually_drop_value node.value)) }
+    {
+        let Handle { at } = self;
+        if at.is_null() {
+            return None;
+        }
+        Some(unsafe { Box::from_raw(alloc, at as *mut ManuallyDrop<Embedded>) })
+    }
+}
+
+/// Puts a node on the heap, or drops it where there is no memory.
+fn held(alloc: Global, node: Embedded) -> Option<Held>
+    ensures { IfSome result (λ it. manually_drop_value it.value ≡ node) }
+{
+    match Box::new(alloc, ManuallyDrop::new(node)) {
+        Ok(it) => Some(it),
+        Err(refused) => {
+            drop(ManuallyDrop::into_inner(refused.value));
+            None
+        }
+    }
+}
+
+/// Drops a node that is on the heap.
+fn end(node: Held) {
+    drop(ManuallyDrop::into_inner(Box::into_inner(node)));
+}
 
 /// Takes the node out of a handle.
 fn take(alloc: Global, handle: &mut Handle) -> Option<Held>

@@ -40,7 +40,7 @@ impl RunCounts {
         })
     }
 
-    /// So many more of a measure, of a node and perhaps of a page.
+    /// Adds to a measure, of a node and perhaps of a page.
     fn add(&mut self, node: usize, page: Option<usize>, measure: Measure, count: u64) {
         self.all.add(measure, count);
         if let Some(tally) = self.nodes.get_mut(node) {

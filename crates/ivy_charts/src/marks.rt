@@ -40,7 +40,7 @@ pub(crate) fn row(number: u64) -> u64 {
     number.saturating_mul(ROW).saturating_add(TOP)
 }
 
-/// So many hundredths of the way from one number to another.
+/// The number that lies these hundredths of the way from one to another.
 fn along(from: u64, to: u64, hundredths: u64) -> u64 {
     if to >= from {
         from.saturating_add((to - from).saturating_mul(hundredths) / 100)
@@ -49,7 +49,7 @@ fn along(from: u64, to: u64, hundredths: u64) -> u64 {
     }
 }
 
-/// So many hundredths of the way from one spot to another.
+/// The spot that lies these hundredths of the way from one to another.
 pub(crate) fn between(from: Spot, to: Spot, hundredths: u64) -> Spot {
     Spot {
         x: along(from.x, to.x, hundredths),
@@ -141,7 +141,7 @@ impl Marks {
         self.send(log.sent_by(happening).len(), sender)
     }
 
-    /// So many strings are sent.
+    /// Notes that strings are sent.
     fn send(&mut self, count: usize, sender: Sender) -> Result<(), AllocError> {
         for _ in 0..count {
             self.senders.push(sender)?;

@@ -86,7 +86,7 @@ impl Receivers {
         }
     }
 
-    /// So many messages of a node were delivered to another: strings of their numbers are held no more. Or nothing changes.
+    /// Notes how many messages of a node were delivered to another: strings of their numbers are held no more. Or nothing changes.
     fn deliver(&mut self, to: u64, source: u8, count: u64) -> Result<(), AllocError>
         ensures done { OnOk result (Delivers to source count self.old self.new) }
         ensures refused { OnErr result (NotesTheSame self.old self.new) }

@@ -29,7 +29,7 @@ pub enum Measure {
     Sent(FrameKind),
 }
 
-/// So many of each.
+/// How many of each measure.
 #[derive(Clone, Copy)]
 pub struct Tally {
     numbers: [u64; MEASURES],
@@ -85,7 +85,7 @@ impl Tally {
         }
     }
 
-    /// So many more of a measure.
+    /// Adds to a measure.
     pub fn add(&mut self, measure: Measure, count: u64)
         ensures { numbers_of self.new ≡ with_more (numbers_of self.old) measure count }
     {

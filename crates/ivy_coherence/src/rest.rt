@@ -198,7 +198,7 @@ impl<A: Allocator> Rest<A> {
         })
     }
 
-    /// So many words wait from now on, from this place in the page on; their numbers are in these bytes, of which loads
+    /// Sets how many words wait, from this place in the page on; their numbers are in these bytes, of which loads
     /// need none.
     pub(crate) fn wait(&mut self, kind: Row, offset: u32, words: usize, bytes: &[u8])
         requires aligned { offset % 8 ≡ 0 }

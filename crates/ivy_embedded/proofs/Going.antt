@@ -6,7 +6,7 @@ use Rattle.ivy_model.specs.declared.Call.{Call}
 use Rattle.ivy_model.specs.declared.Record.{Record}
 use Rattle.ivy_model.specs.declared.Reply.{Reply}
 use Rattle.ivy_pagetable.specs.declared.Word.{Word}
-use Rattle.ivy_memory.specs.declared.asked.Asked.TheVariants as asked
+use Rattle.ivy_memory.specs.declared.memory.Asked.TheVariants as asked
 use Rattle.ivy_memory.specs.stated.Asking.{asked_of}
 use Rattle.ivy_program.specs.Programs.{IsCalled}
 use Rattle.ivy_program.specs.OwnCode.{process_handed}

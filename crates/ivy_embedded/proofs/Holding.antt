@@ -16,7 +16,7 @@ use Rattle.ivy_pagetable.specs.stated.Words.{needs_write}
 use Rattle.ivy_coherence.specs.declared.leaving.Leaving.{Leaving}
 use Rattle.ivy_coherence.specs.Leavings.{access_at}
 use Rattle.ivy_coherence.proofs.keeping.Left.{access_left}
-use Rattle.ivy_memory.specs.declared.asked.Asked.TheVariants as asked
+use Rattle.ivy_memory.specs.declared.memory.Asked.TheVariants as asked
 use Rattle.ivy_memory.specs.stated.Asking.{asked_of}
 use Rattle.ivy_program.specs.stated.InstructionSteps.{Asks, step_of}
 use Rattle.ivy_host.specs.stated.Hosts.{Host}

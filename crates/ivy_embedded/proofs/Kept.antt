@@ -21,8 +21,8 @@ use Rattle.ivy_pagetable.specs.WordRows.{row_len}
 use Rattle.ivy_coherence.specs.Hits.{has_to_wait}
 use Rattle.ivy_memory.specs.AtOnce.{IsRowAt}
 use Rattle.ivy_memory.specs.BatchedCalls.{row_has_to_wait}
-use Rattle.ivy_memory.specs.declared.asked.Asked.{Asked}
-use Rattle.ivy_memory.specs.declared.asked.Asked.TheVariants as asked
+use Rattle.ivy_memory.specs.declared.memory.Asked.{Asked}
+use Rattle.ivy_memory.specs.declared.memory.Asked.TheVariants as asked
 use Rattle.ivy_memory.specs.stated.Asking.{asked_of, word_unless}
 use Rattle.ivy_memory.proofs.batches.AtOnce.{row_begins}
 use Rattle.ivy_memory.proofs.serving.Asking.{width_of_count}

@@ -16,8 +16,8 @@ use Rattle.ivy_pagetable.specs.declared.Word.{Word}
 use Rattle.ivy_pagetable.specs.stated.Accesses.{reads, writes}
 use Rattle.ivy_pagetable.specs.stated.Tables.{entry_at}
 use Rattle.ivy_coherence.specs.Leavings.{access_at}
-use Rattle.ivy_memory.specs.declared.asked.Asked.{Asked}
-use Rattle.ivy_memory.specs.declared.asked.Asked.TheVariants as asked
+use Rattle.ivy_memory.specs.declared.memory.Asked.{Asked}
+use Rattle.ivy_memory.specs.declared.memory.Asked.TheVariants as asked
 use Rattle.ivy_memory.specs.stated.Asking.{asked_of}
 use Rattle.ivy_memory.specs.stated.Sound.{IsSoundMemory}
 use Rattle.ivy_program.specs.OwnCode.{IsFree}

@@ -8,7 +8,7 @@ use Rattle.ivy_model.specs.stated.Config.{IsConfig}
 use Rattle.ivy_model.specs.stated.Serves.{access_refusal}
 use Rattle.ivy_model.specs.Rows.{calls_of, record_in, row}
 use Rattle.ivy_pagetable.specs.declared.Word.{Word}
-use Rattle.ivy_memory.specs.declared.asked.Asked.TheVariants as asked
+use Rattle.ivy_memory.specs.declared.memory.Asked.TheVariants as asked
 use Rattle.ivy_memory.specs.stated.Asking.{asked_of}
 use Rattle.ivy_memory.specs.AtOnce.{IsRowAt}
 use Rattle.ivy_memory.proofs.batches.AtOnce.{asks, row_begins}

@@ -21,8 +21,8 @@ use Rattle.ivy_coherence.specs.stated.PageFaults.{Begun, along, begun, started}
 use Rattle.ivy_coherence.proofs.keeping.EventTable.{AccessRows, begun-by_rows}
 use Rattle.ivy_alloc.specs.declared.CallProgress.{CallProgress}
 use Rattle.ivy_alloc.specs.declared.CallProgress.TheVariants.{Given, Awaited, Unserved}
-use Rattle.ivy_memory.specs.declared.asked.Asked.{Asked}
-use Rattle.ivy_memory.specs.declared.asked.Asked.TheVariants as asked
+use Rattle.ivy_memory.specs.declared.memory.Asked.{Asked}
+use Rattle.ivy_memory.specs.declared.memory.Asked.TheVariants as asked
 use Rattle.ivy_memory.specs.stated.Asking.{asked_of}
 use Rattle.ivy_memory.specs.stated.Beside.{Beside, beside, nothing_beside}
 use Rattle.ivy_memory.specs.stated.Memories.{NodeMemory, CallBegun, again, again_unless, answered, begun_as, call_begun, needed, polled, polled_as, polled_at, reply_at, reply_of, taken_with, tried_as, waiting, without_call}

@@ -13,7 +13,7 @@ use Rattle.ivy_pagetable.specs.declared.Word.{Word}
 use Rattle.ivy_pagetable.specs.declared.Word.TheVariants as word
 use Rattle.ivy_model.specs.stated.Legal.{HasWidth}
 use Rattle.ivy_memory.specs.Asking.{CanAsk}
-use Rattle.ivy_memory.specs.declared.asked.Asked.TheVariants as asked
+use Rattle.ivy_memory.specs.declared.memory.Asked.TheVariants as asked
 use Rattle.ivy_memory.specs.stated.Asking.{asked_of, count_asked, word_unless}
 use Rattle.ivy_memory.proofs.serving.Asking.{can_ask}
 use Rattle.ivy_memory.proofs.serving.Placing as placing

@@ -12,8 +12,8 @@ use Rattle.ivy_pagetable.specs.stated.Tables.{entry_at}
 use Rattle.ivy_pagetable.specs.stated.Words.{needs_write}
 use Rattle.ivy_coherence.specs.declared.leaving.Leaving.{Leaving}
 use Rattle.ivy_coherence.specs.Leavings.{access_at}
-use Rattle.ivy_memory.specs.declared.asked.Asked.{Asked}
-use Rattle.ivy_memory.specs.declared.asked.Asked.TheVariants as asked
+use Rattle.ivy_memory.specs.declared.memory.Asked.{Asked}
+use Rattle.ivy_memory.specs.declared.memory.Asked.TheVariants as asked
 use Rattle.ivy_memory.specs.stated.Asking.{asked_of}
 use Rattle.ivy_program.specs.stated.Programs.{Program, Written, Called, calls_in}
 use Rattle.ivy_program.specs.stated.InstructionSteps.{Process}

@@ -101,7 +101,7 @@ impl Model for Lendings {
 }
 
 impl Lendings {
-    /// So many pages, none of which is lent.
+    /// The pages of a node, none of which is lent.
     pub(crate) fn new(alloc: Global, pages: u32) -> Result<Lendings, AllocError>
         ensures { IfOk result (λ l. l ≡ replicate pages Lending.Unlent) }
     {

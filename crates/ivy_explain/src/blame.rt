@@ -106,7 +106,7 @@ pub struct Blame<'a> {
     pub wanted: Wanted,
 }
 
-/// So many letters of a text at most, from one on.
+/// Some letters of a text, from one on.
 #[derive(Clone, Copy)]
 struct Part<'a> {
     text: &'a str,

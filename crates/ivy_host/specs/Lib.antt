@@ -1,4 +1,3 @@
 pub mod stated
 pub mod ManagedLaws
-pub mod Either
 pub mod Handing

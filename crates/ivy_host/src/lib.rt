@@ -1,8 +1,4 @@
-//! The manager that a configuration names, and the definition of a whole node but for its link.
+//! The definition of a whole node but for its link, and the laws of the manager that its configuration names.
 //!
-//! In a comment, numbers in brackets as [1, 17] are the fault numbers that a call may answer.
+//! There is no code here: `ivy_site` runs what is defined here.
 #![tactic(auto)]
-
-mod manager;
-
-pub use manager::NodeManager;

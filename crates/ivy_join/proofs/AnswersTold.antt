@@ -6,7 +6,7 @@ use Rattle.ivy_model.specs.declared.Record.{Record}
 use Rattle.ivy_moves.specs.Events.{Event}
 use Rattle.ivy_calls.specs.declared.Answer.{Answer}
 use Rattle.ivy_calls.specs.Answers.{answer, answers}
-use Rattle.ivy_logs.specs.declared.entry.LogEntry.TheVariants.{Did, Asked, Answered}
+use Rattle.ivy_logs.specs.declared.log.LogEntry.TheVariants.{Did, Asked, Answered}
 use Rattle.ivy_logs.specs.Entries.{LogEntry, answer_in, answers_in}
 use Rattle.ivy_logs.proofs.Entries.{flat-taken}
 use Rattle.ivy_join.specs.ReplaySites.{AddsRecords}

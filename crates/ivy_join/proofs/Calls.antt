@@ -13,12 +13,12 @@ use Rattle.ivy_moves.proofs.Places.{set-there, set-elsewhere}
 use Rattle.ivy_program.specs.stated.Programs.{Program, Written, Called}
 use Rattle.ivy_program.specs.Programs.{handed, one_by_one, IsWritten}
 use Rattle.ivy_host.proofs.HandedHosts.{handed_none}
-use Rattle.ivy_logs.specs.declared.entry.LogEntry.TheVariants.{Did}
+use Rattle.ivy_logs.specs.declared.log.LogEntry.TheVariants.{Did}
 use Rattle.ivy_logs.specs.Entries.{LogEntry, call_in, calls_in}
 use Rattle.ivy_logs.proofs.Entries.{flat-taken}
 use Rattle.ivy_world.specs.HandedWorlds.{own_code}
-use Rattle.ivy_join.specs.declared.replay_entry.Outcome.{Outcome}
-use Rattle.ivy_join.specs.declared.replay_entry.Outcome.TheVariants.{Made, Waits, Never}
+use Rattle.ivy_join.specs.declared.replay_log.Outcome.{Outcome}
+use Rattle.ivy_join.specs.declared.replay_log.Outcome.TheVariants.{Made, Waits, Never}
 use Rattle.ivy_join.specs.Calls.{with_calls, CallsOn, HasCalled, HasCalledBy, HaveCalled, HaveNoCalls, PlaysOn}
 use Rattle.ivy_join.specs.Exact.{AreAllMade}
 use Rattle.ivy_join.specs.OwnJoined.{program_by, programs_by}

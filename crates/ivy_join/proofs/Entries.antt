@@ -7,7 +7,7 @@ use Rattle.ivy_model.specs.declared.Call.{Call}
 use Rattle.ivy_model.specs.declared.Fault.{Fault}
 use Rattle.ivy_model.specs.stated.Config.{IsConfig}
 use Rattle.ivy_calls.specs.declared.Answer.{Answer}
-use Rattle.ivy_logs.specs.declared.entry.LogEntry.TheVariants.{Did, Asked, Answered}
+use Rattle.ivy_logs.specs.declared.log.LogEntry.TheVariants.{Did, Asked, Answered}
 use Rattle.ivy_logs.specs.Entries.{LogEntry, call_in, calls_in, event_in, events_in}
 use Rattle.ivy_logs.proofs.Entries.{marks-append}
 use Rattle.ivy_moves.specs.Events.{Event}

@@ -4,8 +4,8 @@ use Rattle.ivy_model.specs.declared.Call.{Call}
 use Rattle.ivy_logs.specs.Entries.{LogEntry, call_in, calls_in}
 use Rattle.ivy_program.specs.stated.Programs.{Program}
 use Rattle.ivy_program.specs.Programs.{handed, one_by_one}
-use Rattle.ivy_join.specs.declared.replay_entry.Outcome.{Outcome}
-use Rattle.ivy_join.specs.declared.replay_entry.Outcome.TheVariants.{Made, Waits, Never}
+use Rattle.ivy_join.specs.declared.replay_log.Outcome.{Outcome}
+use Rattle.ivy_join.specs.declared.replay_log.Outcome.TheVariants.{Made, Waits, Never}
 
 -- these programs once the nodes' code made the calls of these logs; what is written down makes none
 abbrev pub with_calls : List (List LogEntry) → List Program → List Program

@@ -3,7 +3,7 @@
 use Rattle.std.specs.Prelude.{◌≡◌, ◌≢◌, ℕ, ◌+◌, ◌-◌, ◌<◌, ◌≤◌, Bool, true, false, IsTrue, List, [], ◌∷◌, ◌++◌, length, take, drop, slice_get, Some, Contains}
 use Rattle.ivy_model.specs.declared.Config.{Config}
 use Rattle.ivy_model.specs.stated.Config.{IsConfig}
-use Rattle.ivy_logs.specs.declared.entry.LogEntry.TheVariants.{Did, Asked, Answered}
+use Rattle.ivy_logs.specs.declared.log.LogEntry.TheVariants.{Did, Asked, Answered}
 use Rattle.ivy_logs.specs.Entries.{LogEntry, event_in, events_in}
 use Rattle.ivy_moves.specs.Marks.{Mark, Turn, Delivery, Pulse, marks, marks_of}
 use Rattle.ivy_moves.specs.stated.Nodes.{Node, Effect}
@@ -13,8 +13,8 @@ use Rattle.ivy_host.specs.stated.Hosts.{Host, host_rules}
 use Rattle.ivy_host.specs.stated.Managers.{Managed, managed_ops}
 use Rattle.ivy_host.specs.stated.Openings.{first_node}
 use Rattle.ivy_site.specs.SiteView.{SiteView}
-use Rattle.ivy_join.specs.declared.replay_entry.Outcome.{Outcome}
-use Rattle.ivy_join.specs.declared.replay_entry.Outcome.TheVariants.{Made, Waits, Never}
+use Rattle.ivy_join.specs.declared.replay_log.Outcome.{Outcome}
+use Rattle.ivy_join.specs.declared.replay_log.Outcome.TheVariants.{Made, Waits, Never}
 use Rattle.ivy_join.specs.ReplaySites.{events_at, Sends}
 use Rattle.ivy_join.specs.Remade.{CanTake}
 

@@ -3,7 +3,7 @@ use Rattle.std.specs.Prelude.{◌≡◌, ℕ, ◌+◌, List, [], ◌∷◌, ◌+
 use Rattle.ivy_model.specs.declared.Record.{Record}
 use Rattle.ivy_calls.specs.declared.Answer.{Answer}
 use Rattle.ivy_calls.specs.Answers.{answers}
-use Rattle.ivy_logs.specs.declared.entry.LogEntry.TheVariants.{Did, Asked, Answered}
+use Rattle.ivy_logs.specs.declared.log.LogEntry.TheVariants.{Did, Asked, Answered}
 use Rattle.ivy_logs.specs.Entries.{LogEntry, answers_in, calls_in, events_in}
 use Rattle.ivy_moves.specs.Marks.{marks}
 use Rattle.ivy_moves.specs.Parts.{AllCanBeMade}

@@ -1,31 +1,106 @@
-//! Whether logs are the parts of one run: of given programs, or of the own code whose calls they have.
-
-ghost use Rattle.std.specs.Prelude.{◌≡◌, ◌++◌, ◌≤◌, ◌↔◌, length, map, take, IfOk, IfErr, IfSome, OnOk, IsTrue};
+//! Whether logs are the parts of one run, of given programs or of the own code whose calls they have, and what they
+//! come to.
+ghost use Rattle.std.specs.Prelude.{◌≡◌, ◌++◌, ◌≤◌, ◌<◌, ◌↔◌, length, map, take, IfOk, IfErr, IfSome, OnOk, IsTrue, slice_get};
 ghost use Rattle.std.specs.List.{All};
 ghost use Rattle.ivy_model.specs.stated.Config.{IsConfig};
-ghost use Rattle.ivy_calls.specs.Answers.{answers};
-ghost use Rattle.ivy_logs.specs.Entries.{answer_in, events_in};
-ghost use Rattle.ivy_moves.specs.Marks.{marks};
 ghost use Rattle.ivy_program.specs.Programs.{IsWritten};
+ghost use Rattle.ivy_program.specs.InstructionSteps.{HasEnded};
+ghost use Rattle.ivy_moves.specs.Marks.{marks};
 ghost use Rattle.ivy_world.specs.HandedWorlds.{own_code};
 ghost use Rattle.ivy_world.specs.WorldSites.{IsMemory};
+ghost use Rattle.ivy_calls.specs.Answers.{answers};
+ghost use Rattle.ivy_logs.specs.Entries.{answer_in, events_in};
+ghost use Rattle.ivy_logs.specs.Sums.{sum_of_run};
 ghost use Rattle.ivy_join.specs.Calls.{HaveNoCalls};
 ghost use Rattle.ivy_join.specs.ReplaySites.{kept_from};
 ghost use Rattle.ivy_join.specs.Joined.{AreHeads, AreJoined, AreNoParts, NamesSum, SaysNoParts, SaysOfCount, SaysOfHead, SaysOfHeads, SaysOfSums};
-ghost use Rattle.ivy_logs.specs.Sums.{sum_of_run};
 ghost use Rattle.ivy_join.specs.OwnJoined.{AreAllTold, AreAnswered, AreOwnJoined, AreTold, Tells};
 
 use crate::failure::Unjoined;
-use crate::joined::Joined;
 use crate::replay_log::play;
 use crate::strings::Strings;
 use ivy_logs::{Log, LogEntry, LogHead, sum_of_run};
-use ivy_model::{Config, Fault, Record};
+use ivy_model::{Call, Config, Fault, Record};
 use ivy_moves::Keep;
 use ivy_program::Program;
 use ivy_site::Site;
 use ivy_wire::Bytes;
 use std::alloc::Allocator;
+use std::marker::Model;
+
+/// The nodes of a run at its end, made again from their logs.
+///
+/// What ends one is proved here, once: a crate above that has one would prove anew what ends each type in a derived `Drop`.
+pub struct Joined<A: Allocator> {
+    sites: Vec<Site<A>, A>,
+}
+
+impl<A: Allocator> Drop for Joined<A> {
+    fn drop(self) {
+        let Joined { sites: _ } = self;
+    }
+}
+
+impl<A: Allocator> Model for Joined<A> {
+    ghost use Rattle.std.specs.Prelude.{List};
+    ghost use Rattle.ivy_site.specs.SiteView.{SiteView};
+    ghost use Rattle.std.specs.Coded.{codes};
+    ghost use Rattle.ivy_pagetable.specs.stated.NodeSets.{nodes_code};
+    ghost use Rattle.ivy_alloc.specs.Heap.{heap_state_code};
+
+    ghost Value = { List SiteView };
+
+    ghost coded = { Prim.hlevel (codes, nodes_code, heap_state_code) };
+
+    ghost view = { λ j. j.sites.items };
+}
+
+impl<A: Allocator + Copy> Joined<A> {
+    pub(crate) fn new(sites: Vec<Site<A>, A>) -> Self
+        ensures { result ≡ sites.items }
+    {
+        Joined { sites }
+    }
+
+    /// How many nodes there are. It takes no memory.
+    pub fn nodes(&self) -> u64
+        ensures { result ≡ length self.now }
+    {
+        self.sites.len() as u64
+    }
+
+    /// How many calls a node was answered; the node is one of the run's. It takes no memory.
+    pub fn records(&self, node: u64) -> u64
+        requires { node < length self.now }
+        ensures { IfSome (slice_get self.now node) (λ s. result ≡ length s.node.core.history) }
+    {
+        self.sites[node as usize].records()
+    }
+
+    /// What a node's program printed; the node is one of the run's. It takes no memory.
+    pub fn output(&self, node: u64) -> &[u64]
+        requires { node < length self.now }
+        ensures { IfSome (slice_get self.now node) (λ s. result.now ≡ s.node.core.process.state.output) }
+    {
+        self.sites[node as usize].output()
+    }
+
+    /// Whether a node's program has ended; the node is one of the run's. It takes no memory.
+    pub fn ended(&self, node: u64) -> bool
+        requires { node < length self.now }
+        ensures { IfSome (slice_get self.now node) (λ s. IsTrue result ↔ HasEnded s.node.core.process) }
+    {
+        self.sites[node as usize].ended()
+    }
+
+    /// The call that a node has in progress; the node is one of the run's. It takes no memory.
+    pub fn asked(&self, node: u64) -> Option<Call>
+        requires { node < length self.now }
+        ensures { IfSome (slice_get self.now node) (λ s. result ≡ s.node.core.memory.asked) }
+    {
+        self.sites[node as usize].asked()
+    }
+}
 
 /// The sites of the programs, in order, which keep no lists [1].
 fn first_sites<A: Allocator + Copy>(

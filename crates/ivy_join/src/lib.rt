@@ -8,15 +8,11 @@
 
 mod failure;
 mod join_logs;
-mod joined;
-mod replay_entry;
-mod replay_event;
 mod replay_log;
 mod restart;
 mod strings;
 
 pub use failure::Unjoined;
-pub use join_logs::{check_heads, join, join_own};
-pub use joined::Joined;
-pub use replay_event::make;
+pub use join_logs::{Joined, check_heads, join, join_own};
+pub use replay_log::make;
 pub use restart::{NotPlayed, replay};

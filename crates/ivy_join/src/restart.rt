@@ -6,8 +6,7 @@ ghost use Rattle.ivy_site.specs.Handed.{site_handed};
 ghost use Rattle.ivy_logs.specs.Entries.{answer_in};
 ghost use Rattle.ivy_join.specs.Remade.{CanTake, GoesOnByEntries, HasAnswer, IsAnsweredLast, IsMadeByLog};
 
-use crate::replay_entry::has_width;
-use crate::replay_event::{drop_frames, make};
+use crate::replay_log::{drop_frames, has_width, make};
 use ivy_calls::Answer;
 use ivy_logs::LogEntry;
 use ivy_model::{Call, Fault};
@@ -75,7 +74,7 @@ fn make_entry<A: Allocator + Copy>(
     }
 }
 
-/// So many answers a log has up to an entry that was made, of which so many stand before it.
+/// How many answers a log has up to an entry that was made, by how many stand before it.
 fn told_after<A: Allocator + Copy>(site: &Site<A>, entry: &LogEntry<Bytes<A>>, told: u64) -> u64
     requires { HasAnswer told entry.now site.now.node.core.history }
     ensures { result ≡ told + length (answer_in entry.now) }

@@ -3,7 +3,7 @@ ghost use Rattle.std.specs.Prelude.{◌≡◌, ◌<◌, ◌+◌, [], length, map
 ghost use Rattle.ivy_wire.specs.Lent.{owned_parcel};
 ghost use Rattle.ivy_link.specs.Sides.{count_to, IsCountOf};
 
-use crate::keeping::count_to;
+use crate::link::count_to;
 use ivy_model::MOST_NODES;
 use ivy_wire::Parcel;
 use std::marker::Model;

@@ -3,22 +3,18 @@
 //! A [`Link`] numbers the messages that its node sends each other one and keeps them until they are acknowledged, tells
 //! by its [`Verdict`] which frames carry the next message, and sends what is kept again. The strings of frames that
 //! came before their turn it can hold until those before them have come. So each node is given the messages of another
-//! one in the order in which they were sent, each once ([`delivers_in_order`]).
+//! one in the order in which they were sent, each once ([`delivers_in_order`]). An [`Outbox`] is a link with the strings
+//! of the frames that wait to be put on the wire.
 //!
 //! Numbers in brackets at the end of a sentence, as in `[1, 17]`, are those of the faults that a call may answer
 //! ([`ivy_model::Fault::number`]).
-//!
-//! The post of a node: its link, and the strings of the frames that wait to be put on the wire.
 #![tactic(auto)]
 
 mod counts;
-mod keeping;
 mod kept;
-mod lent;
 mod link;
 mod order;
 mod outbox;
-mod side;
 mod verdict;
 mod window;
 

@@ -1,25 +1,26 @@
-//! The link of one node to all others.
-ghost use Rattle.std.specs.Prelude.{◌≡◌, ◌≢◌, ◌↔◌, ℕ, ◌<◌, List, [], ◌∷◌, ◌+◌, ◌++◌, length, map, take, slice_get, true, false, None, Some, MatchOption, IsTrue, IfOk, IfErr, IsOk, OnOk, OnErr, IsErrOf, IsOkUnless};
+//! The link of one node to all others: what it knows of each, how messages are numbered and kept, and their frames.
+ghost use Rattle.std.specs.Prelude.{◌≡◌, ◌≢◌, ◌↔◌, ℕ, ◌<◌, List, [], ◌∷◌, ◌+◌, ◌++◌, ◌≤◌, length, map, take, slice_get, true, false, drop, None, Some, MatchOption, IsTrue, IfOk, IfErr, IsOk, OnOk, OnErr, IsErrOf, IsOkUnless, if◌then◌else◌};
 ghost use Rattle.ivy_model.specs.Wants.{RanOut};
 ghost use Rattle.ivy_model.specs.declared.Fault.TheVariants.{Memory, NumbersSpent};
 ghost use Rattle.ivy_wire.specs.Lent.{owned_parcel, owned_frame};
-ghost use Rattle.ivy_link.specs.stated.Linked.{peer_at};
-ghost use Rattle.ivy_link.specs.stated.Pulsed.{repeated};
 ghost use Rattle.ivy_wire.specs.Heads.{content_page};
+ghost use Rattle.ivy_link.specs.stated.Linked.{peer_at, with_message, after_sends, has_numbers, AreWithin};
+ghost use Rattle.ivy_link.specs.stated.Pulsed.{repeated};
 ghost use Rattle.ivy_link.specs.Kept.{EndsWith};
-ghost use Rattle.ivy_link.specs.Sides.{IsCountOf};
-ghost use Rattle.ivy_link.specs.Holding.{link_of, first_holding, offered_at, accepted_at, after_sending, frames_for, has_numbers_for};
-ghost use Rattle.ivy_link.specs.Holding.{AreToPeers, frames_repeated, after_pulsing, after_hold, given_back, ready_of, after_taking};
+ghost use Rattle.ivy_link.specs.Sides.{IsCountOf, peer_of, held_of, linked, message_of, count_to, HasRoomFor};
+ghost use Rattle.ivy_link.specs.Holding.{link_of, first_holding, offered_at, accepted_at, after_sending, frames_for, has_numbers_for, AreToPeers, frames_repeated, after_pulsing, after_hold};
+ghost use Rattle.ivy_link.specs.Holding.{given_back, ready_of, after_taking};
+ghost use Rattle.ivy_link.specs.stated.LinkLimits.{greatest_number};
+ghost use Rattle.ivy_link.specs.Windows.{first_window, place_at, place_of, can_hold, with_string, without_first, moved_by};
 
 use crate::counts::Counts;
-use crate::keeping::{has_numbers_to, keep_each, keep_one, reserve};
 use crate::kept::Kept;
-use crate::lent::{add, copied, copies};
-use crate::side::Side;
 use crate::verdict::Verdict;
+use crate::window::Window;
 use ivy_model::Fault;
 use ivy_wire::{Bytes, Frame, OwnedPage, Parcel};
 use std::alloc::{AllocError, Allocator};
+use std::collections::VecDeque;
 use std::marker::Model;
 use std::slice;
 
@@ -362,4 +363,302 @@ impl<A: Allocator + Copy> Link<A> {
         }
         Ok(frames)
     }
+}
+
+/// The traffic with one other node: counts of the messages both ways, and those to keep.
+#[derive(Drop)]
+#[derive_where(Debug)]
+pub(crate) struct Side<A: Allocator> {
+    /// How many messages were sent.
+    sent: u64,
+    /// The last ones of them: those not acknowledged yet.
+    kept: VecDeque<Kept<A>, A>,
+    /// How many messages were delivered.
+    delivered: u64,
+    /// Whether an acknowledgement is owed.
+    owed: bool,
+    /// The strings that came before their turn.
+    held: Window<A>,
+}
+
+impl<A: Allocator> Model for Side<A> {
+    ghost use Rattle.ivy_link.specs.Sides.{Sided};
+    ghost use Rattle.std.specs.Prelude.{◌-◌, ◌≤◌, length};
+    ghost use Rattle.std.specs.VecDeque.{deque_len, deque_capacity};
+
+    ghost Value = { Sided };
+
+    ghost view = { λ s. record { peer = record { sent = s.sent; kept = s.kept.items; delivered = s.delivered; owed = s.owed }; room = deque_capacity s.kept - deque_len s.kept; held = s.held } };
+
+    ghost invariant = { λ s. length s.kept.items ≤ s.sent };
+}
+
+impl<A: Allocator> Side<A> {
+    ghost use Rattle.ivy_link.specs.stated.Linked.{fresh};
+    ghost use Rattle.ivy_link.specs.stated.Accepted.{verdict_on, heard};
+    ghost use Rattle.ivy_link.specs.stated.Pulsed.{owing_nothing};
+
+    pub(crate) fn new(alloc: A) -> Result<Side<A>, AllocError>
+    where
+        A: Copy,
+        ensures { IfOk result (λ side. (side.peer ≡ fresh) × (side.held ≡ first_window)) }
+    {
+        Ok(Side {
+            sent: 0,
+            kept: VecDeque::new(alloc),
+            delivered: 0,
+            owed: false,
+            held: Window::new(alloc)?,
+        })
+    }
+
+    pub(crate) fn sent(&self) -> u64
+        ensures { result ≡ self.now.peer.sent }
+    {
+        self.sent
+    }
+
+    /// Whether so many more messages can be numbered.
+    pub(crate) fn has_numbers(&self, more: usize) -> bool
+        ensures { IsTrue result ↔ (self.now.peer.sent + more ≤ greatest_number) }
+    {
+        self.sent.checked_add(more as u64).is_some()
+    }
+
+    pub(crate) fn delivered(&self) -> u64
+        ensures { result ≡ self.now.peer.delivered }
+    {
+        self.delivered
+    }
+
+    pub(crate) fn is_owed(&self) -> bool
+        ensures { result ≡ self.now.peer.owed }
+    {
+        self.owed
+    }
+
+    pub(crate) fn kept(&self) -> &VecDeque<Kept<A>, A>
+        ensures items { result.now.items ≡ self.now.peer.kept }
+        ensures within { length self.now.peer.kept ≤ self.now.peer.sent }
+    {
+        &self.kept
+    }
+
+    /// Makes room for so many more messages to keep.
+    pub(crate) fn reserve(&mut self, more: usize) -> Result<(), AllocError>
+        ensures peer { self.new.peer ≡ self.old.peer }
+        ensures held { self.new.held ≡ self.old.held }
+        ensures room { OnOk result (more ≤ self.new.room) }
+    {
+        self.kept.reserve(more)
+    }
+
+    /// One more message was sent: it is kept, in the room that was made, and nothing is owed.
+    pub(crate) fn keep(&mut self, message: Kept<A>)
+        requires room { 1 ≤ self.old.room }
+        requires number { self.old.peer.sent < greatest_number }
+        ensures peer { self.new.peer ≡ with_message self.old.peer message }
+        ensures room { self.new.room + 1 ≡ self.old.room }
+        ensures held { self.new.held ≡ self.old.held }
+    {
+        self.kept.push_back_reserved(message);
+        self.sent += 1;
+        self.owed = false;
+    }
+
+    /// What a frame of this number is.
+    pub(crate) fn verdict(&self, number: u64) -> Verdict
+        ensures { result ≡ verdict_on self.now.peer.delivered number }
+    {
+        if number <= self.delivered {
+            Verdict::Repeat
+        } else if number - self.delivered == 1 {
+            Verdict::Next
+        } else {
+            Verdict::Ahead
+        }
+    }
+
+    /// Takes the acknowledgement of a frame of this number, and counts its message if it is the next. Then no
+    /// string of that number is held.
+    pub(crate) fn hear(&mut self, number: u64, ack: u64)
+        ensures peer { self.new.peer ≡ heard (verdict_on self.old.peer.delivered number) self.old.peer number ack }
+        ensures held { self.new.held ≡ moved_by (verdict_on self.old.peer.delivered number) self.old.held }
+    {
+        if ack <= self.sent {
+            let acknowledged = self.sent - self.kept.len() as u64;
+            drop_first(&mut self.kept, ack.saturating_sub(acknowledged));
+        }
+        match self.verdict(number) {
+            Verdict::Next => {
+                self.delivered = number;
+                self.owed = true;
+                self.held.move_on();
+            }
+            Verdict::Repeat => self.owed = self.owed || number >= 1,
+            Verdict::Ahead | Verdict::NotMine => {}
+        }
+    }
+
+    /// A frame was made: nothing is owed any more.
+    pub(crate) fn owe_nothing(&mut self)
+        ensures peer { self.new.peer ≡ owing_nothing self.old.peer }
+        ensures held { self.new.held ≡ self.old.held }
+    {
+        self.owed = false;
+    }
+
+    /// Holds the string of a frame of this number, or gives it back.
+    pub(crate) fn hold(&mut self, number: u64, string: Bytes<A>) -> Option<Bytes<A>>
+        ensures peer { self.new.peer ≡ self.old.peer }
+        ensures held { self.new.held ≡ (if can_hold self.old.peer.delivered self.old.held number then with_string self.old.held (place_of self.old.peer.delivered number) string else self.old.held) }
+        ensures result { result ≡ (if can_hold self.old.peer.delivered self.old.held number then None else Some string) }
+    {
+        if self.delivered >= number {
+            return Some(string);
+        }
+        let place = number - self.delivered - 1;
+        self.held.hold(place as usize, string)
+    }
+
+    /// The string that is held of the number after those delivered.
+    pub(crate) fn ready(&self) -> Option<&Bytes<A>>
+        ensures { MatchOption result (place_at self.now.held 0 ≡ None) (λ s. place_at self.now.held 0 ≡ Some s.now) }
+    {
+        self.held.first()
+    }
+
+    /// Takes out the string that is held of the number after those delivered.
+    pub(crate) fn take_ready(&mut self) -> Option<Bytes<A>>
+        ensures peer { self.new.peer ≡ self.old.peer }
+        ensures held { self.new.held ≡ without_first self.old.held }
+        ensures result { result ≡ place_at self.old.held 0 }
+    {
+        self.held.take_first()
+    }
+}
+
+fn drop_first<T: Drop, A: Allocator>(queue: &mut VecDeque<T, A>, count: u64)
+    requires { count ≤ length queue.old.items }
+    ensures { queue.new.items ≡ drop count queue.old.items }
+{
+    for _ in 0..count {
+        let _ = queue.pop_front();
+    }
+}
+
+/// How many of the parcels go to the node.
+pub(crate) fn count_to(parcels: &[Parcel<&[u8]>], node: u8) -> usize
+    ensures { result ≡ count_to (map owned_parcel parcels.now) node }
+{
+    parcels.iter().filter(|parcel| parcel.dest == node).count()
+}
+
+/// Whether a number is left, at the side of a node, for each of the parcels that go there. They are counted only
+/// where none is left for all parcels.
+#[tactic(auto, using(crate::proofs::Counting::counted_few))]
+pub(crate) fn has_numbers_to<A: Allocator>(
+    side: &Side<A>,
+    parcels: &[Parcel<&[u8]>],
+    node: u8,
+) -> bool
+    ensures { IsTrue result ↔ (side.now.peer.sent + count_to (map owned_parcel parcels.now) node ≤ greatest_number) }
+{
+    side.has_numbers(parcels.len()) || side.has_numbers(count_to(parcels, node))
+}
+
+/// Makes room at each node for the messages of the parcels that go there. They are not counted: there is room
+/// for all parcels then.
+pub(crate) fn reserve<A: Allocator>(
+    sides: &mut Vec<Side<A>, A>,
+    parcels: &[Parcel<&[u8]>],
+) -> Result<(), AllocError>
+    requires within { AreWithin (linked 0 sides.old.items) (map owned_parcel parcels.now) }
+    ensures peers { map peer_of sides.new.items ≡ map peer_of sides.old.items }
+    ensures held { map held_of sides.new.items ≡ map held_of sides.old.items }
+    ensures room { OnOk result (HasRoomFor sides.new.items (map owned_parcel parcels.now)) }
+    ensures sure { length parcels.now ≡ 0 → IsOk result }
+{
+    for parcel in parcels {
+        sides[usize::from(parcel.dest)].reserve(parcels.len())?;
+    }
+    Ok(())
+}
+
+/// Keeps the messages of the parcels, each at its node.
+pub(crate) fn keep_each<A: Allocator>(
+    sides: &mut Vec<Side<A>, A>,
+    parcels: &[Parcel<&[u8]>],
+    mut copies: VecDeque<Kept<A>, A>,
+)
+    requires within { AreWithin (linked 0 sides.old.items) (map owned_parcel parcels.now) }
+    requires room { HasRoomFor sides.old.items (map owned_parcel parcels.now) }
+    requires numbers { has_numbers (linked 0 sides.old.items) (map owned_parcel parcels.now) ≡ true }
+    requires copies { copies.items ≡ map message_of (map owned_parcel parcels.now) }
+    ensures after { linked 0 sides.new.items ≡ after_sends (linked 0 sides.old.items) (map owned_parcel parcels.now) }
+    ensures held { map held_of sides.new.items ≡ map held_of sides.old.items }
+{
+    for parcel in parcels {
+        let Some(copy) = copies.pop_front() else {
+            unreachable!();
+        };
+        sides[usize::from(parcel.dest)].keep(copy);
+    }
+}
+
+/// Keeps the message of one parcel at its node.
+pub(crate) fn keep_one<A: Allocator>(
+    sides: &mut Vec<Side<A>, A>,
+    parcel: &Parcel<&[u8]>,
+    kept: Kept<A>,
+)
+    requires within { AreWithin (linked 0 sides.old.items) (owned_parcel parcel.now ∷ []) }
+    requires room { HasRoomFor sides.old.items (owned_parcel parcel.now ∷ []) }
+    requires numbers { has_numbers (linked 0 sides.old.items) (owned_parcel parcel.now ∷ []) ≡ true }
+    requires kept { kept ≡ message_of (owned_parcel parcel.now) }
+    ensures after { linked 0 sides.new.items ≡ after_sends (linked 0 sides.old.items) (owned_parcel parcel.now ∷ []) }
+    ensures held { map held_of sides.new.items ≡ map held_of sides.old.items }
+{
+    sides[usize::from(parcel.dest)].keep(kept);
+}
+
+/// Adds a frame to those made.
+pub(crate) fn add<'p, A: Allocator>(
+    frames: &mut Vec<Frame<&'p [u8]>, A>,
+    frame: Frame<&'p [u8]>,
+) -> Result<(), AllocError>
+    ensures { OnOk result (map owned_frame frames.new.items ≡ map owned_frame frames.old.items ++ owned_frame frame.entry ∷ []) }
+{
+    frames.push(frame)?;
+    Ok(())
+}
+
+/// The messages of the parcels, with copies of their pages.
+pub(crate) fn copies<A: Allocator + Copy>(
+    alloc: A,
+    parcels: &[Parcel<&[u8]>],
+) -> Result<VecDeque<Kept<A>, A>, AllocError>
+    ensures ok { IfOk result (λ copies. copies.items ≡ map message_of (map owned_parcel parcels.now)) }
+    ensures sure { length parcels.now ≡ 0 → IsOk result }
+{
+    let mut copies = VecDeque::with_capacity(alloc, parcels.len())?;
+    for parcel in parcels {
+        copies.push_back(Kept::copied(alloc, &parcel.message)?)?;
+    }
+    Ok(copies)
+}
+
+/// The frames with copies of their pages.
+pub(crate) fn copied<A: Allocator + Copy>(
+    alloc: A,
+    frames: &[Frame<&[u8]>],
+) -> Result<Vec<Frame<OwnedPage<A>>, A>, AllocError>
+    ensures ok { IfOk result (λ copies. copies.items ≡ map owned_frame frames.now) }
+    ensures sure { length frames.now ≡ 0 → IsOk result }
+{
+    let mut copies = Vec::with_capacity(alloc, frames.len())?;
+    for frame in frames {
+        copies.push(frame.owned(alloc)?)?;
+    }
+    Ok(copies)
 }

@@ -15,7 +15,7 @@ use Rattle.ivy_program.proofs.reading.Reading.{texts_of}
 use Rattle.ivy_texts.specs.Spelled.{BeginsWith, SpellsCall, has_words, worded}
 use Rattle.ivy_texts.proofs.Calls.{call_counted}
 use Rattle.ivy_texts.proofs.Worded.{texts-all}
-use Rattle.ivy_logs.specs.declared.entry.LogEntry.TheVariants.{Did, Asked, Answered}
+use Rattle.ivy_logs.specs.declared.log.LogEntry.TheVariants.{Did, Asked, Answered}
 use Rattle.ivy_logs.specs.declared.log.LogHead.{LogHead}
 use Rattle.ivy_logs.specs.declared.log.LogKind.{LogKind}
 use Rattle.ivy_logs.specs.declared.log.LogKind.TheVariants.{OfProgram, OfOwnCode}

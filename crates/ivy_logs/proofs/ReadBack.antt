@@ -18,7 +18,7 @@ use Rattle.ivy_program.specs.texts.Lines.{IsNumberWord}
 use Rattle.ivy_program.specs.texts.TextWords.{words_of}
 use Rattle.ivy_texts.specs.Printed.{call_text, reply_text, then_number}
 use Rattle.ivy_texts.specs.Spelled.{SpellsCall, worded}
-use Rattle.ivy_logs.specs.declared.entry.LogEntry.TheVariants.{Did, Asked, Answered}
+use Rattle.ivy_logs.specs.declared.log.LogEntry.TheVariants.{Did, Asked, Answered}
 use Rattle.ivy_logs.specs.declared.log.LogHead.{LogHead}
 use Rattle.ivy_logs.specs.declared.log.LogKind.{LogKind}
 use Rattle.ivy_logs.specs.declared.log.LogKind.TheVariants.{OfProgram, OfOwnCode}

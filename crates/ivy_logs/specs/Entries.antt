@@ -14,8 +14,8 @@ use Rattle.ivy_texts.specs.Spelled.{BeginsWith, SpellsCall, worded}
 use Rattle.ivy_logs.specs.declared.log.LogHead.{LogHead}
 use Rattle.ivy_logs.specs.declared.log.LogKind.{LogKind}
 use Rattle.ivy_logs.specs.declared.log.LogKind.TheVariants.{OfProgram, OfOwnCode}
-use Rattle.ivy_logs.specs.declared.entry.LogEntry as entry
-use Rattle.ivy_logs.specs.declared.entry.LogEntry.TheVariants.{Did, Asked, Answered}
+use Rattle.ivy_logs.specs.declared.log.LogEntry as entry
+use Rattle.ivy_logs.specs.declared.log.LogEntry.TheVariants.{Did, Asked, Answered}
 use Rattle.ivy_logs.specs.Printed.{event_line}
 use Rattle.ivy_logs.specs.Spelled.{is_end, HasWholeLines, SpellsEvent, SpellsFirst, SpellsHead}
 

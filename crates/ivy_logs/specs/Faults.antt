@@ -11,7 +11,7 @@ use Rattle.ivy_model.specs.stated.Legal.{HasWidth}
 use Rattle.ivy_moves.specs.Events.{Event}
 use Rattle.ivy_moves.specs.declared.Event.TheVariants.{Turns, Delivered, Pulsed}
 use Rattle.ivy_program.specs.texts.TextWords.{words_of}
-use Rattle.ivy_logs.specs.declared.entry.LogEntry.TheVariants.{Did, Asked, Answered}
+use Rattle.ivy_logs.specs.declared.log.LogEntry.TheVariants.{Did, Asked, Answered}
 use Rattle.ivy_logs.specs.declared.log.LogHead.{LogHead}
 use Rattle.ivy_logs.specs.declared.log.LogKind.{LogKind}
 use Rattle.ivy_logs.specs.Entries.{LogEntry, SpellsIn}

@@ -10,7 +10,7 @@ use Rattle.ivy_moves.specs.declared.Event.TheVariants.{Turns, Delivered, Pulsed}
 use Rattle.ivy_logs.specs.declared.log.LogHead.{LogHead}
 use Rattle.ivy_logs.specs.declared.log.LogKind.{LogKind}
 use Rattle.ivy_logs.specs.declared.log.LogKind.TheVariants.{OfProgram, OfOwnCode}
-use Rattle.ivy_logs.specs.declared.entry.LogEntry.TheVariants.{Did, Asked, Answered}
+use Rattle.ivy_logs.specs.declared.log.LogEntry.TheVariants.{Did, Asked, Answered}
 use Rattle.ivy_logs.specs.Entries.{HasSum, LogEntry, SpellsLog, entry_lines}
 use Rattle.ivy_logs.specs.Printed.{first_line}
 use Rattle.ivy_logs.specs.Spelled.{MayHaveSum}

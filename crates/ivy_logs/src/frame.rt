@@ -18,7 +18,7 @@ pub struct FrameLine<A: Allocator> {
     pub bytes: Vec<u8, A>,
 }
 
-/// So many bytes at the beginning of a line have the number of a node and the space behind it, as they are written.
+/// How many bytes at the beginning of a line have the number of a node and the space behind it, as they are written.
 const NUMBER_BYTES: usize = 4;
 
 /// The frame of these parts of a line, or none where they are none [1].

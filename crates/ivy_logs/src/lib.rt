@@ -10,31 +10,25 @@
 //!
 //! Numbers in brackets, as `[1, 20]`, are those of the faults that a call may answer.
 //!
-//! Bytes as hexadecimal digits, and back, sixteen at a time.
-//!
-//! What the digits of bytes are says the crate `hex`, in whose words the contracts speak. It goes digit by digit,
-//! through a table and a match, which takes five times as many instructions; here each digit is made without a branch,
-//! so that the compiler makes sixteen at once.
+//! What the digits of bytes are, the crate `hex` says, in whose words the contracts speak. It goes digit by digit,
+//! through a table and a match, which takes five times as many instructions. Here each digit is made without a branch, so
+//! that the compiler makes sixteen at once.
 #![tactic(auto)]
 
-mod entry;
 mod frame;
 mod laws;
 mod log;
 mod print;
-mod read;
 mod sum;
 mod sum_line;
 mod write;
 
-pub use entry::{LogEntry, count_answers};
 pub use frame::{FrameLine, parse_frame};
 pub use laws::logs_read_back;
-pub use log::{Log, LogHead, LogKind, parse_log};
+pub use log::{Log, LogEntry, LogHead, LogKind, bytes_of, count_answers, parse_log};
 pub use print::{
     push_entry, push_event, push_frame, push_head, push_head_of_run, push_log, push_log_of_run,
 };
-pub use read::bytes_of;
 pub use sum::sum_of_run;
 pub use sum_line::{SumLine, parse_sum_line, push_sum_line};
 pub use write::push_digits;

@@ -4,8 +4,7 @@ ghost use Rattle.ivy_logs.specs.Entries.{entry_line};
 ghost use Rattle.ivy_logs.specs.Printed.{event_line, first_line, frame_line, head_line, head_line_of_run, log_text, log_text_of_run, node_text, sum_end};
 ghost use Rattle.ivy_logs.specs.Spelled.{kind_word};
 
-use crate::entry::LogEntry;
-use crate::log::{LogHead, LogKind};
+use crate::log::{LogEntry, LogHead, LogKind};
 use crate::push_digits;
 use ivy_model::Kind;
 use ivy_moves::Event;

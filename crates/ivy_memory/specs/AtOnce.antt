@@ -10,7 +10,7 @@ use Rattle.ivy_pagetable.specs.stated.Manager.{Ops}
 use Rattle.ivy_pagetable.specs.WordRows.{row_len}
 use Rattle.ivy_coherence.specs.Hits.{is_at_hand}
 use Rattle.ivy_alloc.specs.declared.CallProgress.TheVariants.{Given}
-use Rattle.ivy_memory.specs.declared.asked.RowPlace.{RowPlace}
+use Rattle.ivy_memory.specs.declared.memory.RowPlace.{RowPlace}
 use Rattle.ivy_memory.specs.stated.Memories.{NodeMemory, call_begun}
 
 -- calls in a row, each of which is answered when it begins, whatever its number, and posts nothing

@@ -11,7 +11,7 @@ use Rattle.ivy_model.specs.stated.Memory as model
 use Rattle.ivy_model.specs.stated.Serves.{Serves}
 use Rattle.ivy_pagetable.specs.declared.Word.{Word}
 use Rattle.ivy_pagetable.specs.stated.Words.{Carried, carried_out}
-use Rattle.ivy_memory.specs.declared.asked.Asked.TheVariants as asked
+use Rattle.ivy_memory.specs.declared.memory.Asked.TheVariants as asked
 use Rattle.ivy_memory.specs.stated.Asking.{asked_of}
 use Rattle.ivy_memory.specs.stated.Memories.{reply_of}
 

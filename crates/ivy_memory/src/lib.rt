@@ -6,7 +6,6 @@
 //! In a comment, numbers in brackets as [1, 17] are the fault numbers that a call may answer.
 #![tactic(auto)]
 
-mod asked;
 mod law;
 mod memory;
 mod pages;
@@ -14,8 +13,7 @@ mod rest;
 mod row;
 mod taken;
 
-pub use asked::{Asked, asked_of};
 pub use ivy_alloc::{CallProgress, HeapCall, HeapRequest, HeapSide};
 pub use ivy_coherence::Leaving;
 pub use law::words_are_flat;
-pub use memory::Memory;
+pub use memory::{Asked, Memory, asked_of};

@@ -76,7 +76,7 @@ impl<A: Allocator> Rest<A> {
         })
     }
 
-    /// So many calls are left from now on, from this address on; their numbers are in these bytes.
+    /// Sets how many calls are left, from this address on; their numbers are in these bytes.
     pub(crate) fn set(&mut self, kind: Row, addr: u64, words: usize, bytes: &[u8])
         requires below { addr + 8 * words < 2 ^ 64 }
         requires room { 8 * words ≤ self.old.size }

@@ -8,8 +8,7 @@ ghost use Rattle.ivy_alloc.specs.declared.CallProgress.TheVariants.{Awaited};
 ghost use Rattle.ivy_memory.specs.Asking.{CallHasToAsk};
 ghost use Rattle.ivy_memory.specs.BatchedCalls.{first_call, other_calls, row_begun, row_has_to_wait};
 
-use crate::asked::row_place;
-use crate::memory::Memory;
+use crate::memory::{Memory, row_place};
 use crate::rest::first_call;
 use ivy_model::{Fault, Row};
 use ivy_pagetable::Manager;

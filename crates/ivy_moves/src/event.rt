@@ -15,7 +15,7 @@ use std::marker::Model;
 /// An entry of a node's event list. `B` is a string of bytes.
 #[derive(Debug, PartialEq, Eq, Drop)]
 pub enum Event<B> {
-    /// So many turns in a row, in each of which an instruction was carried out, a call began, or a reply was recorded.
+    /// Turns in a row, in each of which an instruction was carried out, a call began, or a reply was recorded.
     Turns(u64),
     /// A string was delivered, as the bytes that came.
     Delivered(B),

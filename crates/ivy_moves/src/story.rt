@@ -161,7 +161,7 @@ impl Story {
         Story::of::<(), Nothing>(&())
     }
 
-    /// So many more turns.
+    /// Adds turns.
     pub(crate) fn push_turns(&mut self, count: u64)
         ensures { (self.new.events ≡ self.old.events ++ turns count) × (self.new.records ≡ self.old.records) }
     {

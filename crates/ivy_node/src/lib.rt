@@ -28,6 +28,9 @@ pub use ivy_calls::{
 // own code in a session of threads, and what all of its nodes gave
 pub use ivy_own::{OwnFault, OwnReport, run_with, run_with_keeping};
 
+// the same, which ends where it stands still, and says so
+pub use ivy_watching::{OwnStandstill, Watched, run_watching};
+
 // own code under drawn schedules
 pub use ivy_play::{Check, PlayReport, Seeds, play_all, play_drawn, play_listed, shortest};
 
@@ -38,4 +41,5 @@ pub use ivy_own;
 pub use ivy_play;
 pub use ivy_session;
 pub use ivy_sync;
+pub use ivy_watching;
 pub use ivy_world;

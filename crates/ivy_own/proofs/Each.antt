@@ -59,7 +59,7 @@ got_last [] x = refl
 got_last (y ∷ xs) x = got_last xs x
 
 -- one before the last
-got_before : {X : Type 0} (xs ys : List X) (i : ℕ) → i < length xs
+pub got_before : {X : Type 0} (xs ys : List X) (i : ℕ) → i < length xs
     → slice_get (xs ++ ys) i ≡ slice_get xs i
 got_before [] ys i lt = absurd (omega (arith, lt))
 got_before (x ∷ xs) ys zero lt = refl

@@ -1,4 +1,4 @@
-mod Each
+pub mod Each
 mod Owning
 mod InRow
 mod Reported

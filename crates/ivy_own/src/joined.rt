@@ -13,18 +13,20 @@ use std::thread::{Promise, PromisedHandle, Threads};
 
 /// What the worker of a node gives: its half of the list of its answers, and what its work gave.
 #[derive(Drop)]
-pub(crate) struct Ended<T, J: Naming> {
-    pub(crate) mine: Half<Answer, J>,
-    pub(crate) out: T,
+pub struct Ended<T, J: Naming> {
+    /// Its half.
+    pub mine: Half<Answer, J>,
+    /// What its work gave.
+    pub out: T,
 }
 
 /// That the work of a node gave up.
 #[derive(Clone, Copy, Debug, Drop)]
-pub(crate) struct GivenUp {
+pub struct GivenUp {
     /// The fault with which it did.
-    pub(crate) fault: Fault,
+    pub fault: Fault,
     /// Whether the work did so of itself, and the session stopped for that.
-    pub(crate) is_first: bool,
+    pub is_first: bool,
 }
 
 /// That a thread does the work of this node.
@@ -76,7 +78,7 @@ pub(crate) fn join_all<J: Naming, W: Work, R: Threads, A: Allocator + Copy>(
 }
 
 /// The node whose work gave up and so ended the session, if one did.
-pub(crate) fn first_given_up<J: Naming, W: Work>(
+pub fn first_given_up<J: Naming, W: Work>(
     work: &W,
     all: &[Result<Ended<W::Out, J>, GivenUp>],
 ) -> Option<OwnFault>
@@ -102,7 +104,7 @@ pub(crate) fn first_given_up<J: Naming, W: Work>(
 }
 
 /// What the works gave, where none gave up [1, 21].
-pub(crate) fn take_ended<J: Naming, W: Work, A: Allocator + Copy>(
+pub fn take_ended<J: Naming, W: Work, A: Allocator + Copy>(
     alloc: A,
     work: &W,
     all: Vec<Result<Ended<W::Out, J>, GivenUp>, A>,

@@ -28,14 +28,20 @@ mod owned;
 mod places;
 mod report;
 mod session;
-mod side;
 mod tie;
 mod workers;
 
 pub use fault::OwnFault;
 pub use ivy_calls::{Answer, SharedMemory, Work};
 pub use ivy_session::{Gate, Keep, Limits, OpenGate, Report, Role};
-pub(crate) use known::{Naming, Tells, View};
+pub(crate) use known::{Tells, View};
 pub use report::OwnReport;
-pub use session::{run_with, run_with_keeping};
-pub(crate) use tie::{Half, Opened, Starter, Tie};
+pub use session::{collect, run_with, run_with_keeping};
+
+// what watched sessions have in common with these
+pub use joined::{Ended, GivenUp, first_given_up, take_ended};
+pub use known::Naming;
+pub use owned::{OwnSeat, Owned};
+pub use places::{Places, WorkedPlaces, place_all};
+pub use tie::{Half, Opened, Side, Starter, Tie};
+pub use workers::run_crew;

@@ -7,7 +7,7 @@ ghost use Rattle.ivy_workers.specs.Stops.{IsStop};
 ghost use Rattle.ivy_own.specs.OwnSeats.{grown, grown_by};
 
 use crate::owned::OwnSeat;
-use crate::side::Side;
+use crate::tie::Side;
 use crate::{Half, Naming};
 use ivy_calls::{Answer, SharedMemory};
 use ivy_model::{Call, Fault, Reply, Row};
@@ -16,7 +16,7 @@ use std::alloc::Allocator;
 use std::marker::Model;
 use std::sync::Wait;
 
-/// So often who waits for a word looks at it before it rests between two looks.
+/// How often who waits for a word looks at it before it rests between two looks.
 const LOOKS: u64 = 32;
 
 /// The memory of a session as the worker of one node has it. It keeps no record.

@@ -8,7 +8,7 @@ ghost use Rattle.ivy_calls.specs.BlockAnswers.{in_row};
 ghost use Rattle.ivy_workers.specs.Stops.{IsStop};
 ghost use Rattle.ivy_own.specs.OwnSeats.{IsOwned, IsReady, IsAsked, TurnsOwn, grown, grown_by, last_reply_in};
 
-use crate::side::Side;
+use crate::tie::Side;
 use crate::{Half, Naming, Tie};
 use ivy_calls::Answer;
 use ivy_ether::Setup;
@@ -21,7 +21,7 @@ use std::sync::Wait;
 
 /// A place whose program is own code, as the worker of the node has it, which has the other half of the list of the
 /// node's answers.
-pub(crate) trait OwnSeat<J: Naming, A: Allocator>: Seat {
+pub trait OwnSeat<J: Naming, A: Allocator>: Seat {
     /// The worker of node `me` makes a call, and its first turn [1, 17, 21]. It gives the reply, where that is there then.
     fn begin(&mut self, side: &mut Side<'_, J, A>, call: Call) -> Result<Option<Reply>, Fault>
         requires width { HasWidth call }
@@ -310,7 +310,7 @@ fn go_on_at<S: Setup, J: Naming, A: Allocator + Copy>(
 ///
 /// Contracts see that half.
 #[derive(Drop)]
-pub(crate) struct Owned<'e, S: Setup, H: Home, J: Naming, A: Allocator> {
+pub struct Owned<'e, S: Setup, H: Home, J: Naming, A: Allocator> {
     seated: Seated<'e, S, A>,
     half: Half<Answer, J>,
     of: PhantomData<H>,
@@ -333,7 +333,7 @@ impl<'e, S: Setup, H: Home, J: Naming, A: Allocator> Model for Owned<'e, S, H, J
 
 impl<'e, S: Setup, H: Home, J: Naming, A: Allocator + Copy> Owned<'e, S, H, J, A> {
     /// The seated site, with one half of what it was answered.
-    pub(crate) fn new(seated: Seated<'e, S, A>, half: Half<Answer, J>) -> Self
+    pub fn new(seated: Seated<'e, S, A>, half: Half<Answer, J>) -> Self
         requires home { seated.ether ≡ H.ether }
         requires owned { IsOwned seated.site half }
     {
@@ -345,13 +345,33 @@ impl<'e, S: Setup, H: Home, J: Naming, A: Allocator + Copy> Owned<'e, S, H, J, A
         }
     }
 
+    /// The site.
+    pub fn site(&self) -> &Site<A>
+        ensures { IsOwned result.now self.now }
+    {
+        self.seated.site()
+    }
+
+    /// The seated site, in its session.
+    pub fn into_homed(self) -> Homed<'e, S, H, A>
+        ensures { IsOwned result.seated.site self.entry }
+    {
+        let Owned {
+            seated,
+            half: _,
+            of: _,
+            apart: _,
+        } = self;
+        Homed::new(seated)
+    }
+
     /// Takes what is left in the ether, so many items at most.
-    pub(crate) fn drain<R: Wait>(&mut self, rt: &R, most: u64) {
+    pub fn drain<R: Wait>(&mut self, rt: &R, most: u64) {
         self.seated.drain(rt, most);
     }
 
     /// The seated site, where it is of this node [21]. The worker's half knows what the node was answered.
-    pub(crate) fn agree(
+    pub fn agree(
         self,
         tie: &Tie<Answer, J, A>,
         mine: Half<Answer, J>,

@@ -27,9 +27,11 @@ use std::sync::{Mutex, Wait};
 
 /// The places of the nodes, and their workers' halves of the lists of their answers.
 #[derive(Drop)]
-pub(crate) struct Places<'e, S: Setup, H: Home, J: Naming, A: Allocator> {
-    pub(crate) seats: Vec<Mutex<Owned<'e, S, H, J, A>>, A>,
-    pub(crate) mines: Vec<Half<Answer, J>, A>,
+pub struct Places<'e, S: Setup, H: Home, J: Naming, A: Allocator> {
+    /// The places.
+    pub seats: Vec<Mutex<Owned<'e, S, H, J, A>>, A>,
+    /// The workers' halves.
+    pub mines: Vec<Half<Answer, J>, A>,
 }
 
 /// Seats a node with own code [1, 21]: its seat is issued and taken, and its site is made, which keeps these lists of its
@@ -88,7 +90,7 @@ fn place_one<'e, S: Setup, H: Home, J: Naming, A: Allocator + Copy>(
 }
 
 /// Seats all nodes [1, 21], with a pass for each. Each keeps the lists of its own past that the plan says.
-pub(crate) fn seat_all<'e, S: Setup, H: Home, J: Naming, A: Allocator + Copy, R: Wait, G>(
+pub fn place_all<'e, S: Setup, H: Home, J: Naming, A: Allocator + Copy, R: Wait, G>(
     plan: &Plan<'_, '_, A, R, G>,
     ether: &'e Ether<S, A>,
     tie: &Tie<Answer, J, A>,
@@ -128,9 +130,11 @@ pub(crate) fn seat_all<'e, S: Setup, H: Home, J: Naming, A: Allocator + Copy, R:
 
 /// The places of the nodes whose works have ended, and what these gave.
 #[derive(Drop)]
-pub(crate) struct Worked<'e, S: Setup, H: Home, J: Naming, A: Allocator, T> {
-    pub(crate) seats: Vec<Mutex<Owned<'e, S, H, J, A>>, A>,
-    pub(crate) all: Vec<Ended<T, J>, A>,
+pub struct WorkedPlaces<'e, S: Setup, H: Home, J: Naming, A: Allocator, T> {
+    /// The places.
+    pub seats: Vec<Mutex<Owned<'e, S, H, J, A>>, A>,
+    /// What the works gave, with their workers' halves.
+    pub all: Vec<Ended<T, J>, A>,
 }
 
 /// Closes all nodes, each of which keeps the lists that the plan says, and hands out their sites with what their works gave
@@ -141,7 +145,7 @@ pub(crate) fn close_all<S: Setup, H: Home, J: Naming, A: Allocator + Copy, R, G,
     starter: &mut Pass<Wired<A>>,
     tie: &Tie<Answer, J, A>,
     work: &W,
-    worked: Worked<'_, S, H, J, A, W::Out>,
+    worked: WorkedPlaces<'_, S, H, J, A, W::Out>,
 ) -> Result<(Vec<Site<A>, A>, Vec<W::Out, A>), Fault>
     requires home { ether.now ≡ H.ether }
     requires starter { starter.old.ether ≡ ether.now }
@@ -155,7 +159,7 @@ pub(crate) fn close_all<S: Setup, H: Home, J: Naming, A: Allocator + Copy, R, G,
     ensures stop { IfErr result IsStop }
 {
     let _ = work;
-    let Worked { seats, all } = worked;
+    let WorkedPlaces { seats, all } = worked;
     let mut seats = seats.into_iter();
     let mut sites = Vec::with_capacity(plan.alloc, all.len())?;
     let mut outs = Vec::with_capacity(plan.alloc, all.len())?;

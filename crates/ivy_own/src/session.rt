@@ -13,7 +13,7 @@ ghost use Rattle.ivy_own.specs.Reports.{IsOwnReport, all_open};
 use crate::fault::OwnFault;
 use crate::joined::{Ended, first_given_up, take_ended};
 use crate::owned::{OwnSeat, Owned};
-use crate::places::{Places, Worked, close_all, seat_all};
+use crate::places::{Places, WorkedPlaces, close_all, place_all};
 use crate::report::OwnReport;
 use crate::workers::run_crew;
 use crate::{Half, Naming, Opened, Tie};
@@ -70,13 +70,13 @@ where
 }
 
 /// Closes the nodes, and hands out what their sites tell together, with what their works gave [1, 21].
-fn collect<S: Setup, H: Home, J: Naming, A: Allocator + Copy, R, G, W: Work>(
+pub fn collect<S: Setup, H: Home, J: Naming, A: Allocator + Copy, R, G, W: Work>(
     plan: &Plan<'_, '_, A, R, G>,
     ether: &Ether<S, A>,
     starter: Pass<Wired<A>>,
     tie: &Tie<Answer, J, A>,
     work: &W,
-    worked: Worked<'_, S, H, J, A, W::Out>,
+    worked: WorkedPlaces<'_, S, H, J, A, W::Out>,
 ) -> Result<OwnReport<W::Out, A>, Fault>
     requires limits { IsConfig S.config }
     requires programs { S.programs ≡ all_open S.config }
@@ -126,7 +126,7 @@ where
 {
     let (tie, mut lists) = opened.named::<J>();
     let mut starter = starter;
-    let Places { seats, mines } = seat_all::<S, H, J, A, R, G>(
+    let Places { seats, mines } = place_all::<S, H, J, A, R, G>(
         plan,
         ether,
         &tie,
@@ -138,7 +138,7 @@ where
     if let Some(first) = seats.first() {
         first.lock(plan.rt).drain(plan.rt, plan.limits.capacity);
     }
-    let worked = Worked { seats, all };
+    let worked = WorkedPlaces { seats, all };
     let report = collect(plan, ether, starter, &tie, work, worked)?;
     Ok(report)
 }

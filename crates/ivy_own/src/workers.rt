@@ -8,7 +8,7 @@ ghost use Rattle.ivy_own.specs.Faults.{StopsFor};
 use crate::joined::{Ended, GivenUp, Works, join_all};
 use crate::memory::OwnMemory;
 use crate::owned::OwnSeat;
-use crate::side::Side;
+use crate::tie::Side;
 use crate::{Half, Naming, Tie};
 use ivy_calls::{Answer, Work};
 use ivy_model::Fault;
@@ -95,7 +95,7 @@ where
 }
 
 /// Runs two workers for each node, and joins them all.
-pub(crate) fn run_crew<T, J, A, R, G, W>(
+pub fn run_crew<T, J, A, R, G, W>(
     crew: &Crew<'_, '_, '_, '_, T, A, R, G>,
     alloc: A,
     tie: &Tie<Answer, J, A>,

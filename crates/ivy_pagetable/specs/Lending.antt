@@ -5,7 +5,7 @@
 use Rattle.std.specs.Prelude.{ℕ, ◌*◌, List, ◌++◌, length, take, drop, if◌then◌else◌, ◌==◌}
 use Rattle.std.specs.List.{concat, refill}
 use Rattle.std.specs.Borrow.{Lends, Fml, RattleType, MutBor, Array, u8}
-use Rattle.ivy_pagetable.specs.contracts.table.PageTable as table
+use Rattle.ivy_pagetable.specs.contracts.node_table.PageTable as table
 use Rattle.std.specs.declared.alloc.Allocator.{Ghosts}
 use Rattle.ivy_pagetable.specs.stated.TableState.{Table, pages_in}
 use Rattle.ivy_pagetable.specs.stated.Tables.{with_page}

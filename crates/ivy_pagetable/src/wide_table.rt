@@ -11,9 +11,9 @@ ghost use Rattle.ivy_pagetable.specs.stated.Words.{IsWord, carried_out, needs_wr
 use crate::entry::Entry;
 use crate::idle::Idle;
 use crate::lent::LentEntry;
+use crate::node_table::first_idle;
 use crate::page::Page;
 use crate::put_off::PutOff;
-use crate::table::first_idle;
 use crate::word::{Out, Word};
 use ivy_model::{Config, Fault};
 use std::alloc::{AllocError, Allocator};

@@ -4,7 +4,7 @@ ghost use Rattle.ivy_moves.specs.declared.Move.TheVariants.{Turn};
 
 use ivy_world::Move;
 
-/// So many turns of a node were made with the last row of its work, and are still to be asked for. No other move was made
+/// How many turns of a node were made with the last row of its work, and are still to be asked for. No other move was made
 /// behind them.
 #[derive(Clone, Copy)]
 pub(crate) struct Ahead {
@@ -13,7 +13,7 @@ pub(crate) struct Ahead {
 }
 
 impl Ahead {
-    /// So many turns of a node.
+    /// How many turns of a node.
     pub(crate) fn new(turns: usize, of_node: u64) -> Ahead
         ensures turns { result.turns ≡ turns }
         ensures of { result.of_node ≡ of_node }

@@ -4,11 +4,11 @@ ghost use Rattle.std.specs.Prelude.{◌≡◌, ◌<◌, ◌-◌, false, true};
 /// How many of the moves were not made to let the world settle, and how many may be made for that.
 #[derive(Clone, Copy)]
 pub(crate) struct Budget {
-    /// So many were not made for that.
+    /// How many were not made for that.
     pub(crate) drawn: usize,
     /// Whether each further move is.
     is_settling: bool,
-    /// So many may be, and the turns of one row besides.
+    /// How many may be, and the turns of one row besides.
     most: u64,
 }
 

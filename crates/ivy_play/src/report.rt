@@ -26,7 +26,7 @@ pub struct PlayReport<T: Drop, A: Allocator> {
     pub world: World<A>,
     /// The moves that were made. Listed, they play the same again.
     pub moves: Vec<Move, A>,
-    /// So many of them were drawn, or listed, or are turns that went with such a one, by which a row was answered; the others
+    /// How many of them were drawn, or listed, or are turns that went with such a one, by which a row was answered; the others
     /// were made to let the world settle.
     pub drawn: usize,
     /// How the work of each node stands, in the order of the nodes.

@@ -25,7 +25,7 @@ pub trait MoveSource {
         ensures stop { IfErr result IsPlayStop };
 }
 
-/// So many moves, which the generator of a seed draws: half of them are turns, three of eight deliver one of the last 64
+/// Moves that the generator of a seed draws, up to a number of them: half of them are turns, three of eight deliver one of the last 64
 /// strings, and one of eight is a pulse.
 #[derive(Drop)]
 pub struct Drawn {
@@ -34,7 +34,7 @@ pub struct Drawn {
 }
 
 impl Drawn {
-    /// So many moves of this seed.
+    /// The first moves of this seed.
     pub fn new(seed: u64, moves: u64) -> Drawn
         ensures { ⟦<Drawn as MoveSource>⟧.gives result ≡ seed_moves seed moves }
     {

@@ -342,7 +342,7 @@ impl<S: Setting, A: Allocator + Copy, M: MoveSource + Drop> Stage<S, A, M> {
 pub(crate) struct Played<A: Allocator> {
     pub(crate) world: World<A>,
     pub(crate) moves: Vec<Move, A>,
-    /// So many of the moves were not made to let the world settle.
+    /// How many of the moves were not made to let the world settle.
     pub(crate) drawn: usize,
     pub(crate) rest: Rest,
 }

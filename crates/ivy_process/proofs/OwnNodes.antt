@@ -16,7 +16,7 @@ use Rattle.ivy_moves.specs.Marks.{marks}
 use Rattle.ivy_program.specs.stated.Programs.{Program}
 use Rattle.ivy_program.specs.Programs.{handed, one_by_one}
 use Rattle.ivy_host.proofs.HandedHosts.{handed_none}
-use Rattle.ivy_logs.specs.declared.entry.LogEntry.TheVariants.{Did, Asked, Answered}
+use Rattle.ivy_logs.specs.declared.log.LogEntry.TheVariants.{Did, Asked, Answered}
 use Rattle.ivy_logs.specs.Entries.{LogEntry, answer_in, answers_in, call_in, calls_in, entry_line, event_in, events_in, entry_lines}
 use Rattle.ivy_logs.specs.Printed.{event_line}
 use Rattle.ivy_logs.proofs.Entries.{marks-append}

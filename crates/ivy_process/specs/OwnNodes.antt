@@ -6,7 +6,7 @@ use Rattle.ivy_model.specs.declared.Record.{Record}
 use Rattle.ivy_model.specs.declared.Reply.{Reply}
 use Rattle.ivy_calls.specs.declared.Answer.{Answer}
 use Rattle.ivy_calls.specs.Answers.{answers}
-use Rattle.ivy_logs.specs.declared.entry.LogEntry.TheVariants.{Asked, Answered}
+use Rattle.ivy_logs.specs.declared.log.LogEntry.TheVariants.{Asked, Answered}
 use Rattle.ivy_logs.specs.declared.log.LogHead.{LogHead}
 use Rattle.ivy_logs.specs.Entries.{LogEntry, answers_in, calls_in, entry_line, events_in, entry_lines}
 use Rattle.ivy_site.specs.Handed.{site_handed}

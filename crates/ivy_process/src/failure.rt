@@ -13,7 +13,7 @@ pub(crate) const NODE_FAILED: Fault = Fault::TurnLimit;
 pub enum NodeFailure {
     /// A call was refused: memory or message numbers ran out, or the allowed turns are used up [1, 17, 21].
     Refused(Fault),
-    /// So many messages for this node are kept, since it acknowledged none of them.
+    /// Too many messages for this node are kept, since it acknowledged none of them.
     Kept(u8),
     /// The event in this line of the log does not happen at the node: it is the log of another node, or of another program.
     NotItsLog(u64),

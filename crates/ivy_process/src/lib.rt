@@ -20,6 +20,7 @@ mod sites;
 mod story;
 mod streams;
 mod threads;
+mod watch;
 
 pub use failure::NodeFailure;
 pub use limits::{NodeLimits, Untaken};
@@ -28,6 +29,7 @@ pub use mail::{Inbox, Mail, Mailed};
 pub use node::Node;
 pub use own_memory::{Worked, serve_work};
 pub use router::{Harm, Router, route};
-pub use service::{Clockwork, Ending, serve};
+pub use service::{Clockwork, Ending, serve, serve_watched};
 pub use streams::Streams;
 pub use threads::inbox_of;
+pub use watch::CallWatch;

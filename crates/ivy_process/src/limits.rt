@@ -3,7 +3,7 @@
 /// What a node in a process may use.
 #[derive(Clone, Copy, Debug)]
 pub struct NodeLimits {
-    /// So many milliseconds pass between pulses, at least.
+    /// How many milliseconds pass between pulses, at least.
     pub pulse_millis: u64,
     /// How many turns its program makes at most.
     pub turns: u64,

@@ -122,7 +122,7 @@ fn sync_folder<R: Files<File = File>>(rt: &R, name: &str) -> Result<(), NoLog> {
     }
 }
 
-/// So many bytes of a text are its whole lines.
+/// How many bytes of a text are its whole lines.
 fn whole_bytes(text: &str) -> usize {
     match text.rfind('\n') {
         Some(place) => place.saturating_add(1),

@@ -8,10 +8,10 @@ use std::sync::{Mutex, Wait};
 use std::thread::Parker;
 use std::time::Duration;
 
-/// So many lines wait at most; one that finds no place is lost.
+/// How many lines wait at most; one that finds no place is lost.
 const MOST_LINES: usize = 1024;
 
-/// So often who waits looks whether something came before it sleeps, since to be woken takes as long as many an answer.
+/// How often who waits looks whether something came before it sleeps, since to be woken takes as long as many an answer.
 const MOST_LOOKS: u64 = 16_384;
 
 /// What was found.
@@ -61,7 +61,7 @@ pub struct Mail {
     has_come: AtomicBool,
     /// Whether who takes sleeps, or is about to.
     sleeps: AtomicBool,
-    /// So often who takes looks before it sleeps.
+    /// How often who takes looks before it sleeps.
     looks: AtomicU64,
     bell: Parker,
 }

@@ -17,6 +17,7 @@ use crate::limits::{NodeLimits, Untaken};
 use crate::peers::Peers;
 use crate::sites::{make_turns, push_frames};
 use crate::streams::write_through;
+use crate::watch::{CallWatch, Unwatched};
 use ivy_calls::Answer;
 use ivy_join::replay;
 use ivy_link::MOST_AHEAD;
@@ -42,7 +43,7 @@ pub struct Node {
     alloc: Global,
     site: Site<Global>,
     limits: NodeLimits,
-    /// So many turns its program may make still.
+    /// How many turns its program may make still.
     left: u64,
     /// The sum of its run, which it tells its peers; own code has none.
     sum: Option<u64>,
@@ -53,9 +54,9 @@ pub struct Node {
     lines: String,
     /// The lines of frames that go out once the log has these.
     frames: String,
-    /// So many values of its output were printed.
+    /// How many values of its output were printed.
     printed: usize,
-    /// So many of its calls were refused.
+    /// How many of its calls were refused.
     refused: u64,
 }
 
@@ -234,8 +235,8 @@ impl Node {
         }
     }
 
-    /// It tells its peers that its run has this sum, each until a frame of it has come, and takes no frame more of one that
-    /// tells it another.
+    /// It tells its peers that its run has this sum, each until a frame of it has come, ever more rarely, and takes no frame
+    /// more of one that tells it another.
     pub fn tell_sum(&mut self, sum: u64)
         ensures { self.new ≡ self.old }
     {
@@ -374,10 +375,26 @@ impl Node {
     pub fn make_turns(&mut self, most: u64) -> Result<u64, NodeFailure>
         ensures { OnOk result (AddsEvents self.old self.new) }
     {
+        self.make_watched_turns(most, &mut Unwatched)
+    }
+
+    /// The same, and each call that is answered is told.
+    pub(crate) fn make_watched_turns<W: CallWatch>(
+        &mut self,
+        most: u64,
+        watch: &mut W,
+    ) -> Result<u64, NodeFailure>
+        ensures { OnOk result (AddsEvents self.old self.new) }
+    {
         if self.left == 0 && !self.site.ended() {
             return Err(NodeFailure::Refused(Fault::TurnLimit));
         }
-        let made = make_turns(&mut self.site, most.min(self.left), &mut self.refused)?;
+        let made = make_turns(
+            &mut self.site,
+            most.min(self.left),
+            &mut self.refused,
+            watch,
+        )?;
         self.left = self.left.saturating_sub(made);
         if made > 0 {
             self.note(LogEntry::Did(Event::Turns(made)))?;
@@ -424,20 +441,25 @@ impl Node {
         Ok(())
     }
 
-    /// Writes these lines for all nodes, if it has a sum. They stand before the frames that wait.
+    /// Writes these lines for all nodes, if it has a sum and this pulse is to bring it. They stand before the frames that
+    /// wait.
     fn push_sums(&mut self) -> Result<(), NodeFailure>
         ensures { self.new ≡ self.old }
     {
         let Some(sum) = self.sum else {
             return Ok(());
         };
+        if !self.peers.may_tell() {
+            return Ok(());
+        }
         for to in 0..self.site.config().nodes {
             self.push_sum(sum, to)?;
         }
         Ok(())
     }
 
-    /// Pulses to each other node, and tells its sum each one of which no frame came yet.
+    /// Pulses to each other node. The first pulse, the second, the fourth and so on, and each 1,024th, tell its sum to each
+    /// node of which no frame came yet.
     pub fn pulse(&mut self) -> Result<(), NodeFailure>
         ensures { OnOk result (AddsEvents self.old self.new) }
     {

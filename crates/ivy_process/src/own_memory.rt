@@ -12,6 +12,7 @@ use crate::past::{Recalled, check_told, recall};
 use crate::service::{Clockwork, Service, awake, serve, serve_briefly, serve_on};
 use crate::story::Story;
 use crate::streams::Streams;
+use crate::watch::Unwatched;
 use ivy_calls::{Answer, SharedMemory, Work};
 use ivy_logs::{Log, count_answers};
 use ivy_model::{Call, Fault, Reply};
@@ -38,9 +39,9 @@ impl Beginning for Brand {
 #[derive(Drop)]
 struct ServedNode<'a, I, L, O, E> {
     node: Node,
-    service: Service,
+    service: Service<Unwatched>,
     streams: Streams<'a, I, L, O, E>,
-    /// So many answers its log has.
+    /// How many answers its log has.
     answered: u64,
 }
 
@@ -371,7 +372,7 @@ where
     let me = node.me();
     let mut node = node;
     // That its code may make a call is no end, so none is to be told.
-    let service = awake(clock, &mut node, true)?;
+    let service = awake(clock, &mut node, true, Unwatched)?;
     let served = ServedNode {
         node,
         service,

@@ -23,10 +23,24 @@ struct Peer {
     kin: Kin,
 }
 
-/// What a node knows of each other one.
+/// A node tells its sum at least with each pulse whose number this divides.
+const MOST_BETWEEN: u64 = 1024;
+
+/// With which of its pulses a node tells its sum: with those whose numbers are 1, 2, 4 and so on, and then with each
+/// one whose number [`MOST_BETWEEN`] divides.
+#[derive(Clone, Copy)]
+struct Telling {
+    /// How many pulses are left until the next of these, which counts too.
+    left: u64,
+    /// How many pulses lie between that and the one behind it.
+    between: u64,
+}
+
+/// What a node knows of each other one, and when it tells them its sum.
 #[derive(Drop)]
 pub(crate) struct Peers {
     peers: Vec<Peer>,
+    telling: Telling,
 }
 
 impl Peers {
@@ -39,7 +53,25 @@ impl Peers {
         };
         Ok(Peers {
             peers: vec![in alloc; unknown; usize::from(nodes)]?,
+            telling: Telling {
+                left: 1,
+                between: 1,
+            },
         })
+    }
+
+    /// Whether the node tells its sum with its next pulse, which is made now.
+    pub(crate) fn may_tell(&mut self) -> bool {
+        let Telling { left, between } = self.telling;
+        if left > 1 {
+            self.telling.left = left - 1;
+            return false;
+        }
+        self.telling = Telling {
+            left: between,
+            between: between.saturating_mul(2).min(MOST_BETWEEN),
+        };
+        true
     }
 
     fn get(&self, node: u8) -> Option<&Peer> {

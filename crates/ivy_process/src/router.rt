@@ -11,17 +11,17 @@ use std::sync::Wait;
 /// After so many milliseconds in which no line comes, those that are held back go out.
 const QUIET_MILLIS: u64 = 2;
 
-/// So many milliseconds it waits where nothing is held back.
+/// How many milliseconds it waits where nothing is held back.
 const LONG_MILLIS: u64 = 1000;
 
 /// What is done to lines.
 #[derive(Clone, Copy, Debug)]
 pub struct Harm {
-    /// So many of a hundred are lost.
+    /// How many of a hundred are lost.
     pub lose: u64,
-    /// So many of a hundred come twice.
+    /// How many of a hundred come twice.
     pub repeat: u64,
-    /// So many lines are held back, of which any goes out next.
+    /// How many lines are held back, of which any goes out next.
     pub reorder: u64,
 }
 

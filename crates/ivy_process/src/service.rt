@@ -6,10 +6,11 @@ use crate::failure::NodeFailure;
 use crate::mail::{Inbox, Mailed};
 use crate::node::Node;
 use crate::streams::Streams;
+use crate::watch::{CallWatch, Unwatched};
 use std::io::Write;
 use std::sync::Wait;
 
-/// So many strings are heard, and so many turns made, before the node speaks.
+/// How many strings are heard, and how many turns made, before the node speaks.
 const MOST_STRINGS: u64 = 64;
 
 const MOST_TURNS: u64 = 1024;
@@ -36,11 +37,12 @@ struct Heard {
     has_ended: bool,
 }
 
-/// What a service has told and when it pulsed last.
-#[derive(Clone, Copy)]
-pub(crate) struct Service {
+/// What a service has told, when it pulsed last, and what is told of calls.
+#[derive(Drop)]
+pub(crate) struct Service<W> {
     pub(crate) pulsed: u64,
     pub(crate) was_told: bool,
+    pub(crate) watch: W,
 }
 
 /// Hears the lines that wait, so many at most.
@@ -73,9 +75,9 @@ fn hear<R: Wait, I: Inbox>(rt: &R, inbox: &I, node: &mut Node) -> Result<Heard, 
 }
 
 /// Tells once that the program has ended.
-fn tell_end<E: Write>(node: &Node, service: &mut Service, err: &mut E) {
-    if node.ended() && !service.was_told {
-        service.was_told = true;
+fn tell_end<E: Write>(node: &Node, was_told: &mut bool, err: &mut E) {
+    if node.ended() && !*was_told {
+        *was_told = true;
         // A node that is started again tells it again.
         let _ = writeln!(err, "node {} ended", node.me());
     }
@@ -83,11 +85,11 @@ fn tell_end<E: Write>(node: &Node, service: &mut Service, err: &mut E) {
 
 /// Hears what waits, makes turns, speaks, and pulses where it is time. Where nothing came it waits, so many milliseconds at
 /// most. It says whether there is no more to do.
-fn serve_once<R: Wait, I: Inbox, C: Clockwork, L: Write, O: Write, E: Write>(
+fn serve_once<R: Wait, I: Inbox, C: Clockwork, W: CallWatch, L: Write, O: Write, E: Write>(
     rt: &R,
     clock: &C,
     node: &mut Node,
-    service: &mut Service,
+    service: &mut Service<W>,
     streams: &mut Streams<'_, I, L, O, E>,
     nap: u64,
 ) -> Result<bool, NodeFailure>
@@ -95,10 +97,10 @@ fn serve_once<R: Wait, I: Inbox, C: Clockwork, L: Write, O: Write, E: Write>(
 {
     let every = node.limits().pulse_millis;
     let heard = hear(rt, streams.inbox, node)?;
-    let made = node.make_turns(MOST_TURNS)?;
+    let made = node.make_watched_turns(MOST_TURNS, &mut service.watch)?;
     node.speak(&mut streams.log, &mut streams.out, &mut streams.err)?;
     node.check_kept()?;
-    tell_end(node, service, &mut streams.err);
+    tell_end(node, &mut service.was_told, &mut streams.err);
     if heard.lines == 0 && made == 0 {
         if heard.has_ended {
             return Ok(true);
@@ -116,11 +118,12 @@ fn serve_once<R: Wait, I: Inbox, C: Clockwork, L: Write, O: Write, E: Write>(
 
 /// Has a node go on with what it holds, and pulse to each other node: it may have been killed before. Its service begins
 /// then.
-pub(crate) fn awake<C: Clockwork>(
+pub(crate) fn awake<C: Clockwork, W: CallWatch + Drop>(
     clock: &C,
     node: &mut Node,
     was_told: bool,
-) -> Result<Service, NodeFailure>
+    watch: W,
+) -> Result<Service<W>, NodeFailure>
     ensures { OnOk result (AddsEvents node.old node.new) }
 {
     node.go_on_all()?;
@@ -128,16 +131,17 @@ pub(crate) fn awake<C: Clockwork>(
     Ok(Service {
         pulsed: clock.millis(),
         was_told,
+        watch,
     })
 }
 
 /// Serves until there is no more to do, or where it is asked to, until the calls of the node's code have their replies. It
 /// says whether they had.
-pub(crate) fn serve_on<R: Wait, I: Inbox, C: Clockwork, L: Write, O: Write, E: Write>(
+pub(crate) fn serve_on<R: Wait, I: Inbox, C: Clockwork, W: CallWatch, L: Write, O: Write, E: Write>(
     rt: &R,
     clock: &C,
     node: &mut Node,
-    service: &mut Service,
+    service: &mut Service<W>,
     streams: &mut Streams<'_, I, L, O, E>,
     until_free: bool,
 ) -> Result<bool, NodeFailure>
@@ -160,7 +164,7 @@ pub(crate) fn serve_briefly<R: Wait, I: Inbox, C: Clockwork, L: Write, O: Write,
     rt: &R,
     clock: &C,
     node: &mut Node,
-    service: &mut Service,
+    service: &mut Service<Unwatched>,
     streams: &mut Streams<'_, I, L, O, E>,
 ) -> Result<bool, NodeFailure>
     ensures { OnOk result (StreamsPart node.old node.new (L.contents streams.old.log) (L.contents streams.new.log)) }
@@ -199,7 +203,28 @@ pub fn serve<R: Wait, I: Inbox, C: Clockwork, L: Write, O: Write, E: Write>(
 ) -> Result<Ending, NodeFailure>
     ensures { OnOk result (StreamsWhole node.old node.new (L.contents streams.old.log) (L.contents streams.new.log)) }
 {
-    let mut service = awake(clock, node, false)?;
+    serve_watched(rt, clock, node, streams, &mut Unwatched)
+}
+
+/// Serves as [`serve`] does, and tells of each call of the program that is answered.
+pub fn serve_watched<R, I, C, W, L, O, E>(
+    rt: &R,
+    clock: &C,
+    node: &mut Node,
+    streams: &mut Streams<'_, I, L, O, E>,
+    watch: &mut W,
+) -> Result<Ending, NodeFailure>
+where
+    R: Wait,
+    I: Inbox,
+    C: Clockwork,
+    W: CallWatch,
+    L: Write,
+    O: Write,
+    E: Write,
+    ensures { OnOk result (StreamsWhole node.old node.new (L.contents streams.old.log) (L.contents streams.new.log)) }
+{
+    let mut service = awake(clock, node, false, watch)?;
     serve_on(rt, clock, node, &mut service, streams, false)?;
     node.speak(&mut streams.log, &mut streams.out, &mut streams.err)?;
     Ok(ending_of(node))

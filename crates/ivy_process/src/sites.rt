@@ -4,26 +4,31 @@ ghost use Rattle.ivy_moves.specs.Marks.{turns};
 ghost use Rattle.ivy_process.specs.NodeLogs.{KeepsCalls, waiting_lines};
 
 use crate::failure::NodeFailure;
+use crate::watch::CallWatch;
 use ivy_logs::push_frame;
 use ivy_model::{Fault, Reply};
 use ivy_site::{Site, Turn};
 use ivy_wire::destination;
 use std::alloc::Global;
 
-/// Whether the last call was refused.
-fn refuses_last(site: &Site<Global>) -> bool {
-    match site.last_record() {
-        Some(record) => matches!(record.reply, Reply::Refused(_)),
-        None => false,
+/// Tells of the call that was answered last, and counts it if it was refused.
+fn tell_last<W: CallWatch>(site: &Site<Global>, refused: &mut u64, watch: &mut W) {
+    let Some(record) = site.last_record() else {
+        return;
+    };
+    if matches!(record.reply, Reply::Refused(_)) {
+        *refused = refused.saturating_add(1);
     }
+    watch.note(&record);
 }
 
-/// Makes so many turns at most, until one does nothing [1, 17]. It says how many did something, and counts the calls that
-/// were refused.
-pub(crate) fn make_turns(
+/// Makes so many turns at most, until one does nothing [1, 17]. It says how many did something, counts the calls that were
+/// refused, and tells of each that was answered.
+pub(crate) fn make_turns<W: CallWatch>(
     site: &mut Site<Global>,
     most: u64,
     refused: &mut u64,
+    watch: &mut W,
 ) -> Result<u64, Fault>
     ensures made { IfOk result (λ made. site.new.events ≡ site.old.events ++ turns made) }
     ensures most { IfOk result (λ made. made ≤ most) }
@@ -35,8 +40,8 @@ pub(crate) fn make_turns(
         if site.program_turn()? != Turn::Moved {
             return Ok(made);
         }
-        if site.records() != records && refuses_last(site) {
-            *refused = refused.saturating_add(1);
+        if site.records() != records {
+            tell_last(site, refused, watch);
         }
         made += 1;
     }

@@ -8,7 +8,7 @@ use std::rt::Stdin;
 use std::sync::{Arc, Wait};
 use std::thread::{self, Threads};
 
-/// So many bytes a pipe holds: what is there is read at once.
+/// How many bytes a pipe holds: what is there is read at once.
 const PIPE_BYTES: usize = 65_536;
 
 fn read_input<R: Wait>(

@@ -36,7 +36,7 @@ fn draw_all<P: Progress>(
     Ok(())
 }
 
-/// So many moves that the generator of a seed draws [1, 2, 17, 20].
+/// The first moves that the generator of a seed draws [1, 2, 17, 20].
 pub fn drawn_moves<P: Progress>(
     text: &Text<'_>,
     seed: u64,

@@ -2,7 +2,7 @@
 
 /// Is told how far something is that may take long.
 pub trait Progress {
-    /// So many of these are done, as `moves`.
+    /// How many of these are done, as `moves`.
     fn tell(&mut self, done: u64, what: &str);
 }
 

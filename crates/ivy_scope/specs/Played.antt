@@ -3,10 +3,10 @@ use Rattle.std.specs.Prelude.{◌≡◌, List}
 use Rattle.ivy_model.specs.declared.Config.{Config}
 use Rattle.ivy_moves.specs.declared.keep.Keep.{Keep}
 use Rattle.ivy_program.specs.stated.Programs.{Program}
-use Rattle.ivy_scope.specs.declared.watched.watch.End.{End}
-use Rattle.ivy_scope.specs.declared.watched.watch.End.TheVariants.{Programs, Standstill}
-use Rattle.ivy_scope.specs.Ends.{HaveEnded, IsStandstill}
-use Rattle.ivy_scope.specs.SoFar.{NodeSoFar, AllKeepSoFar, IsHandedSoFar}
+use Rattle.ivy_standstill.specs.declared.end.End.{End}
+use Rattle.ivy_standstill.specs.declared.end.End.TheVariants.{Programs, Standstill}
+use Rattle.ivy_standstill.specs.Ends.{HaveEnded, IsStandstill}
+use Rattle.ivy_standstill.specs.SoFar.{NodeSoFar, AllKeepSoFar, IsHandedSoFar}
 
 -- the nodes, which kept these lists, and why the session ended
 pub record IsPlayed (c : Config) (programs : List Program) (keep : Keep)

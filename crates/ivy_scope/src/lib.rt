@@ -17,5 +17,6 @@ mod watched;
 
 pub use command::run_command;
 pub use ivy_explain::ScopeFailure;
+pub use ivy_standstill::{End, ReportSoFar};
 pub use logs::Logs;
-pub use watched::{End, ReportSoFar, Watch, WatchTerms, run_watched};
+pub use watched::{Watch, WatchTerms, run_watched};

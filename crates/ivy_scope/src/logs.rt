@@ -1,9 +1,9 @@
 //! The logs of a session's nodes, as nodes in processes of their own write them.
 
-use crate::watched::ReportSoFar;
 use ivy_explain::ScopeFailure;
 use ivy_logs::{LogHead, push_log_of_run};
 use ivy_model::{Config, Fault};
+use ivy_standstill::ReportSoFar;
 use ivy_texts::FilesOf;
 use std::alloc::Global;
 use std::fs;

@@ -5,7 +5,7 @@ ghost use Rattle.ivy_scope.specs.Statuses.{IsStatus};
 use crate::logs::{Logs, write_logs};
 use crate::played::print_records;
 use crate::refused::Refusals;
-use crate::watched::{End, ReportSoFar, WatchTerms, run_watched};
+use crate::watched::{WatchTerms, run_watched};
 use ivy_explain::{
     FAILED, Listing, NodeState, STANDSTILL, ScopeFailure, ScopeRequest, Wishes, print_calls,
     print_standing,
@@ -15,6 +15,7 @@ use ivy_model::{Config, Fault, Record};
 use ivy_program::parse;
 use ivy_replay::Progress;
 use ivy_session::Keep;
+use ivy_standstill::{End, ReportSoFar};
 use ivy_texts::print_output;
 use std::alloc::{AllocError, Global};
 use std::io::{self, Write};

@@ -4,14 +4,9 @@
 //! are the parts of one run all the same.
 
 mod close;
-mod delivered;
-mod notes;
-mod resting;
 mod seat;
 mod session;
-mod so_far;
 mod watch;
 
 pub use session::run_watched;
-pub use so_far::ReportSoFar;
-pub use watch::{End, Watch, WatchTerms};
+pub use watch::{Watch, WatchTerms};

@@ -12,16 +12,14 @@ mod report;
 mod seat;
 mod seated;
 mod seating;
-mod wire;
 mod wire_turn;
 
 pub use homed::{Home, Homed};
 pub use plan::Plan;
 pub use report::Report;
 pub use seat::ProgramSeat;
-pub use seated::Seated;
+pub use seated::{Seated, turn_on_wire};
 pub use seating::{close_seat, close_seats, seat_all};
-pub use wire::turn_on_wire;
 pub use wire_turn::WireTurn;
 
 // the site itself, what it keeps of its own past, and what a turn of its program came to

@@ -3,7 +3,7 @@ ghost use Rattle.std.specs.Prelude.{IfErr};
 ghost use Rattle.ivy_workers.specs.Stops.{IsStop};
 
 use crate::homed::{Home, Homed};
-use crate::wire::turn_on_wire;
+use crate::seated::turn_on_wire;
 use ivy_ether::Setup;
 use ivy_model::Fault;
 use ivy_site::Turn;

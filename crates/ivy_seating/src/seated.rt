@@ -1,22 +1,24 @@
-//! A site that is seated at an ether.
+//! A site that is seated at an ether, and its turns on the wire with the pulses that are due.
 ghost use Rattle.std.specs.Prelude.{◌≡◌, ◌≢◌, ◌↔◌, ◌*◌, ◌<◌, ◌≤◌, [], ◌∷◌, ◌++◌, Ok, Err, None, Contains, IsTrue, MatchBool, MatchOption, MatchResult, IfOk, IfErr, IfSome, IsSome, IsOkUnless, OnOk, OnErr, length};
 ghost use Rattle.ivy_model.specs.Rows.{calls_of, numbers_in, row};
 ghost use Rattle.ivy_model.specs.Wants.{RanOut};
-ghost use Rattle.ivy_wire.specs.stated.DecodeErrors.{checked};
-ghost use Rattle.ivy_moves.specs.stated.Nodes.{pulsing, verdict_of};
 ghost use Rattle.ivy_model.specs.stated.Legal.{HasWidth};
+ghost use Rattle.ivy_wire.specs.stated.DecodeErrors.{checked};
+ghost use Rattle.ivy_link.specs.Outboxes.{next_dest};
+ghost use Rattle.ivy_memory.specs.AtOnce.{IsStored, row_at_hand};
 ghost use Rattle.ivy_program.specs.OwnCode.{IsFree};
 ghost use Rattle.ivy_program.specs.Programs.{one_by_one};
 ghost use Rattle.ivy_program.specs.InstructionSteps.{HasEnded};
-ghost use Rattle.ivy_memory.specs.AtOnce.{IsStored, row_at_hand};
+ghost use Rattle.ivy_moves.specs.stated.Nodes.{pulsing, verdict_of};
 ghost use Rattle.ivy_site.specs.Calls.{AreAnswered, AreTaken, BeginsCall, BeginsRow, MayCallInRow, MayCallTogether, RecordsReply, row_together};
 ghost use Rattle.ivy_site.specs.Handed.{site_handed};
-ghost use Rattle.ivy_ether.specs.Views.{with_all_handed, with_handed};
-ghost use Rattle.ivy_link.specs.Outboxes.{next_dest};
 ghost use Rattle.ivy_site.specs.SiteView.{after_pulse_to};
 ghost use Rattle.ivy_site.specs.Sites.{AfterTurn, AfterDelivery, IsSpentTurn, IsSpentDelivery};
+ghost use Rattle.ivy_ether.specs.Views.{with_all_handed, with_handed};
+ghost use Rattle.ivy_workers.specs.Stops.{IsStop};
 ghost use Rattle.ivy_seating.specs.Places.{place, IsSeated, IsFreshSeat, KeepsSeat, IsInRun};
 ghost use Rattle.ivy_seating.specs.Wire.{AfterWire, Drains, RefusesString, IsPutFor, IsNextOther, pass_after_putting, pass_after_refusing, pass_after_taking, pass_after_looking};
+ghost use Rattle.ivy_seating.specs.Turns.{KeepsAnswers};
 
 use crate::wire_turn::WireTurn;
 use ivy_ether::{Ether, Item, Pass, Put, Setup, Wired};
@@ -24,6 +26,7 @@ use ivy_link::Verdict;
 use ivy_model::{Call, Fault, Reply, Row};
 use ivy_site::{Site, Turn};
 use ivy_wire::{Bytes, destination};
+use ivy_workers::{Pulses, Traffic};
 use std::alloc::Allocator;
 use std::marker::Model;
 use std::sync::Wait;
@@ -53,21 +56,6 @@ impl<'e, S: Setup, A: Allocator> Model for Seated<'e, S, A> {
     ghost view = { λ s. place s.ether.now s.site s.pass };
 
     ghost invariant = { λ s. IsSeated s.ether.now S.config S.programs s.site s.pass };
-}
-
-/// The node after this one, round, that is not `me`.
-fn next_other(nodes: u8, me: u8, last: u8) -> u8
-    requires { 2 ≤ nodes }
-    ensures { IsNextOther nodes me last result }
-{
-    let next = if last < nodes - 1 { last + 1 } else { 0 };
-    if next != me {
-        next
-    } else if next < nodes - 1 {
-        next + 1
-    } else {
-        0
-    }
 }
 
 impl<'e, S: Setup, A: Allocator + Copy> Seated<'e, S, A> {
@@ -434,4 +422,104 @@ impl<'e, S: Setup, A: Allocator + Copy> Seated<'e, S, A> {
         let Seated { ether, site, pass } = self;
         (ether, site, pass)
     }
+}
+
+/// The node after this one, round, that is not `me`.
+fn next_other(nodes: u8, me: u8, last: u8) -> u8
+    requires { 2 ≤ nodes }
+    ensures { IsNextOther nodes me last result }
+{
+    let next = if last < nodes - 1 { last + 1 } else { 0 };
+    if next != me {
+        next
+    } else if next < nodes - 1 {
+        next + 1
+    } else {
+        0
+    }
+}
+
+/// A turn, with the node that its frame is for, as the other workers have to know it.
+fn traffic_of(turn: WireTurn, to: Option<u8>) -> Traffic {
+    match turn {
+        WireTurn::Sent => Traffic::Sent { to },
+        WireTurn::Lost => Traffic::Lost,
+        WireTurn::Empty => Traffic::Nothing,
+        WireTurn::Served(verdict) => Traffic::Taken {
+            served: verdict == Verdict::Next,
+        },
+        WireTurn::Returned => Traffic::Returned { to },
+        WireTurn::Dropped => Traffic::Dropped,
+    }
+}
+
+/// A node to which the acknowledgement of many messages is owed.
+fn owed<A: Allocator + Copy>(site: &Site<A>, pulses: &mut Pulses) -> Option<u8>
+    ensures { IfSome result (λ to. (to < site.now.config.nodes) × (to ≢ site.now.me)) }
+{
+    let me = site.me();
+    for to in 0..site.config().nodes {
+        if to != me && pulses.owes(to, site.sent_to(to), site.delivered_from(to)) {
+            return Some(to);
+        }
+    }
+    None
+}
+
+/// After a turn that served a message, a pulse to the node to which the acknowledgement of many is owed, if there is
+/// one [1].
+fn pulse_owed<S: Setup, A: Allocator + Copy>(
+    seated: &mut Seated<'_, S, A>,
+    pulses: &mut Pulses,
+    turn: WireTurn,
+) -> Result<(), Fault>
+    ensures ether { seated.new.ether ≡ seated.old.ether }
+    ensures own { KeepsAnswers seated.old.site seated.new.site }
+    ensures stop { IfErr result IsStop }
+{
+    if turn != WireTurn::Served(Verdict::Next) {
+        return Ok(());
+    }
+    if let Some(to) = owed(seated.site(), pulses) {
+        seated.pulse(to)?;
+        pulses.note(to);
+    }
+    Ok(())
+}
+
+/// After a turn that began with nothing to be put, the pulse that is due, to the node after the last one [1].
+fn pulse_due<S: Setup, A: Allocator + Copy>(
+    seated: &mut Seated<'_, S, A>,
+    pulses: &mut Pulses,
+    puts: bool,
+) -> Result<(), Fault>
+    ensures ether { seated.new.ether ≡ seated.old.ether }
+    ensures own { KeepsAnswers seated.old.site seated.new.site }
+    ensures stop { IfErr result IsStop }
+{
+    if !puts && pulses.take_due() {
+        let to = seated.pulse_next(pulses.last())?;
+        pulses.note_due(to);
+    }
+    Ok(())
+}
+
+/// One turn on the wire, and the pulses that are due [1, 17]. A due pulse waits for a turn that began with nothing to be
+/// put, so the node takes between two pulses. Besides, whoever is owed the acknowledgement of many messages is sent a
+/// pulse once a message of its is delivered.
+pub fn turn_on_wire<S: Setup, A: Allocator + Copy, R: Wait>(
+    rt: &R,
+    seated: &mut Seated<'_, S, A>,
+    pulses: &mut Pulses,
+) -> Result<Traffic, Fault>
+    ensures ether { seated.new.ether ≡ seated.old.ether }
+    ensures own { KeepsAnswers seated.old.site seated.new.site }
+    ensures stop { IfErr result IsStop }
+{
+    pulses.begin_turn();
+    let puts = seated.has_frame();
+    let (turn, to) = seated.wire_turn_to(rt)?;
+    pulse_owed(seated, pulses, turn)?;
+    pulse_due(seated, pulses, puts)?;
+    Ok(traffic_of(turn, to))
 }

@@ -1,3 +1,4 @@
+pub mod Managers
 pub mod SiteView
 pub mod Sites
 pub mod Inside

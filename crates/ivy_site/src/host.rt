@@ -17,7 +17,7 @@ ghost use Rattle.ivy_memory.specs.BatchedCalls.{first_call, other_calls, row_has
 ghost use Rattle.ivy_site.specs.Calls.{MayCallTogether, TakesReplies, TakesRow, recorded_by, reply_in};
 ghost use Rattle.ivy_site.specs.Inside.{host_in, is_served, kept_by, told_by, HasTurn, AfterHostTurn, HasNoNumbers};
 
-use ivy_host::NodeManager;
+use crate::manager::NodeManager;
 use ivy_link::Outbox;
 use ivy_memory::{CallProgress, Memory};
 use ivy_model::{Call, Fault, Record, Reply, Row};
@@ -202,7 +202,7 @@ impl<A: Allocator + Copy> Host<A> {
             && bytes as u64 <= u64::MAX - addr
     }
 
-    /// So many calls in a row were made and answered at once: the program goes on with the replies, which are
+    /// Lists calls in a row that were made and answered at once: the program goes on with the replies, which are
     /// recorded, and as many turns are listed.
     #[inline(always)]
     pub(crate) fn list_row(
@@ -293,7 +293,7 @@ impl<A: Allocator + Copy> Host<A> {
             && bytes as u64 <= u64::MAX - addr
     }
 
-    /// So many calls in a row of own code have their replies: the program goes on with them, they are recorded, and as
+    /// Lists calls in a row of own code that have their replies: the program goes on with them, they are recorded, and as
     /// many turns are listed.
     pub(crate) fn list_taken(
         &mut self,

@@ -4,8 +4,10 @@
 #![tactic(auto)]
 
 mod host;
+mod manager;
 mod pages;
 mod rows;
+mod shown;
 mod site;
 mod turn;
 
@@ -13,6 +15,7 @@ pub use ivy_link::Verdict;
 pub use ivy_memory::Leaving;
 pub use ivy_moves::Keep;
 pub use ivy_program::{Program, parse};
+pub use manager::NodeManager;
 pub use rows::words_together;
 pub use site::Site;
 pub use turn::Turn;

@@ -17,9 +17,9 @@ pub struct ArrayLock {
     pub next: u64,
     /// The address of the first place, a multiple of 8. No place is the word of the tickets.
     pub places: u64,
-    /// So many bytes lie between a place and the next: best a page.
+    /// How many bytes lie between a place and the next: best a page.
     pub apart: u64,
-    /// So many places there are.
+    /// How many places there are.
     pub size: u64,
 }
 

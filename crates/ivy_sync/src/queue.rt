@@ -11,7 +11,7 @@ use ivy_calls::{CallError, SharedMemory, advance_count, alloc, await_, load, sto
 pub struct Queue {
     /// The address of its first word, a multiple of 8.
     pub at: u64,
-    /// So many words it has.
+    /// How many words it has.
     pub size: u64,
     /// The eventcount of what was sent.
     pub sent: u64,

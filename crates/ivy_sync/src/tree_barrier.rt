@@ -19,7 +19,7 @@ pub struct TreeBarrier {
     pub raised: u64,
     /// The address of the word that node 0 opens, a multiple of 8.
     pub opened: u64,
-    /// So many bytes lie between the words of a node and those of the next: best a page.
+    /// How many bytes lie between the words of a node and those of the next: best a page.
     pub apart: u64,
     /// How many nodes meet.
     pub nodes: u8,

@@ -9,20 +9,15 @@
 //! In a comment, numbers in brackets as [1, 17] are the fault numbers that a call may answer.
 #![tactic(auto)]
 
-mod bells;
-mod crew;
 mod gate;
 mod limits;
-mod line;
 mod pulses;
 mod seat;
 mod shared;
 mod traffic;
 mod turns;
-mod watch;
 mod wire;
 
-pub use crew::Crew;
 pub use gate::{Gate, OpenGate, Role, Turnstile};
 pub use limits::Limits;
 pub use pulses::Pulses;
@@ -30,3 +25,4 @@ pub use seat::Seat;
 pub use shared::Shared;
 pub use traffic::Traffic;
 pub use turns::ProgramWorker;
+pub use wire::Crew;

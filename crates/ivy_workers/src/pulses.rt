@@ -7,10 +7,10 @@ const MOST_OWED: u64 = 32;
 /// What a node's workers know of the messages of another node.
 #[derive(Clone, Copy)]
 struct Peer {
-    /// So many had been sent to it when a worker looked last, and so many of its own delivered.
+    /// How many had been sent to it when a worker looked last, and how many of its own were delivered.
     sent: u64,
     delivered: u64,
-    /// So many of these were acknowledged, at least: a frame made to a node says how many of its messages came.
+    /// How many of these were acknowledged, at least: a frame made to a node says how many of its messages came.
     acknowledged: u64,
 }
 

@@ -1,48 +1,46 @@
-//! What the workers of a session tell one another.
+//! What the workers of a session share: how the session stands, whom the frames on the ether are for, and the bells on
+//! which workers sleep.
 ghost use Rattle.std.specs.Prelude.{IfSome, IfErr};
 ghost use Rattle.ivy_workers.specs.Stops.{IsStop};
 
-use crate::bells::Bells;
 use crate::limits::Limits;
-use crate::line::Line;
+use crate::pulses::Pulses;
 use crate::traffic::Traffic;
 use ivy_model::Fault;
 use std::alloc::Allocator;
-use std::sync::atomic::{AtomicBool, Ordering};
+use std::hint::spin_loop;
+use std::sync::atomic::{AtomicBool, AtomicU64, Ordering};
 use std::sync::{Mutex, Wait};
 use std::thread;
 use std::thread::Threads;
+use std::time::Duration;
 
-/// So many turns a round of pulses has at most.
+/// How many turns a round of pulses has at most.
 const MOST_ROUND: u64 = 32_768;
 
-/// So often a worker looks for something to do before it sleeps, where there is a processor for each that may look. What
+/// How often a worker looks for something to do before it sleeps, where there is a processor for each that may look. What
 /// one worker waits for the next one does soon then, and a sleep would cost more. Where there are more of them than
 /// processors a worker that looks takes the processor from one that has something to do.
 const LOOKS: u32 = 8_000;
 
-/// So many places of an ether are kept, if it has twice as many, for the node that the first frame is for. It has to put
+/// How many places of an ether are kept, if it has twice as many, for the node that the first frame is for. It has to put
 /// its frames before it takes.
 const KEPT_PLACES: u64 = 3;
 
-/// So many frames behind the first one are looked at for one that can be taken.
+/// How many frames behind the first one are looked at for one that can be taken.
 const MOST_BEHIND: u64 = 64;
 
 /// Where so few places of the ether are left, whoever waits for one is woken when one may have come.
 const FEW_PLACES: u64 = 8;
 
-/// So many processors a session may use, where that is known.
-fn processors<R: Threads>(rt: &R) -> u64 {
-    match thread::available_parallelism(rt) {
-        Ok(found) => found.get() as u64,
-        Err(_) => 1,
-    }
-}
+/// How often a program worker looks whether the wire worker has the lock that it wants.
+const COURTESY: u32 = 200;
 
-/// So often a worker looks where there are so many such workers, and so many processors for them.
-fn looks_among(workers: u64, processors: u64) -> u32 {
-    if workers <= processors { LOOKS } else { 0 }
-}
+/// The bell of a worker that is up.
+const UP: u64 = 0;
+
+/// The bell of a worker that lies down.
+const LIES: u64 = 1;
 
 /// Why a session ends before its programs do.
 #[derive(Drop)]
@@ -156,17 +154,17 @@ impl<A: Allocator> Shared<A> {
             .min(MOST_ROUND)
     }
 
-    /// So many turns are made on the wire where nobody has woken the wire worker for a while, so that a pulse comes.
+    /// How many turns are made on the wire where nobody has woken the wire worker for a while, so that a pulse comes.
     pub(crate) fn nap_round(&self) -> u64 {
         self.pulse_every.min(MOST_ROUND)
     }
 
-    /// So often a wire worker looks for something to do before it sleeps, at most.
+    /// How often a wire worker looks for something to do before it sleeps, at most.
     pub(crate) fn looks(&self) -> u32 {
         self.looks
     }
 
-    /// So often a program worker that waits looks for something to do before it sleeps, at most.
+    /// How often a program worker that waits looks for something to do before it sleeps, at most.
     pub(crate) fn program_looks(&self) -> u32 {
         self.program_looks
     }
@@ -332,4 +330,273 @@ impl<A: Allocator> Shared<A> {
             Some(stop) => Some(stop.fault),
         }
     }
+}
+
+/// The nodes that the frames on the ether are for, about in the order in which they lie there.
+///
+/// It goes along with the ether: who put a frame adds its node behind the others, and who took one strikes out the
+/// first, each right after the turn. So as many stand here as lie there. Workers may tell of their turns in another
+/// order than they made them: then a worker finds the frame of another node, puts it back and adds that node again,
+/// and line and ether agree once more.
+#[derive(Drop)]
+pub(crate) struct Line<A: Allocator> {
+    capacity: u64,
+    /// How many were added, and how many struck out.
+    added: AtomicU64,
+    struck: AtomicU64,
+    /// The nodes that were added last, each at the place of its number, round.
+    nodes: Vec<AtomicU64, A>,
+}
+
+impl<A: Allocator + Copy> Line<A> {
+    /// No frame is on an ether of so many items, at which so many nodes sit [1].
+    pub(crate) fn new(alloc: A, capacity: u64, nodes: usize) -> Result<Self, Fault>
+        ensures { IfErr result IsStop }
+    {
+        // A worker that took a frame and one that put another may both be late to tell.
+        let most = (capacity as usize).saturating_add(nodes.saturating_mul(2));
+        let mut places = Vec::new(alloc);
+        for _ in 0..most {
+            places.reserve(1)?;
+            places.push_reserved(AtomicU64::new(0));
+        }
+        Ok(Line {
+            capacity,
+            added: AtomicU64::new(0),
+            struck: AtomicU64::new(0),
+            nodes: places,
+        })
+    }
+}
+
+impl<A: Allocator> Line<A> {
+    fn place(&self, number: u64) -> Option<&AtomicU64> {
+        let places = self.nodes.len() as u64;
+        self.nodes.get(number.checked_rem(places)? as usize)
+    }
+
+    /// A frame was put for a node.
+    pub(crate) fn add(&self, node: u8) {
+        let number = self.added.fetch_add(1, Ordering::SeqCst);
+        if let Some(place) = self.place(number) {
+            place.store(u64::from(node), Ordering::SeqCst);
+        }
+    }
+
+    /// The first frame was taken.
+    pub(crate) fn strike_out(&self) {
+        self.struck.fetch_add(1, Ordering::SeqCst);
+    }
+
+    /// How many frames are on the ether.
+    fn length(&self) -> u64 {
+        let struck = self.struck.load(Ordering::SeqCst);
+        self.added.load(Ordering::SeqCst).saturating_sub(struck)
+    }
+
+    /// The node that the frame is for behind so many others.
+    pub(crate) fn behind(&self, others: u64) -> Option<u8> {
+        let number = self.struck.load(Ordering::SeqCst).saturating_add(others);
+        if self.added.load(Ordering::SeqCst) <= number {
+            return None;
+        }
+        let node = self.place(number)?.load(Ordering::SeqCst);
+        Some(node.min(255) as u8)
+    }
+
+    /// The node that the first frame is for.
+    pub(crate) fn first(&self) -> Option<u8> {
+        self.behind(0)
+    }
+
+    /// Whether any frame is on the ether.
+    #[inline(always)]
+    pub(crate) fn has_any(&self) -> bool {
+        self.added.load(Ordering::SeqCst) != self.struck.load(Ordering::SeqCst)
+    }
+
+    /// How often anything was told.
+    pub(crate) fn changes(&self) -> u64 {
+        let struck = self.struck.load(Ordering::SeqCst);
+        struck.wrapping_add(self.added.load(Ordering::SeqCst))
+    }
+
+    /// How many places are left.
+    pub(crate) fn places(&self) -> u64 {
+        self.capacity.saturating_sub(self.length())
+    }
+}
+
+/// What one worker sleeps on: 1 from when it lies down until its bell is rung or it gets up, else 0.
+///
+/// The worker lies down, and then looks whether there is something to do; who gives it something to do rings afterwards.
+/// So it finds that, or is woken.
+pub(crate) type Bell = AtomicU64;
+
+/// What the two workers of a node sleep on, and what the workers of other nodes know of it.
+#[derive(Drop)]
+pub(crate) struct Bells {
+    pub(crate) program: Bell,
+    pub(crate) wire: Bell,
+    /// How many frames the node has served, which its program may have waited for.
+    served: AtomicU64,
+    /// 0 where no frame of the node waits to be put, else one more than the node that the first one is for.
+    waiting: AtomicU64,
+    /// Whether the wire worker waits for the node's site.
+    wanted: AtomicBool,
+    /// Whether the program worker waits, and makes the turns on the wire meanwhile.
+    polled: AtomicBool,
+    /// How many turns on the wire are still to be made while nothing is on the ether, so that pulses are made.
+    round: AtomicU64,
+    /// When the node pulses, and to whom, whichever worker makes its turns on the wire.
+    pub(crate) pulses: Mutex<Pulses>,
+    /// How many turns on the wire were begun.
+    wire_turns: AtomicU64,
+}
+
+impl Bells {
+    /// Nothing was served, and nothing waits. Each so many turns on the wire make a pulse due.
+    pub(crate) fn new(pulse_every: u64) -> Bells {
+        Bells {
+            program: Bell::new(UP),
+            wire: Bell::new(UP),
+            served: AtomicU64::new(0),
+            waiting: AtomicU64::new(0),
+            wanted: AtomicBool::new(false),
+            polled: AtomicBool::new(false),
+            round: AtomicU64::new(0),
+            pulses: Mutex::new(Pulses::new(pulse_every)),
+            wire_turns: AtomicU64::new(0),
+        }
+    }
+
+    /// How many frames the node has served, which its program may have waited for.
+    pub(crate) fn served(&self) -> u64 {
+        self.served.load(Ordering::SeqCst)
+    }
+
+    /// The node has served a frame. Its program worker sees that where it looks, and sleeps on until its bell is rung.
+    pub(crate) fn count_served(&self) {
+        self.served.fetch_add(1, Ordering::SeqCst);
+    }
+
+    /// The node that the first frame is for that waits to be put.
+    pub(crate) fn waiting(&self) -> Option<u8> {
+        match self.waiting.load(Ordering::SeqCst) {
+            0 => None,
+            next => Some((next - 1).min(255) as u8),
+        }
+    }
+
+    /// Says whom the first frame is for that waits to be put, if one does. The node's site is locked. It tells whether
+    /// that is news.
+    pub(crate) fn set_waiting(&self, waiting: Option<u8>) -> bool {
+        let next = match waiting {
+            None => 0,
+            Some(to) => u64::from(to) + 1,
+        };
+        if next == self.waiting.load(Ordering::SeqCst) {
+            return false;
+        }
+        self.waiting.store(next, Ordering::SeqCst);
+        true
+    }
+
+    /// Says whether the wire worker waits for the node's site.
+    pub(crate) fn want(&self, wanted: bool) {
+        self.wanted.store(wanted, Ordering::SeqCst);
+    }
+
+    /// The program worker lets the wire worker lock the site first. A program in a loop of hits would hold it off else.
+    pub(crate) fn let_wire_go(&self) {
+        for _ in 0..COURTESY {
+            if !self.wanted.load(Ordering::SeqCst) {
+                return;
+            }
+            spin_loop();
+        }
+    }
+
+    /// Whether the program worker makes the turns on the wire.
+    pub(crate) fn is_polled(&self) -> bool {
+        self.polled.load(Ordering::SeqCst)
+    }
+
+    /// Says whether the program worker makes the turns on the wire.
+    pub(crate) fn poll(&self, polled: bool) {
+        self.polled.store(polled, Ordering::SeqCst);
+    }
+
+    /// How many turns on the wire are still to be made while nothing is on the ether, so that pulses are made.
+    pub(crate) fn round(&self) -> u64 {
+        self.round.load(Ordering::SeqCst)
+    }
+
+    /// How many of these are to be made at least.
+    pub(crate) fn begin_round(&self, turns: u64) {
+        self.round.fetch_max(turns, Ordering::SeqCst);
+    }
+
+    /// One of these was made, if any is left. The node's site is locked.
+    pub(crate) fn go_round(&self) {
+        if self.round() > 0 {
+            self.round.fetch_sub(1, Ordering::SeqCst);
+        }
+    }
+
+    /// A turn on the wire begins, unless so many were made.
+    pub(crate) fn begin_wire_turn(&self, most: u64) -> bool {
+        self.wire_turns.fetch_add(1, Ordering::SeqCst) < most
+    }
+
+    /// Wakes the worker that makes the turns on the wire.
+    pub(crate) fn ring_wire(&self) {
+        if self.is_polled() {
+            ring(&self.program);
+        } else {
+            ring(&self.wire);
+        }
+    }
+
+    /// Wakes both workers.
+    pub(crate) fn wake(&self) {
+        ring(&self.program);
+        ring(&self.wire);
+    }
+}
+
+/// How many processors a session may use, where that is known.
+fn processors<R: Threads>(rt: &R) -> u64 {
+    match thread::available_parallelism(rt) {
+        Ok(found) => found.get() as u64,
+        Err(_) => 1,
+    }
+}
+
+/// How often a worker looks, by how many such workers there are, and how many processors for them.
+fn looks_among(workers: u64, processors: u64) -> u32 {
+    if workers <= processors { LOOKS } else { 0 }
+}
+
+/// Wakes a worker that lies down.
+pub(crate) fn ring(bell: &Bell) {
+    if bell.load(Ordering::SeqCst) == LIES && bell.swap(UP, Ordering::SeqCst) == LIES {
+        bell.wake_one();
+    }
+}
+
+/// The worker is about to sleep.
+pub(crate) fn lie_down(bell: &Bell) {
+    bell.store(LIES, Ordering::SeqCst);
+}
+
+/// The worker is up. It tells whether the bell was rung since it lay down.
+pub(crate) fn get_up(bell: &Bell) -> bool {
+    bell.swap(UP, Ordering::SeqCst) == UP
+}
+
+/// The worker, which lay down, sleeps until the bell is rung, so many microseconds at most. It tells whether it was.
+pub(crate) fn sleep<R: Wait>(rt: &R, bell: &Bell, most: u64) -> bool {
+    bell.park_timeout(rt, LIES as u32, Duration::from_micros(most));
+    get_up(bell)
 }

@@ -1,26 +1,25 @@
 //! The program worker of a node, whatever makes the turns.
-use crate::bells::ring;
 use crate::gate::{Role, Turnstile};
 use crate::seat::Seat;
-use crate::watch::{Patience, rest_program};
-use crate::wire::Wire;
+use crate::shared::ring;
+use crate::wire::{Patience, Wire, rest_program};
 use std::alloc::Allocator;
 use std::hint::spin_loop;
 use std::sync::{Mutex, MutexGuard, Wait};
 use std::thread::yield_now;
 
-/// So often a worker looks whether the other one of its node has left the site, before it sleeps until then. A turn takes
+/// How often a worker looks whether the other one of its node has left the site, before it sleeps until then. A turn takes
 /// no longer.
 const MOST_LOCK_LOOKS: u32 = 500;
 
-/// So many turns a program worker makes while the same frame lies first on the ether, before it sees to it. The worker that
+/// How many turns a program worker makes while the same frame lies first on the ether, before it sees to it. The worker that
 /// is woken for the frame takes it sooner where it finds a processor.
 const MOST_PASSED: u32 = 64;
 
-/// So many turns on the wire a program worker makes at most before its program goes on.
+/// How many turns on the wire a program worker makes at most before its program goes on.
 const MOST_WIRE_TURNS: u32 = 8;
 
-/// So often a worker looks for a lock, where it looks so often for something to do.
+/// How often a worker looks for a lock, where it looks so often for something to do.
 pub(crate) fn lock_looks(looks: u32) -> u32 {
     MOST_LOCK_LOOKS.min(looks)
 }
@@ -47,14 +46,14 @@ pub(crate) fn lock_soon<'m, T, R: Wait>(
 #[derive(Drop)]
 pub struct ProgramWorker<'r, 's, 'g, 'a, T, A: Allocator, R, G> {
     wire: Wire<'r, 's, 'g, 'a, T, A, R, G>,
-    /// So many turns are left to it.
+    /// How many turns are left to it.
     turns: u64,
-    /// So many frames the node had served before the last turn.
+    /// How many frames the node had served before the last turn.
     served: u64,
     /// Whether it makes the turns on the wire.
     polls: bool,
     patience: Patience,
-    /// So many turns it has made since the frames on the ether were these.
+    /// How many turns it has made since the frames on the ether were these.
     passed: u32,
     changes: u64,
 }

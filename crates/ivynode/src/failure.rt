@@ -7,6 +7,7 @@ ghost use Rattle.ivynode.specs.declared.failure.Failure.TheVariants as failure;
 use crate::misuse::Misuse;
 use ivy_join::Unjoined;
 use ivy_model::Fault;
+use ivy_options::Shown;
 use ivy_process::NoLog;
 use std::alloc::{AllocError, AllocFailed};
 use std::fmt;
@@ -125,10 +126,10 @@ impl fmt::Display for Failure {
         match self {
             Failure::BadCommandLine(why) => write!(f, "bad command line: {why} (see --help)"),
             Failure::BadConfig(limit) => write!(f, "{}: {limit}", Fault::BadConfig),
-            Failure::CannotRead(name) => write!(f, "cannot read {name}"),
-            Failure::NoLog(name, why) => write!(f, "{name}: {why}"),
-            Failure::OtherLog(name, why) => write!(f, "{name}: {why}"),
-            Failure::AtFault(name, fault) => write!(f, "{name}: {fault}"),
+            Failure::CannotRead(name) => write!(f, "cannot read {}", Shown(name.as_str())),
+            Failure::NoLog(name, why) => write!(f, "{}: {why}", Shown(name.as_str())),
+            Failure::OtherLog(name, why) => write!(f, "{}: {why}", Shown(name.as_str())),
+            Failure::AtFault(name, fault) => write!(f, "{}: {fault}", Shown(name.as_str())),
             Failure::Refused(fault) => write!(f, "{fault}"),
             Failure::Stopped(why) => write!(f, "{why}"),
             Failure::Unjoined(why) => write!(f, "{why}"),

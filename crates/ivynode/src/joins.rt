@@ -1,22 +1,112 @@
-//! The joining of logs.
+//! The files that a command line names, and the joining of logs.
 ghost use Rattle.std.specs.Prelude.{◌≡◌, ◌<◌, ◌++◌, length, map, slice_get, IfErr, IfOk, IfSome, OnOk};
 ghost use Rattle.std.specs.List.{All};
 ghost use Rattle.std.specs.Io.KnownBytes.{Appends};
 ghost use Rattle.ivy_simulation.specs.Nodes.{outputs_text};
 ghost use Rattle.ivy_join.specs.Calls.{HaveNoCalls};
-ghost use Rattle.ivynode.specs.Joined.{AreOfNoRun, AreRefused, IsNoRun, IsSpelled, PrintsJoined, PrintsRun, outputs_in, ends_in};
+ghost use Rattle.ivynode.specs.Joined.{AreOfNoRun, AreRefused, AreSpelled, IsNoRun, IsSpelled, PrintsJoined, PrintsRun, outputs_in, ends_in};
 ghost use Rattle.ivynode.specs.OwnJoined.{PrintsOwnJoined, all_answered_in, all_open_in, answered_line, is_whole, open_line};
 
 use crate::failure::Failure;
-use crate::files::{fault_in, programs_of, text_of};
 use ivy_join::{Joined, Unjoined, join, join_own};
 use ivy_logs::{Log, LogKind, count_answers, parse_log};
-use ivy_program::Program;
+use ivy_model::Fault;
+use ivy_program::{Program, parse};
 use ivy_simulation::{Outputs, print_outputs};
 use ivy_texts::{Decimal, print_end};
 use std::alloc::Global;
-use std::io::{self, Write};
+use std::fs;
+use std::io::{self, ErrorKind, Write};
 use std::rt::Files;
+
+/// The nodes of a run at its end.
+#[derive(Drop)]
+struct Nodes<'a>(&'a Joined<Global>);
+
+impl Outputs for Nodes<'_> {
+    ghost use Rattle.std.specs.Prelude.{length};
+    ghost use Rattle.ivynode.specs.Joined.{outputs_in};
+
+    ghost count = { λ n. length n.0.now };
+
+    ghost outputs = { λ n. outputs_in n.0.now };
+
+    fn nodes(&self) -> u64 {
+        self.0.nodes()
+    }
+
+    fn output(&self, node: u64) -> &[u64] {
+        self.0.output(node)
+    }
+}
+
+fn cannot_read(alloc: Global, name: &str) -> Failure
+    ensures { IsNoRun result → ⊥ }
+{
+    match String::from_str(alloc, name) {
+        Ok(name) => Failure::CannotRead(name),
+        Err(_) => Failure::Refused(Fault::Memory),
+    }
+}
+
+/// A fault of the text of a file.
+pub(crate) fn fault_in(alloc: Global, name: &str, fault: Fault) -> Failure
+    ensures { IsNoRun result → ⊥ }
+{
+    if fault == Fault::Memory {
+        return Failure::Refused(fault);
+    }
+    match String::from_str(alloc, name) {
+        Ok(name) => Failure::AtFault(name, fault),
+        Err(_) => Failure::Refused(Fault::Memory),
+    }
+}
+
+fn refused(alloc: Global, name: &str, error: &io::Error) -> Failure
+    ensures { IsNoRun result → ⊥ }
+{
+    match error.kind() {
+        ErrorKind::OutOfMemory => Failure::Refused(Fault::Memory),
+        _ => cannot_read(alloc, name),
+    }
+}
+
+/// The text of a file.
+pub(crate) fn text_of<R: Files + AllocGlobal>(rt: &R, name: &str) -> Result<String, Failure>
+    ensures { IfErr result (λ why. IsNoRun why → ⊥) }
+{
+    match fs::read_to_string(rt, name) {
+        Ok(text) => Ok(text),
+        Err(error) => Err(refused(rt.alloc(), name, &error)),
+    }
+}
+
+/// The programs of the text of a file.
+pub(crate) fn programs_in(
+    alloc: Global,
+    name: &str,
+    text: &str,
+) -> Result<Vec<Program<Global>>, Failure>
+    ensures spelled { IfOk result (λ programs. AreSpelled programs.items) }
+    ensures other { IfErr result (λ why. IsNoRun why → ⊥) }
+{
+    match parse(alloc, text) {
+        Ok(programs) => Ok(programs),
+        Err(fault) => Err(fault_in(alloc, name, fault)),
+    }
+}
+
+/// The programs of a file.
+pub(crate) fn programs_of<R: Files + AllocGlobal>(
+    rt: &R,
+    name: &str,
+) -> Result<Vec<Program<Global>>, Failure>
+    ensures spelled { IfOk result (λ programs. AreSpelled programs.items) }
+    ensures other { IfErr result (λ why. IsNoRun why → ⊥) }
+{
+    let text = text_of(rt, name)?;
+    programs_in(rt.alloc(), name, text.as_str())
+}
 
 /// The log of this kind of this text, which is that of a file.
 fn log_of(alloc: Global, kind: LogKind, name: &str, text: &str) -> Result<Log<Global>, Failure>
@@ -45,27 +135,6 @@ fn logs_of<R: Files + AllocGlobal>(
     }
     logs.sort_by_key(|log| log.head.me)?;
     Ok(logs)
-}
-
-/// The nodes of a run at its end.
-#[derive(Drop)]
-struct Nodes<'a>(&'a Joined<Global>);
-
-impl Outputs for Nodes<'_> {
-    ghost use Rattle.std.specs.Prelude.{length};
-    ghost use Rattle.ivynode.specs.Joined.{outputs_in};
-
-    ghost count = { λ n. length n.0.now };
-
-    ghost outputs = { λ n. outputs_in n.0.now };
-
-    fn nodes(&self) -> u64 {
-        self.0.nodes()
-    }
-
-    fn output(&self, node: u64) -> &[u64] {
-        self.0.output(node)
-    }
 }
 
 /// Prints which programs have ended.

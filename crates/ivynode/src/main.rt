@@ -7,14 +7,12 @@ ghost use Rattle.ivynode.specs.OwnJoined.{PrintsOwnJoined};
 ghost use Rattle.ivynode.specs.Requests.{AsksToJoin, AsksToJoinOwn, IsJoin, IsJoinOwn};
 
 mod failure;
-mod files;
 mod joins;
 mod lines;
 mod misuse;
 mod node_process;
 mod request;
 mod standing;
-mod words;
 
 use failure::Failure;
 use joins::{join_files, join_own_files};
@@ -67,6 +65,7 @@ fn carry_out<R, O, E>(
     stdin: Stdin,
     out: &mut O,
     err: &mut E,
+    told: &mut E,
 ) -> Result<u8, Failure>
 where
     R: Files<File = File> + Clock + AllocGlobal + Threads + Wait + Copy + Send + 'static,
@@ -77,7 +76,7 @@ where
 {
     match request {
         Request::Help(help) => tell(help, out).and(Ok(0)),
-        Request::Run(asked) => run(rt, &asked, stdin, out, err),
+        Request::Run(asked) => run(rt, &asked, stdin, out, err, told),
         Request::Router { harm, seed } => run_router(rt, harm, seed, stdin, out).and(Ok(0)),
         Request::Join { file, logs } => join_files(&rt, file, &logs, out).and(Ok(0)),
         Request::JoinOwn { logs } => join_own_files(&rt, &logs, out).and(Ok(0)),
@@ -91,6 +90,7 @@ fn obey<R, O, E>(
     stdin: Stdin,
     out: &mut O,
     err: &mut E,
+    told: &mut E,
 ) -> Result<u8, Failure>
 where
     R: Files<File = File> + Clock + AllocGlobal + Threads + Wait + Copy + Send + 'static,
@@ -100,7 +100,7 @@ where
     ensures own { AsksToJoinOwn (map (λ w. string_bytes w) words.now) → MatchResult result (λ status. PrintsOwnJoined (O.contents out.old) (O.contents out.new)) (λ _. Unit {0}) }
 {
     let request = read(rt.alloc(), words)?;
-    carry_out(rt, request, stdin, out, err)
+    carry_out(rt, request, stdin, out, err, told)
 }
 
 /// The exit status of a command that ended so, where standard output then took all of it or not. Standard error is told
@@ -123,7 +123,14 @@ fn concluded<E: Write>(done: Result<u8, Failure>, flushed: io::Result<()>, err: 
 /// is what the programs printed in it, and which of them have ended there; of logs of own code, how many calls of each node
 /// were answered in it, and which nodes have a call in progress there, or lack an answer in their log. Where that is 3 and
 /// the command was to join logs of programs, they are the parts of no run of them.
-fn perform<R, O, E>(rt: R, words: &[String], stdin: Stdin, out: &mut O, err: &mut E) -> u8
+fn perform<R, O, E>(
+    rt: R,
+    words: &[String],
+    stdin: Stdin,
+    out: &mut O,
+    err: &mut E,
+    told: &mut E,
+) -> u8
 where
     R: Files<File = File> + Clock + AllocGlobal + Threads + Wait + Copy + Send + 'static,
     O: Write,
@@ -132,13 +139,13 @@ where
     ensures refused { AsksToJoin (map (λ w. string_bytes w) words.now) → result ≡ 3 → AreRefused }
     ensures own { AsksToJoinOwn (map (λ w. string_bytes w) words.now) → result ≡ 0 → PrintsOwnJoined (O.contents out.old) (O.contents out.new) }
 {
-    let done = obey(rt, words, stdin, out, err);
+    let done = obey(rt, words, stdin, out, err, told);
     let flushed = out.flush();
     concluded(done, flushed, err)
 }
 
 /// Carries out the command. Err only where memory is short before it begins, or a word is not UTF-8.
-fn performed<R, O, E>(rt: R, stdin: Stdin, out: O, err: &mut E) -> io::Result<u8>
+fn performed<R, O, E>(rt: R, stdin: Stdin, out: O, err: &mut E, told: &mut E) -> io::Result<u8>
 where
     R: Env + Files<File = File> + Clock + AllocGlobal + Threads + Wait + Copy + Send + 'static,
     O: Write + Drop,
@@ -146,13 +153,14 @@ where
 {
     let words: Vec<String> = env::args(&rt)?.collect(rt.alloc())?;
     let mut out = BufWriter::new(rt.alloc(), out)?;
-    Ok(perform(rt, &words, stdin, &mut out, err))
+    Ok(perform(rt, &words, stdin, &mut out, err, told))
 }
 
 fn main(rt: HostRuntime) -> ExitCode {
     let mut err = rt.stderr();
+    let mut told = rt.stderr();
     let out = LineByLine { out: rt.stdout() };
-    let status = match performed(rt, rt.stdin(), out, &mut err) {
+    let status = match performed(rt, rt.stdin(), out, &mut err, &mut told) {
         Ok(status) => status,
         Err(error) => Failure::from(error).report(&mut err),
     };

@@ -1,5 +1,6 @@
 //! Why the words of a command line ask for nothing.
 
+use ivy_options::Shown;
 use std::alloc::{AllocError, AllocFailed, Global};
 use std::fmt;
 
@@ -32,27 +33,11 @@ impl Misuse {
     }
 }
 
-/// Writes a word of a command line. Control characters are shown, and not sent to a terminal.
-fn write_shown<W: fmt::Write>(word: &str, f: &mut fmt::Formatter<W>) -> fmt::Result {
-    for letter in word.chars() {
-        if letter.is_control() {
-            write!(f, "\\u{{{:x}}}", u32::from(letter))?;
-        } else {
-            write!(f, "{letter}")?;
-        }
-    }
-    Ok(())
-}
-
 impl fmt::Display for Misuse {
     fn fmt<W: fmt::Write>(&self, f: &mut fmt::Formatter<W>) -> fmt::Result {
         match self {
             Misuse::Words(why) => f.write_str(why),
-            Misuse::NoSuch(what, word) => {
-                f.write_str("`")?;
-                write_shown(word.as_str(), f)?;
-                write!(f, "` is no {what}")
-            }
+            Misuse::NoSuch(what, word) => write!(f, "`{}` is no {what}", Shown(word.as_str())),
             Misuse::Option(name, why) => write!(f, "`{name}` {why}"),
             Misuse::Number { name, least, most } => {
                 write!(f, "`{name}` is a number from {least} to {most}")

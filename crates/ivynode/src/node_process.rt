@@ -3,16 +3,17 @@ ghost use Rattle.std.specs.Prelude.{◌<◌, IfOk};
 ghost use Rattle.ivy_model.specs.stated.Config.{IsConfig};
 
 use crate::failure::{Failure, Limit, OtherLog};
-use crate::files::{Log, fault_in, log_of, other_log, programs_in, text_of};
+use crate::joins::{fault_in, programs_in, text_of};
 use crate::misuse::Misuse;
 use crate::request::Asked;
-use crate::standing::{Standing, UNKNOWN, stand};
+use crate::standing::{Calls, Standing};
 use ivy_explain::Listing;
 use ivy_logs::{Log as OldLog, LogKind, parse_log, sum_of_run};
 use ivy_model::{Call, Config, LEAST_NODES, LEAST_PAGES, MOST_NODES, MOST_PAGES};
 use ivy_moves::Keep;
 use ivy_process::{
-    Clockwork, Ending, Harm, Mail, Node, Router, Streams, Untaken, inbox_of, route, serve,
+    Clockwork, Ending, Harm, LogFile, Mail, Node, Router, Streams, Untaken, inbox_of, open_log,
+    route, serve_watched,
 };
 use ivy_program::Program;
 use ivy_site::Site;
@@ -33,7 +34,7 @@ const MISUSED: u8 = 2;
 /// A line of a frame has so many bytes at most beside two for each byte of the page: its header, the number of its node.
 const LINE_BYTES: usize = 256;
 
-/// So many bytes a line of the router has at most.
+/// How many bytes a line of the router has at most.
 const ROUTER_BYTES: usize = 16_384;
 
 /// The clock of a runtime.
@@ -51,6 +52,53 @@ impl<R: Clock> Clockwork for RuntimeClock<R> {
                 .saturating_add(u64::from(time.subsec_millis())),
             Err(_) => 0,
         }
+    }
+}
+
+/// A log on the way to its file, or none.
+#[derive(Drop)]
+enum Log {
+    /// Nothing is written.
+    Nowhere,
+    File(LogFile),
+}
+
+impl Write for Log {
+    fn write(&mut self, bytes: &[u8]) -> io::Result<usize> {
+        match self {
+            Log::Nowhere => Ok(bytes.len()),
+            Log::File(file) => file.write(bytes),
+        }
+    }
+
+    fn flush(&mut self) -> io::Result<()> {
+        match self {
+            Log::Nowhere => Ok(()),
+            Log::File(file) => file.flush(),
+        }
+    }
+}
+
+/// A log of this name that is another one than the node's.
+fn other_log(alloc: Global, name: &str, why: OtherLog) -> Failure {
+    match String::from_str(alloc, name) {
+        Ok(name) => Failure::OtherLog(name, why),
+        Err(_) => Failure::Refused(Fault::Memory),
+    }
+}
+
+/// Opens the log of this name, and gives its text as it was found.
+fn log_of<R: Files<File = File> + AllocGlobal>(
+    rt: &R,
+    name: &str,
+    is_synced: bool,
+) -> Result<(Log, String), Failure> {
+    match open_log(rt, rt.alloc(), name, is_synced) {
+        Ok((file, text)) => Ok((Log::File(file), text)),
+        Err(why) => match String::from_str(rt.alloc(), name) {
+            Ok(name) => Err(Failure::NoLog(name, why)),
+            Err(_) => Err(Failure::Refused(Fault::Memory)),
+        },
     }
 }
 
@@ -100,12 +148,36 @@ fn other_in(old: &OldLog<Global>, config: &Config, me: u8, sum: u64) -> Option<O
     None
 }
 
+/// The log of the node as it was found, if it has a line. It has to be this node's.
+fn past_of(
+    alloc: Global,
+    asked: &Asked<'_>,
+    part: &Part,
+    text: &str,
+) -> Result<Option<OldLog<Global>>, Failure> {
+    let Some(name) = asked.log else {
+        return Ok(None);
+    };
+    if !text.contains('\n') {
+        return Ok(None);
+    }
+    let old = match parse_log(alloc, LogKind::OfProgram, text) {
+        Ok(old) => old,
+        Err(fault) => return Err(fault_in(alloc, name, fault)),
+    };
+    let me = node_number(&part.config, asked.node)?;
+    match other_in(&old, &part.config, me, part.sum) {
+        Some(why) => Err(other_log(alloc, name, why)),
+        None => Ok(Some(old)),
+    }
+}
+
 /// The node as it was when its log ended; where the log has no line, at its beginning, and its log is begun.
 fn node_of(
     alloc: Global,
     asked: &Asked<'_>,
     part: Part,
-    text: &str,
+    past: Option<&OldLog<Global>>,
     log: &mut Log,
 ) -> Result<Node, Failure>
     requires limits { IsConfig part.config }
@@ -116,22 +188,16 @@ fn node_of(
         program,
     } = part;
     let me = node_number(&config, asked.node)?;
-    let Some(name) = asked.log else {
-        return Ok(Node::start(alloc, &config, me, program, asked.limits)?);
+    let mut node = match past {
+        Some(past) => Node::restart(alloc, &config, me, program, asked.limits, past)?,
+        None => {
+            let node = Node::start(alloc, &config, me, program, asked.limits)?;
+            node.begin_log_of_run(sum, log)?;
+            node
+        }
     };
-    if !text.contains('\n') {
-        let node = Node::start(alloc, &config, me, program, asked.limits)?;
-        node.begin_log_of_run(sum, log)?;
-        return Ok(node);
-    }
-    let old = match parse_log(alloc, LogKind::OfProgram, text) {
-        Ok(old) => old,
-        Err(fault) => return Err(fault_in(alloc, name, fault)),
-    };
-    if let Some(why) = other_in(&old, &config, me, sum) {
-        return Err(other_log(alloc, name, why));
-    }
-    Ok(Node::restart(alloc, &config, me, program, asked.limits, &old)?)
+    node.tell_sum(sum);
+    Ok(node)
 }
 
 /// Tells of what the node did not take. The status tells nothing of it, since no line ends a node.
@@ -162,63 +228,19 @@ fn print_waiting<E: Write>(node: &Node, standing: Standing, err: &mut E) -> io::
     }
 }
 
-/// Tells how many calls of the program were refused, where no log says which.
-fn tell_refused<E: Write>(refused: u64, err: &mut E) {
-    if refused > 0 {
-        // The status tells nothing of it.
-        let _ = writeln!(err, "calls that were refused: {refused}");
-    }
-}
-
-/// Where the program of a node is, by its log; and tells which of its calls were refused.
-fn stand_by_log<R: Files + AllocGlobal, E: Write>(
-    rt: &R,
+/// The node at its beginning.
+fn first_site(
+    alloc: Global,
     asked: &Asked<'_>,
-    log: &str,
-    begun: &Begun,
-    err: &mut E,
-) -> Result<Standing, Failure>
-    requires { IsConfig begun.now.config }
+    config: &Config,
+    text: &str,
+) -> Result<Site<Global>, Failure>
+    requires { IsConfig config.now }
 {
-    let alloc = rt.alloc();
-    let text = text_of(rt, log)?;
-    let events = match parse_log(alloc, LogKind::OfProgram, text.as_str()) {
-        Ok(events) => events,
-        Err(fault) => return Err(fault_in(alloc, log, fault)),
-    };
-    let listing = Listing::of(alloc, begun.text.as_str())?;
-    let programs = programs_in(alloc, asked.file, begun.text.as_str())?;
+    let programs = programs_in(alloc, asked.file, text)?;
     let program = program_of(programs, asked.node)?;
-    let me = node_number(&begun.config, asked.node)?;
-    let site = Site::keeping(alloc, &begun.config, me, program, Keep::Nothing)?;
-    Ok(stand(alloc, &listing, site, &events.entries, err))
-}
-
-/// Tells what became of the calls of a node whose input has ended: which were refused, and which one waits.
-fn tell_calls<R: Files + AllocGlobal, E: Write>(
-    rt: &R,
-    asked: &Asked<'_>,
-    begun: &Begun,
-    node: &Node,
-    ending: Ending,
-    err: &mut E,
-)
-    requires { IsConfig begun.now.config }
-{
-    if ending == Ending::Ended && node.refused() == 0 {
-        return;
-    }
-    let standing = match asked.log {
-        Some(log) => stand_by_log(rt, asked, log, begun, err).unwrap_or(UNKNOWN),
-        None => {
-            tell_refused(node.refused(), err);
-            UNKNOWN
-        }
-    };
-    if ending == Ending::Waits {
-        // The status tells that it waits, where standard error takes nothing.
-        let _ = print_waiting(node, standing, err);
-    }
+    let me = node_number(config, asked.node)?;
+    Ok(Site::keeping(alloc, config, me, program, Keep::Nothing)?)
 }
 
 /// The configuration that is asked for, of so many nodes. The failure names the limit that it is out of.
@@ -253,19 +275,11 @@ fn part_of(alloc: Global, asked: &Asked<'_>, text: &str) -> Result<Part, Failure
     })
 }
 
-/// So many bytes a line has at most that a node hears.
+/// How many bytes a line has at most that a node hears.
 fn line_bytes(config: &Config) -> usize {
     (config.page_size as usize)
         .saturating_mul(2)
         .saturating_add(LINE_BYTES)
-}
-
-/// What a node was begun with.
-#[derive(Drop)]
-struct Begun {
-    config: Config,
-    /// The text of its file.
-    text: String,
 }
 
 /// A node that is ready to serve.
@@ -273,83 +287,101 @@ struct Begun {
 struct Opened {
     node: Node,
     log: Log,
-    begun: Begun,
+    /// Its log as it was found, if it had a line.
+    past: Option<OldLog<Global>>,
+    config: Config,
+    /// The text of its file.
+    text: String,
 }
 
 /// The node with its log.
 fn open<R: Files<File = File> + AllocGlobal>(rt: &R, asked: &Asked<'_>) -> Result<Opened, Failure>
-    ensures { IfOk result (λ opened. IsConfig opened.begun.config) }
+    ensures { IfOk result (λ opened. IsConfig opened.config) }
 {
     let file = text_of(rt, asked.file)?;
     let part = part_of(rt.alloc(), asked, file.as_str())?;
-    let (sum, config) = (part.sum, part.config);
+    let config = part.config;
     let (mut log, text) = match asked.log {
         Some(name) => log_of(rt, name, asked.is_synced)?,
         None => (Log::Nowhere, String::new(rt.alloc())),
     };
-    let mut node = node_of(rt.alloc(), asked, part, text.as_str(), &mut log)?;
-    node.tell_sum(sum);
+    let past = past_of(rt.alloc(), asked, &part, text.as_str())?;
     Ok(Opened {
-        node,
+        node: node_of(rt.alloc(), asked, part, past.as_ref(), &mut log)?,
         log,
-        begun: Begun { config, text: file },
+        past,
+        config,
+        text: file,
     })
 }
 
 /// Serves until the input ends. The status is 3 where the program waits then, and 2 where another node runs something else.
-fn serve_all<R, O, E>(
+fn serve_all<R, O, E, T>(
     rt: R,
-    asked: &Asked<'_>,
-    begun: &Begun,
+    calls: &mut Calls<'_, T>,
     node: &mut Node,
     streams: &mut Streams<'_, Mail, Log, O, E>,
 ) -> Result<u8, Failure>
 where
-    R: Files + AllocGlobal + Clock + Wait + Copy,
+    R: Clock + Wait + Copy,
     O: Write,
     E: Write,
-    requires { IsConfig begun.now.config }
+    T: Write,
 {
     let clock = RuntimeClock { rt };
-    let ending = serve(&rt, &clock, node, streams)?;
+    let served = serve_watched(&rt, &clock, node, streams, calls);
     let told = node.told();
     tell_of(told, &mut streams.err);
-    if told.others > 0 {
-        return Ok(MISUSED);
+    calls.sum_up();
+    let ending = served?;
+    if ending == Ending::Waits {
+        // The status tells that it waits, where standard error takes nothing.
+        let _ = print_waiting(node, calls.standing(node), &mut streams.err);
     }
-    tell_calls(&rt, asked, begun, node, ending, &mut streams.err);
     match ending {
+        _ if told.others > 0 => Ok(MISUSED),
         Ending::Ended => Ok(0),
         Ending::Waits => Ok(WAITING),
     }
 }
 
-/// Runs one node until its input ends. The status is 3 where its program waits then.
+/// Runs one node until its input ends. The status is 3 where its program waits then. `told` leads to standard error as `err`
+/// does, and is told of calls that are refused.
 pub(crate) fn run<R, O, E>(
     rt: R,
     asked: &Asked<'_>,
     stdin: Stdin,
     out: &mut O,
     err: &mut E,
+    told: &mut E,
 ) -> Result<u8, Failure>
 where
     R: Files<File = File> + Clock + AllocGlobal + Threads + Wait + Copy + Send + 'static,
     O: Write,
     E: Write,
 {
+    let alloc = rt.alloc();
     let Opened {
         mut node,
         log,
-        begun,
+        past,
+        config,
+        text,
     } = open(&rt, asked)?;
-    let inbox = inbox_of(rt, rt.alloc(), stdin, line_bytes(&begun.config))?;
+    let listing = Listing::of(alloc, text.as_str())?;
+    let mut calls = Calls::new(alloc, &listing, node.me(), told);
+    if let Some(past) = past {
+        let site = first_site(alloc, asked, &config, text.as_str())?;
+        calls.go_through(site, &past.entries);
+    }
+    let inbox = inbox_of(rt, alloc, stdin, line_bytes(&config))?;
     let mut streams = Streams {
         inbox: &*inbox,
         log,
         out,
         err,
     };
-    serve_all(rt, asked, &begun, &mut node, &mut streams)
+    serve_all(rt, &mut calls, &mut node, &mut streams)
 }
 
 /// Hands the lines of standard input on until it ends.

@@ -1,10 +1,11 @@
-//! Where the program of a node is, and which of its calls were refused, by its log.
+//! Where the program of a node is, and which of its calls are refused.
 
 use ivy_explain::{Listing, Place, Printed, Refusal, Walk};
 use ivy_join::make;
 use ivy_logs::LogEntry;
 use ivy_model::{Call, Record, Reply};
 use ivy_moves::Event;
+use ivy_process::{CallWatch, Node};
 use ivy_site::Site;
 use ivy_wire::Bytes;
 use std::alloc::Global;
@@ -19,21 +20,14 @@ pub(crate) struct Standing {
     pub(crate) seen: Option<u64>,
 }
 
-/// Nothing is known.
-pub(crate) const UNKNOWN: Standing = Standing {
-    line: None,
-    seen: None,
-};
-
-/// A node that is made again from its log, beside its program.
+/// The program of a node, gone through by the answers to its calls. Those that are refused are told, each line of the
+/// program once, as they come.
 #[derive(Drop)]
-struct Again<'a, E> {
+pub(crate) struct Calls<'a, E> {
     listing: &'a Listing,
     me: u8,
-    site: Site<Global>,
-    walk: Walk<'a>,
-    /// So many of its answers were gone through.
-    records: u64,
+    /// Where the program is, if that is known.
+    walk: Option<Walk<'a>>,
     /// The count that the program asked for last, and what it was.
     seen: Option<(u64, u64)>,
     told: Printed<'a, E>,
@@ -59,19 +53,95 @@ fn drop_frames(site: &mut Site<Global>) {
     }
 }
 
-impl<E: Write> Again<'_, E> {
+impl<'a, E: Write> Calls<'a, E> {
+    /// None was answered yet.
+    pub(crate) fn new(alloc: Global, listing: &'a Listing, me: u8, err: &'a mut E) -> Self {
+        let walk = match listing.programs.get(usize::from(me)) {
+            Some(program) => Some(Walk::new(program)),
+            None => None,
+        };
+        Calls {
+            listing,
+            me,
+            walk,
+            seen: None,
+            told: Printed::new(alloc, err),
+        }
+    }
+
     /// The line at which the program makes its next call.
     fn line(&mut self) -> Option<usize> {
-        match self.walk.next() {
+        match self.walk.as_mut()?.next() {
             Place::Call(place) => self.listing.lines.get(u64::from(self.me), place),
             _ => None,
         }
     }
 
-    /// The program was answered so.
+    /// Makes one event again. It says whether that was done.
+    fn step(&mut self, site: &mut Site<Global>, event: &Event<Bytes<Global>>) -> bool {
+        let records = site.records();
+        let made = make(site, event).unwrap_or(false);
+        drop_frames(site);
+        if site.records() != records {
+            if let Some(record) = site.last_record() {
+                self.note(&record);
+            }
+        }
+        made
+    }
+
+    /// Makes an event again, turn for turn. It says whether that was done.
+    fn make_again(&mut self, site: &mut Site<Global>, event: &Event<Bytes<Global>>) -> bool {
+        let Event::Turns(count) = event else {
+            return self.step(site, event);
+        };
+        for _ in 0..*count {
+            if !self.step(site, &Event::Turns(1)) {
+                return false;
+            }
+        }
+        true
+    }
+
+    /// Goes through the entries of the node's log, of which `site` is the node at its beginning. Where they lead to nothing,
+    /// it is not known where the program is.
+    pub(crate) fn go_through(&mut self, site: Site<Global>, entries: &[LogEntry<Bytes<Global>>]) {
+        let mut site = site;
+        for entry in entries {
+            if let LogEntry::Did(event) = entry {
+                if !self.make_again(&mut site, event) {
+                    self.walk = None;
+                    return;
+                }
+            }
+        }
+    }
+
+    /// Where the program of the node is now.
+    pub(crate) fn standing(&mut self, node: &Node) -> Standing {
+        let seen = match (node.asked(), self.seen) {
+            (Some(Call::Await { k, .. }), Some((other, value))) if k == other => Some(value),
+            _ => None,
+        };
+        Standing {
+            line: self.line(),
+            seen,
+        }
+    }
+
+    /// Tells how many calls were refused.
+    pub(crate) fn sum_up(&mut self) {
+        // The status tells nothing of it.
+        let _ = self.told.sum_up();
+    }
+}
+
+impl<E: Write> CallWatch for Calls<'_, E> {
     fn note(&mut self, record: &Record) {
         let line = self.line();
-        self.walk.answer(record);
+        if let Some(walk) = &mut self.walk {
+            walk.answer(record);
+        }
         if let Some(seen) = count_in(record) {
             self.seen = Some(seen);
         }
@@ -85,85 +155,4 @@ impl<E: Write> Again<'_, E> {
             });
         }
     }
-
-    /// Makes one event again. It says whether that was done.
-    fn step(&mut self, event: &Event<Bytes<Global>>) -> bool {
-        let made = make(&mut self.site, event).unwrap_or(false);
-        drop_frames(&mut self.site);
-        let records = self.site.records();
-        if records != self.records {
-            self.records = records;
-            if let Some(record) = self.site.last_record() {
-                self.note(&record);
-            }
-        }
-        made
-    }
-
-    /// Makes an event again, turn for turn. It says whether that was done.
-    fn go_on(&mut self, event: &Event<Bytes<Global>>) -> bool {
-        let Event::Turns(count) = event else {
-            return self.step(event);
-        };
-        for _ in 0..*count {
-            if !self.step(&Event::Turns(1)) {
-                return false;
-            }
-        }
-        true
-    }
-
-    /// Makes the events of a log again. It says whether that was done.
-    fn go_through(&mut self, entries: &[LogEntry<Bytes<Global>>]) -> bool {
-        for entry in entries {
-            if let LogEntry::Did(event) = entry {
-                if !self.go_on(event) {
-                    return false;
-                }
-            }
-        }
-        true
-    }
-
-    /// Where the program is now.
-    fn standing(&mut self) -> Standing {
-        let seen = match (self.site.asked(), self.seen) {
-            (Some(Call::Await { k, .. }), Some((other, value))) if k == other => Some(value),
-            _ => None,
-        };
-        Standing {
-            line: self.line(),
-            seen,
-        }
-    }
-}
-
-/// Where the program of a node is, by the entries of its log, of which `site` is the node at its beginning. Its calls that
-/// were refused are told, each line of the program once. Where the log leads to nothing, nothing is known.
-pub(crate) fn stand<E: Write>(
-    alloc: Global,
-    listing: &Listing,
-    site: Site<Global>,
-    entries: &[LogEntry<Bytes<Global>>],
-    err: &mut E,
-) -> Standing {
-    let me = site.me();
-    let Some(program) = listing.programs.get(usize::from(me)) else {
-        return UNKNOWN;
-    };
-    let mut again = Again {
-        listing,
-        me,
-        site,
-        walk: Walk::new(program),
-        records: 0,
-        seen: None,
-        told: Printed::new(alloc, err),
-    };
-    if !again.go_through(entries) {
-        return UNKNOWN;
-    }
-    // The status tells of nothing that was refused.
-    let _ = again.told.sum_up();
-    again.standing()
 }

@@ -73,7 +73,7 @@ enum Step {
     /// The answer that is there, left there or taken out.
     Shows(Option<Out>),
     Returns(Option<Out>),
-    /// So many messages were posted.
+    /// How many messages were posted.
     Posted(usize),
     Breaches(u64),
 }

@@ -30,8 +30,6 @@ mod heap;
 #[cfg(test)]
 mod held;
 #[cfg(test)]
-mod host;
-#[cfg(test)]
 mod letters;
 #[cfg(test)]
 mod link;
@@ -41,6 +39,8 @@ mod managers;
 mod memory;
 #[cfg(test)]
 mod model;
+#[cfg(test)]
+mod node_manager;
 #[cfg(test)]
 mod pagetable;
 #[cfg(test)]

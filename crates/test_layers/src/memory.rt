@@ -60,11 +60,11 @@ pub(crate) enum Step {
     Refuses(u8, Letter),
     /// Whether its messages are refused from now on.
     IsFull(bool),
-    /// So many messages were posted.
+    /// How many messages were posted.
     Posted(usize),
     /// The call in progress.
     Asked(Option<Call>),
-    /// So many messages that came fitted no rule.
+    /// How many messages that came fitted no rule.
     Breaches(u64),
 }
 

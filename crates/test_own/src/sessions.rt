@@ -8,4 +8,5 @@ mod programs;
 mod refusals;
 mod resting;
 mod rows;
+mod standing;
 mod wide;

@@ -3,8 +3,10 @@
 //!
 //! The strings are those of the frames that docs/PROTOCOL.md spells, written by hand.
 
+mod calls;
 mod common;
 mod joins;
 mod lines;
 mod serves;
+mod sums;
 mod works;

@@ -16,11 +16,11 @@ use std::thread::Threads;
 /// The last of the seeds, of which the first is 1.
 const LAST: u64 = 20;
 
-/// So many moves are drawn for each seed; and so many where the world then does not come to its end. The moves that let
+/// How many moves are drawn for each seed; and how many where the world then does not come to its end. The moves that let
 /// it settle are always the same, and under hints a node can be sent round by them for ever while the others spin.
 const MOVES: [u64; 2] = [500, 50_000];
 
-/// So many moves let each of these programs come to its end.
+/// How many moves let each of these programs come to its end.
 const ENOUGH: u64 = 1_000_000;
 
 /// The barrier of so many nodes at eventcount 0.

@@ -12,10 +12,10 @@ use test_support::programs;
 /// The last of the seeds, of which the first is 1.
 const LAST: u64 = 50;
 
-/// So many moves are drawn for each seed.
+/// How many moves are drawn for each seed.
 const MOVES: u64 = 400;
 
-/// So many moves let each of these programs come to its end.
+/// How many moves let each of these programs come to its end.
 const ENOUGH: u64 = 100_000;
 
 /// A program whose runs are looked at.

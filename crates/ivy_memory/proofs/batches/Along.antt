@@ -20,8 +20,8 @@ use Rattle.ivy_coherence.specs.stated.PageFaults.{Begun, along, started, begun}
 use Rattle.ivy_coherence.specs.stated.Sound.{Waits, WaitAlong, IsSound}
 use Rattle.ivy_coherence.proofs.keeping.Changing.{entry_with}
 use Rattle.ivy_coherence.proofs.keeping.EventTable.{AccessRows, begun-by_rows}
-use Rattle.ivy_memory.specs.declared.asked.Asked.{Asked}
-use Rattle.ivy_memory.specs.declared.asked.Asked.TheVariants as asked
+use Rattle.ivy_memory.specs.declared.memory.Asked.{Asked}
+use Rattle.ivy_memory.specs.declared.memory.Asked.TheVariants as asked
 use Rattle.ivy_memory.specs.Asking.{CanAsk}
 use Rattle.ivy_memory.specs.stated.Asking.{asked_of}
 use Rattle.ivy_memory.specs.stated.Beside.{Beside, nothing_beside, gives_reply, goes_along, word_along, beside_with, all_beside, beside}

@@ -25,8 +25,8 @@ use Rattle.ivy_coherence.specs.Hits.{AreHits}
 use Rattle.ivy_coherence.proofs.keeping.Same.{begun-same}
 use Rattle.ivy_alloc.specs.stated.HeapCalls.{HeapSide}
 use Rattle.ivy_alloc.specs.declared.CallProgress.TheVariants.{Given}
-use Rattle.ivy_memory.specs.declared.asked.Asked.TheVariants as asked
-use Rattle.ivy_memory.specs.declared.asked.RowPlace.{RowPlace}
+use Rattle.ivy_memory.specs.declared.memory.Asked.TheVariants as asked
+use Rattle.ivy_memory.specs.declared.memory.RowPlace.{RowPlace}
 use Rattle.ivy_memory.specs.stated.Asking.{asked_of, word_unless}
 use Rattle.ivy_memory.specs.AtOnce.{AnswerAtOnce, IsRowAt}
 use Rattle.ivy_memory.specs.stated.Beside.{nothing_beside}

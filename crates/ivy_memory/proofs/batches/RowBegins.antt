@@ -25,9 +25,9 @@ use Rattle.ivy_coherence.specs.EventLimits.{most_posted}
 use Rattle.ivy_coherence.specs.Rests.{first_word, other_words, row_words}
 use Rattle.ivy_coherence.proofs.batches.Hits.{Lacks, lacks}
 use Rattle.ivy_alloc.specs.declared.CallProgress.TheVariants.{Awaited}
-use Rattle.ivy_memory.specs.declared.asked.Asked.{Asked}
-use Rattle.ivy_memory.specs.declared.asked.Asked.TheVariants as asked
-use Rattle.ivy_memory.specs.declared.asked.RowPlace.{RowPlace}
+use Rattle.ivy_memory.specs.declared.memory.Asked.{Asked}
+use Rattle.ivy_memory.specs.declared.memory.Asked.TheVariants as asked
+use Rattle.ivy_memory.specs.declared.memory.RowPlace.{RowPlace}
 use Rattle.ivy_memory.specs.Asking.{CallHasToAsk, HasToAskFor}
 use Rattle.ivy_memory.specs.stated.Asking.{asked_of}
 use Rattle.ivy_memory.specs.AtOnce.{IsRowAt}

@@ -30,7 +30,7 @@ use Rattle.ivy_coherence.specs.stated.MessageSteps.{handled}
 use Rattle.ivy_alloc.specs.declared.CallProgress.{CallProgress}
 use Rattle.ivy_alloc.specs.declared.CallProgress.TheVariants.{Given, Awaited, Unserved}
 use Rattle.ivy_coherence.proofs.keeping.Keeping.{begun-keeps}
-use Rattle.ivy_memory.specs.declared.asked.Asked.TheVariants as asked
+use Rattle.ivy_memory.specs.declared.memory.Asked.TheVariants as asked
 use Rattle.ivy_alloc.specs.declared.HeapCall.{HeapCall}
 use Rattle.ivy_memory.specs.Asking.{CanAsk, HasToAskFor, CallHasToAsk, MayMakePageFor, CallMayMakePage, MayBeRefused, IsMessageWant}
 use Rattle.ivy_memory.specs.stated.Asking.{asked_of}

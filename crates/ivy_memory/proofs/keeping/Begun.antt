@@ -11,8 +11,8 @@ use Rattle.ivy_coherence.specs.stated.PageFaults.{Begun, begun}
 use Rattle.ivy_alloc.specs.declared.CallProgress.{CallProgress}
 use Rattle.ivy_alloc.specs.declared.CallProgress.TheVariants.{Given, Awaited, Unserved}
 use Rattle.ivy_alloc.specs.stated.HeapCalls.{HeapBegun, heap_begun}
-use Rattle.ivy_memory.specs.declared.asked.Asked.{Asked}
-use Rattle.ivy_memory.specs.declared.asked.Asked.TheVariants as asked
+use Rattle.ivy_memory.specs.declared.memory.Asked.{Asked}
+use Rattle.ivy_memory.specs.declared.memory.Asked.TheVariants as asked
 use Rattle.ivy_memory.specs.stated.Asking.{asked_of}
 use Rattle.ivy_memory.specs.stated.Memories.{NodeMemory, CallBegun, reply_of, without_call, taken_with, answered, waiting}
 use Rattle.ivy_memory.specs.stated.Memories.{unserved, needed, again_unless, again, asked_after, along_after, number_after}

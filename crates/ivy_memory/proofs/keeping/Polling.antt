@@ -27,8 +27,8 @@ use Rattle.ivy_coherence.proofs.keeping.IdleServing.{all_none}
 use Rattle.ivy_coherence.proofs.posting.Few.{begun-few}
 use Rattle.ivy_alloc.specs.declared.CallProgress.{CallProgress}
 use Rattle.ivy_alloc.specs.declared.CallProgress.TheVariants.{Given, Awaited, Unserved}
-use Rattle.ivy_memory.specs.declared.asked.Asked.{Asked}
-use Rattle.ivy_memory.specs.declared.asked.Asked.TheVariants as asked
+use Rattle.ivy_memory.specs.declared.memory.Asked.{Asked}
+use Rattle.ivy_memory.specs.declared.memory.Asked.TheVariants as asked
 use Rattle.ivy_memory.specs.Asking.{CanAsk, HasToAskFor, MayMakePageFor}
 use Rattle.ivy_memory.specs.stated.Asking.{asked_of}
 use Rattle.ivy_alloc.specs.stated.HeapCalls.{HeapSide, closed}

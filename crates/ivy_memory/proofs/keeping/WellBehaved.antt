@@ -44,8 +44,8 @@ use Rattle.ivy_coherence.proofs.keeping.IdleServing.{all_none, all_one}
 use Rattle.ivy_coherence.proofs.keeping.EventTable.{Rows, AccessRows, handled-by_rows, begun-by_rows}
 use Rattle.ivy_coherence.proofs.posting.Few.{begun-few, handled-few}
 use Rattle.ivy_alloc.specs.declared.CallProgress.TheVariants.{Awaited, Unserved}
-use Rattle.ivy_memory.specs.declared.asked.Asked.{Asked}
-use Rattle.ivy_memory.specs.declared.asked.Asked.TheVariants as asked
+use Rattle.ivy_memory.specs.declared.memory.Asked.{Asked}
+use Rattle.ivy_memory.specs.declared.memory.Asked.TheVariants as asked
 use Rattle.ivy_alloc.specs.declared.HeapCall.{HeapCall}
 use Rattle.ivy_alloc.specs.declared.HeapRequest.{HeapRequest}
 use Rattle.ivy_alloc.specs.declared.HeapRequest.TheVariants as heap_request

@@ -19,7 +19,7 @@ use Rattle.ivy_model.specs.stated.Legal.{HasWidth, IsWidth}
 use Rattle.ivy_pagetable.specs.declared.Word.{Word}
 use Rattle.ivy_pagetable.specs.declared.Word.TheVariants as word
 use Rattle.ivy_pagetable.specs.stated.Words.{carried_out, word_with}
-use Rattle.ivy_memory.specs.declared.asked.Asked.TheVariants as asked
+use Rattle.ivy_memory.specs.declared.memory.Asked.TheVariants as asked
 use Rattle.ivy_memory.specs.stated.Asking.{asked_of, count_asked, word_unless}
 use Rattle.ivy_memory.specs.Flat.{IsServed, WordsAreFlat, RefusalsAreFlat}
 use Rattle.ivy_memory.proofs.serving.WordsServed.{access_served, access_refused, count_served, advance_served, await_served, count_refused, advance_refused, await_refused}

@@ -24,7 +24,7 @@ use Rattle.ivy_coherence.specs.stated.Coherent.{Coherent}
 use Rattle.ivy_coherence.specs.stated.Several.{all_carried}
 use Rattle.ivy_coherence.specs.stated.MessageSteps.{handled}
 use Rattle.ivy_coherence.specs.stated.PageFaults.{begun}
-use Rattle.ivy_memory.specs.declared.asked.Asked.TheVariants as asked
+use Rattle.ivy_memory.specs.declared.memory.Asked.TheVariants as asked
 use Rattle.ivy_alloc.specs.declared.HeapCall.{HeapCall}
 use Rattle.ivy_alloc.specs.declared.HeapRequest.{HeapRequest}
 use Rattle.ivy_alloc.specs.declared.HeapRequest.TheVariants as heap_request

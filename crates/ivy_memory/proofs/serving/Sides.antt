@@ -22,7 +22,7 @@ use Rattle.ivy_alloc.proofs.HeapMessages.{either, told-by_rows}
 use Rattle.ivy_alloc.proofs.Spelled.{answer_fits, request_fits}
 use Rattle.ivy_memory.specs.stated.Memories.{NodeMemory, heap_answered}
 use Rattle.ivy_pagetable.specs.declared.Word.{Word}
-use Rattle.ivy_memory.specs.declared.asked.Asked.TheVariants as kinds
+use Rattle.ivy_memory.specs.declared.memory.Asked.TheVariants as kinds
 use Rattle.ivy_memory.specs.stated.Asking.{asked_of}
 use Rattle.ivy_memory.specs.stated.Sound.{IsHeapRequestOf, IsInProgress, IsSoundSide}
 

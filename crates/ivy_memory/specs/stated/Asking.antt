@@ -12,8 +12,8 @@ use Rattle.ivy_event.specs.stated.Counts.{word_of_count}
 use Rattle.ivy_pagetable.specs.declared.Word.{Word}
 use Rattle.ivy_pagetable.specs.declared.Word.TheVariants as word
 use Rattle.ivy_pagetable.specs.stated.Words.{word_with}
-use Rattle.ivy_memory.specs.declared.asked.Asked.{Asked}
-use Rattle.ivy_memory.specs.declared.asked.Asked.TheVariants as asked
+use Rattle.ivy_memory.specs.declared.memory.Asked.{Asked}
+use Rattle.ivy_memory.specs.declared.memory.Asked.TheVariants as asked
 use Rattle.ivy_alloc.specs.declared.HeapCall.TheVariants as heap
 
 -- the word of a page, unless it is refused

@@ -5,8 +5,8 @@ use Rattle.ivy_model.specs.declared.Call.{Call}
 use Rattle.ivy_pagetable.specs.declared.Word.{Word}
 use Rattle.ivy_pagetable.specs.declared.Word.TheVariants as word
 use Rattle.ivy_pagetable.specs.stated.Words.{needs_write}
-use Rattle.ivy_memory.specs.declared.asked.Asked.{Asked}
-use Rattle.ivy_memory.specs.declared.asked.Asked.TheVariants as asked
+use Rattle.ivy_memory.specs.declared.memory.Asked.{Asked}
+use Rattle.ivy_memory.specs.declared.memory.Asked.TheVariants as asked
 use Rattle.ivy_memory.specs.stated.Asking.{asked_of}
 
 -- some of the calls, in order, and the word of each

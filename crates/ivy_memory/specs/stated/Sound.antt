@@ -8,7 +8,7 @@ use Rattle.ivy_pagetable.specs.declared.Word.{Word}
 use Rattle.ivy_pagetable.specs.stated.Manager.{Ops}
 use Rattle.ivy_coherence.specs.stated.Sound.{IsSound}
 use Rattle.ivy_alloc.specs.stated.Heap.{HeapState}
-use Rattle.ivy_memory.specs.declared.asked.Asked.TheVariants as kinds
+use Rattle.ivy_memory.specs.declared.memory.Asked.TheVariants as kinds
 use Rattle.ivy_alloc.specs.declared.HeapCall.{HeapCall}
 use Rattle.ivy_alloc.specs.declared.HeapRequest.{HeapRequest}
 use Rattle.ivy_alloc.specs.declared.HeapRequest.TheVariants as heap_request

@@ -1,10 +1,10 @@
 //! The seat of a node in a watched session.
 
-use crate::watched::notes::Notes;
 use crate::watched::watch::Watch;
 use ivy_ether::Setup;
 use ivy_model::{Fault, Record};
 use ivy_seating::{Home, Homed, ProgramSeat, Turn};
+use ivy_standstill::Notes;
 use ivy_workers::{Pulses, Seat, Traffic};
 use std::alloc::Allocator;
 use std::sync::Wait;

@@ -1,4 +1,4 @@
-//! What a watched session tells, and why it ended.
+//! What a watched session tells, and on what it is run.
 use ivy_model::Record;
 use ivy_seating::Keep;
 use ivy_workers::{Gate, Limits};
@@ -21,17 +21,4 @@ pub struct WatchTerms<'r, 'w, A, R, W> {
     pub watch: &'w W,
     /// Which lists of its past each node keeps.
     pub keep: Keep,
-}
-
-/// Why a session ended.
-#[derive(Clone, Copy)]
-pub enum End {
-    /// All programs have ended.
-    Programs,
-    /// The watch let it go on no further.
-    Watch,
-    /// It stands still: nothing is under way, no turn does anything, and a program has not ended.
-    Standstill,
-    /// A worker had made the turns that it was allowed.
-    Turns,
 }

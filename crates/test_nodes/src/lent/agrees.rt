@@ -6,10 +6,10 @@ use crate::lent::words::{SIZE, serve_in, word_of};
 use ivy_model::{Call, Reply};
 use std::process::Abort;
 
-/// So many seeds are played: numbers of nodes, managers and numbers of pages in turn.
+/// How many seeds are played: numbers of nodes, managers and numbers of pages in turn.
 const SEEDS: u64 = 50;
 
-/// So many eventcounts are used.
+/// How many eventcounts are used.
 const COUNTS: usize = 4;
 
 /// The one memory that all accesses are of: the pages that have images, and eventcounts.

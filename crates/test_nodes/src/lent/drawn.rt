@@ -10,7 +10,7 @@ use rand_pcg::Lcg64Xsh32;
 use std::alloc::Global;
 use std::process::Abort;
 
-/// So many moves has a run at the gate.
+/// How many moves has a run at the gate.
 const MOVES: usize = 150;
 
 /// A move, and where it is made.

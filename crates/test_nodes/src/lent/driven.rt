@@ -8,7 +8,7 @@ use ivy_model::{Call, Fault, Row};
 use ivy_site::Verdict;
 use std::process::Abort;
 
-/// So many pages have images: the first one, which is never lent, those behind it, and for the last place the last page.
+/// How many pages have images: the first one, which is never lent, those behind it, and for the last place the last page.
 pub(crate) const PAGES: usize = 4;
 
 /// There are no more nodes.

@@ -36,7 +36,7 @@ pub(crate) fn take_turn<A: Allocator + Copy>(site: &mut Site<A>) -> Result<Turn,
     site.program_turn()
 }
 
-/// So many turns of a node, which are all made.
+/// Makes turns of a node, each of which does something.
 pub(crate) fn take_turns<A: Allocator + Copy>(rt: &impl Abort, site: &mut Site<A>, number: u64) {
     for _ in 0..number {
         take_turn(site).expect(rt, "a turn");

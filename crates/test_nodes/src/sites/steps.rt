@@ -38,7 +38,7 @@ pub(crate) enum Step<'a> {
     Silent,
     /// It has listed so many events.
     Listed(usize),
-    /// So many messages fitted no rule.
+    /// How many messages fitted no rule.
     Breaches(u64),
     /// Its program has ended.
     Ended,

@@ -15,7 +15,7 @@ use rand_pcg::Lcg64Xsh32;
 use std::alloc::{Allocator, Global};
 use std::process::Abort;
 
-/// So many seeds are two of each kind of world: of 2, 3 or 4 nodes, of each manager, of few pages and of many.
+/// How many seeds are two of each kind of world: of 2, 3 or 4 nodes, of each manager, of few pages and of many.
 const SEEDS: u64 = 24;
 
 /// The blocks lie in the last pages of a world, of 64 bytes each. Page 0 has the eventcounts.
@@ -93,7 +93,7 @@ fn make_drawn<A: Allocator + Copy>(
     assert!(rt; world.make(step).is_ok(), "{step:?}");
 }
 
-/// So many moves are drawn, and then the world comes to rest.
+/// How many moves are drawn, and then the world comes to rest.
 fn go_on<A: Allocator + Copy>(
     rt: &impl Abort,
     world: &mut World<A>,

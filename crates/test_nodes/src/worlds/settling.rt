@@ -58,7 +58,7 @@ enum Step<'a> {
     Settles(u64, Rest),
     /// A node shows this, and awaits a count to be at least so much.
     Shows(Shown<'a>, Option<(u64, u64)>),
-    /// So many strings were sent.
+    /// How many strings were sent.
     Sent(usize),
 }
 

@@ -4,7 +4,7 @@ use ivy_play::{Outcome, PlayReport};
 use ivy_sync::Barrier;
 use std::alloc::Allocator;
 
-/// So many nodes, with four small pages.
+/// How many nodes, with four small pages.
 pub(crate) fn config(nodes: u8, manager: Kind) -> Config {
     Config {
         nodes,
@@ -17,10 +17,10 @@ pub(crate) fn config(nodes: u8, manager: Kind) -> Config {
 /// Both managers.
 pub(crate) const KINDS: [Kind; 2] = [Kind::Fixed, Kind::Dynamic];
 
-/// So many moves let each of these programs come to its end.
+/// How many moves let each of these programs come to its end.
 pub(crate) const ENOUGH: u64 = 100_000;
 
-/// So many moves are drawn.
+/// How many moves are drawn.
 pub(crate) const MOVES: u64 = 500;
 
 /// The barrier of so many nodes at eventcount 0.

@@ -78,7 +78,7 @@ where
     }
 }
 
-/// So many growths at least such a play takes.
+/// How many growths at least such a play takes.
 const GROWTHS: u64 = 60;
 
 #[test]

@@ -6,7 +6,7 @@ use std::alloc::Allocator;
 use std::sync::Wait;
 use std::thread::Threads;
 
-/// So many nodes, with four small pages.
+/// How many nodes, with four small pages.
 pub(crate) fn config(nodes: u8, manager: Kind) -> Config {
     Config {
         nodes,

@@ -174,7 +174,7 @@ fn is_met<R: Threads + Wait + Sync + Abort>(rt: &R, memory: &Failing<Global>, n:
     }
 }
 
-/// So many growths at least such a session takes.
+/// How many growths at least such a session takes.
 const GROWTHS: u64 = 24;
 
 #[test]

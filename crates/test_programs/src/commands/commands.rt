@@ -212,6 +212,7 @@ const DONE: [(&str, &[&str]); 11] = [
         &[
             "run load --pages 2 --page-size 64 --manager fixed",
             "run load --page-size=64 --capacity 1 --pulse 7",
+            "run --page-size=64 -- load",
         ],
     ),
     (

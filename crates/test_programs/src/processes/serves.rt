@@ -10,7 +10,7 @@ use std::io::{self, Write};
 use std::process::Abort;
 use std::sync::Wait;
 
-const LIMITS: NodeLimits = NodeLimits {
+pub(crate) const LIMITS: NodeLimits = NodeLimits {
     pulse_millis: 20,
     turns: 1000,
     kept: 100,
@@ -58,9 +58,9 @@ struct Case<'a> {
     room: usize,
     lines: &'a [&'a str],
     ending: Result<Ending, NodeFailure>,
-    /// So many lines had no frame.
+    /// How many lines had no frame.
     bad_lines: u64,
-    /// So many nodes told another sum.
+    /// How many nodes told another sum.
     others: u64,
     /// What was written on its log, standard output and standard error.
     log: &'a str,
@@ -159,9 +159,9 @@ const CASES: [Case<'static>; 9] = [
     },
 ];
 
-/// The program of a node.
-fn program_of(rt: &impl Abort, alloc: Global, me: u8) -> Program<Global> {
-    let mut programs = parse(alloc, PROGRAMS).expect(rt, "programs");
+/// The program of a node, of the two of this text.
+pub(crate) fn program_of(rt: &impl Abort, alloc: Global, text: &str, me: u8) -> Program<Global> {
+    let mut programs = parse(alloc, text).expect(rt, "programs");
     if me == 0 {
         let _ = programs.pop();
     }
@@ -183,7 +183,7 @@ fn begin(rt: &impl Abort, sum: Option<u64>, node: &mut Node, log: &mut Paper) {
 fn check_case<R: Abort + Wait>(rt: &R, alloc: Global, case: &Case<'_>) {
     let (me, limits) = (case.me, case.limits);
     assert!(rt; me < CONFIG.nodes);
-    let program = program_of(rt, alloc, me);
+    let program = program_of(rt, alloc, PROGRAMS, me);
     let mut log = Paper {
         bytes: Vec::new(alloc),
         room: case.room,

@@ -3,13 +3,17 @@
 use crate::scope::common::{Case, Told, check_each, check_shut};
 use test_support::File;
 
-const FILES: [File; 9] = [
+const FILES: [File; 10] = [
     File {
         name: "four_faults.ivy",
         text: "node 0\nlod 8 r1 r2   # a letter is missing\nset r16 1\nlabel a\njump b\nprint r1 r2\n",
     },
     File {
         name: "sound.ivy",
+        text: "node 0\nnode 1\n",
+    },
+    File {
+        name: "--odd",
         text: "node 0\nnode 1\n",
     },
     File {
@@ -42,7 +46,7 @@ const FILES: [File; 9] = [
     },
 ];
 
-const CASES: [Case<'static>; 21] = [
+const CASES: [Case<'static>; 25] = [
     (
         &["explain", "four_faults.ivy"],
         2,
@@ -115,6 +119,32 @@ const CASES: [Case<'static>; 21] = [
         0,
         Told::Is("sound.ivy: programs, and nothing is at fault\n"),
         Told::Is(""),
+    ),
+    // Behind `--` are files. An option has its value as the next word or behind `=`.
+    (
+        &["explain", "--", "--odd"],
+        0,
+        Told::Is("--odd: programs, and nothing is at fault\n"),
+        Told::Is(""),
+    ),
+    (
+        &["run", "--pages=2", "--page-size", "64", "--", "--odd"],
+        0,
+        Told::Is(""),
+        Told::Is(""),
+    ),
+    // What a terminal would obey is shown.
+    (
+        &["run", "mis\u{1b}sing"],
+        2,
+        Told::Is(""),
+        Told::Is("ivyscope: cannot read mis\\u{1b}sing\n"),
+    ),
+    (
+        &["wa\u{1b}lk"],
+        2,
+        Told::Is(""),
+        Told::Has(&["ivyscope: bad command line: `wa\\u{1b}lk` is no command"]),
     ),
     (
         &["explain", "short.schedule"],

@@ -6,7 +6,7 @@ use std::sync::Wait;
 use std::sync::atomic::{AtomicBool, Ordering};
 use std::thread::{self, Threads};
 
-/// So often a worker that is held looks for the other.
+/// How often a worker that is held looks for the other.
 const LOOKS: u64 = 10_000_000;
 
 /// Something that one worker does, once, and another looks for.

@@ -7,7 +7,7 @@ use std::process::Abort;
 use std::sync::Wait;
 use std::thread::Threads;
 
-/// So many records and entries of an event list that node 0 shows, and what it printed first.
+/// How many records and entries of an event list that node 0 shows, and what it printed first.
 fn lengths_of<A: Allocator + Copy>(report: &Report<A>) -> (usize, bool, Option<u64>) {
     let (answered, printed) = shown_of(report, 0);
     let lists = report.nodes() > 0 && !report.events(0).is_empty();

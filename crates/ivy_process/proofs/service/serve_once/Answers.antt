@@ -6,34 +6,34 @@ use Rattle.ivy_process.proofs.service.serve_once.Goals as goal
 pub returns-then-heard : goal.returns-then-heard
 returns-then-heard g c =
     let L = g.L.Write.contents in
-    let went : AddsEvents c.args.node.now c.make_turns.new.self =
-    goes_further c.args.node.now c.hear.new.node c.make_turns.new.self c.in_ok-heard.ensures
+    let went : AddsEvents c.args.node.now c.make_watched_turns.new.self =
+    goes_further c.args.node.now c.hear.new.node c.make_watched_turns.new.self c.in_ok-heard.ensures
     c.in_ok-made.ensures in
-    streams-logged c.args.node.now c.make_turns.new.self c.speak.new.self (L c.args.streams.now.log)
+    streams-logged c.args.node.now c.make_watched_turns.new.self c.speak.new.self (L c.args.streams.now.log)
     (L c.args.streams.now.log) (L c.speak.new.log)
-    (streams-begin c.args.node.now c.make_turns.new.self (L c.args.streams.now.log) went) c.in_ok-speak.ensures
+    (streams-begin c.args.node.now c.make_watched_turns.new.self (L c.args.streams.now.log) went) c.in_ok-speak.ensures
 
 pub returns-else-saturating_sub-every : goal.returns-else-saturating_sub-every
 returns-else-saturating_sub-every g c =
     let L = g.L.Write.contents in
-    let went : AddsEvents c.args.node.now c.make_turns.new.self =
-    goes_further c.args.node.now c.hear.new.node c.make_turns.new.self c.in_ok-heard.ensures
+    let went : AddsEvents c.args.node.now c.make_watched_turns.new.self =
+    goes_further c.args.node.now c.hear.new.node c.make_watched_turns.new.self c.in_ok-heard.ensures
     c.in_ok-made.ensures in
-    streams-logged c.args.node.now c.make_turns.new.self c.speak.new.self (L c.args.streams.now.log)
+    streams-logged c.args.node.now c.make_watched_turns.new.self c.speak.new.self (L c.args.streams.now.log)
     (L c.args.streams.now.log) (L c.speak.new.log)
-    (streams-begin c.args.node.now c.make_turns.new.self (L c.args.streams.now.log) went) c.in_ok-speak.ensures
+    (streams-begin c.args.node.now c.make_watched_turns.new.self (L c.args.streams.now.log) went) c.in_ok-speak.ensures
 
 pub returns-in_ok-speak-2 : goal.returns-in_ok-speak-2
 returns-in_ok-speak-2 g c =
     let L = g.L.Write.contents in
-    let went : AddsEvents c.args.node.now c.make_turns.new.self =
-    goes_further c.args.node.now c.hear.new.node c.make_turns.new.self c.in_ok-heard.ensures
+    let went : AddsEvents c.args.node.now c.make_watched_turns.new.self =
+    goes_further c.args.node.now c.hear.new.node c.make_watched_turns.new.self c.in_ok-heard.ensures
     c.in_ok-made.ensures in
     let first : StreamsPart c.args.node.now c.speak.new.self (g.L.Write.contents c.args.streams.now.log)
     (g.L.Write.contents c.speak.new.log) =
-    streams-logged c.args.node.now c.make_turns.new.self c.speak.new.self (L c.args.streams.now.log)
+    streams-logged c.args.node.now c.make_watched_turns.new.self c.speak.new.self (L c.args.streams.now.log)
     (L c.args.streams.now.log) (L c.speak.new.log)
-    (streams-begin c.args.node.now c.make_turns.new.self (L c.args.streams.now.log) went) c.in_ok-speak.ensures in
+    (streams-begin c.args.node.now c.make_watched_turns.new.self (L c.args.streams.now.log) went) c.in_ok-speak.ensures in
     streams-logged c.args.node.now c.pulse.new.self c.speak-then-saturating_sub-every.new.self
     (L c.args.streams.now.log) (L c.speak.new.log) (L c.speak-then-saturating_sub-every.new.log)
     (streams-on c.args.node.now c.speak.new.self c.pulse.new.self (L c.args.streams.now.log)

@@ -6,14 +6,14 @@ use Rattle.ivy_process.proofs.Kept.{keeps-further, keeps-same, turn-keeps}
 use Rattle.ivy_process.proofs.sites.make_turns.Goals as goal
 
 pub loop-made-init : goal.loop-made-init
-loop-made-init c = record {
+loop-made-init g c = record {
   within = omega arith;
   made = sym (append-nil c.args.site.now.events);
   kept = keeps-same c.args.site.now c.args.site.now refl;
 }
 
 pub loop-made-preserved : goal.loop-made-preserved
-loop-made-preserved c =
+loop-made-preserved g c =
     let moved : AfterTurn Moved c.loop-made.site c.program_turn.new.self = search rules in record {
       within = omega arith;
       made = one_more c.args.site.now.events c.loop-made.made c.loop-made.site c.program_turn.new.self

@@ -3,9 +3,9 @@ use Rattle.std.proofs.lemmas.List.{length-map, map-append}
 use Rattle.std.proofs.lemmas.List.Elements.{All-nil, All-push}
 use Rattle.std.proofs.lemmas.Result.{IfOk-from_err, err_from_is_err_and}
 use Rattle.std.specs.Vec.Iter.{into_iter_items}
-use Rattle.ivy_scope.specs.SoFar.{NodeSoFar, so_far_of, AllKeepSoFar}
-use Rattle.ivy_scope.specs.CollectedSoFar.{AreToldSoFar}
-use Rattle.ivy_scope.proofs.Telling.{told_more, told_none}
+use Rattle.ivy_standstill.specs.SoFar.{NodeSoFar, so_far_of, AllKeepSoFar}
+use Rattle.ivy_standstill.specs.CollectedSoFar.{AreToldSoFar}
+use Rattle.ivy_standstill.proofs.Telling.{told_more, told_none}
 use Rattle.ivy_scope.proofs.watched.close.close_all.Goals as goal
 
 pub loop-seat-init : goal.loop-seat-init

@@ -1,7 +1,7 @@
 use Rattle.std.proofs.Common.{◌≡◌, ◌+◌, ◌≤◌, length, map, vec_len, vec_capacity}
 use Rattle.std.specs.Vec.Iter.{into_iter_items, into_iter_len}
-use Rattle.ivy_scope.specs.SoFar.{so_far_of, AllKeepSoFar}
-use Rattle.ivy_scope.specs.CollectedSoFar.{AreToldSoFar}
+use Rattle.ivy_standstill.specs.SoFar.{so_far_of, AllKeepSoFar}
+use Rattle.ivy_standstill.specs.CollectedSoFar.{AreToldSoFar}
 use Rattle.ivy_scope.proofs.watched.close.close_all.Given as goal
 
 -- the starter was told of the sites so far

@@ -1,8 +1,8 @@
 use Rattle.std.proofs.Common.{◌≡◌, length, sym, subst, ◌∙◌}
 use Rattle.std.proofs.lemmas.Result.{IfOk-from_err, err_from_is_err_and}
 use Rattle.ivy_ether.specs.Held.{Held}
-use Rattle.ivy_scope.specs.CollectedSoFar.{AreToldSoFar}
-use Rattle.ivy_scope.proofs.SoFar.{reported_so_far}
+use Rattle.ivy_standstill.specs.CollectedSoFar.{AreToldSoFar}
+use Rattle.ivy_standstill.proofs.SoFar.{reported_so_far}
 use Rattle.ivy_scope.proofs.watched.close.collect.Goals as goal
 
 pub returns-clause-report : goal.returns-clause-report

@@ -1,6 +1,6 @@
 use Rattle.std.proofs.Common.{◌≡◌, sym, ◌∙◌}
 use Rattle.std.proofs.lemmas.Result.{IfOk-weaker}
-use Rattle.ivy_scope.specs.declared.watched.watch.End.TheVariants.{Programs, Standstill}
+use Rattle.ivy_standstill.specs.declared.end.End.TheVariants.{Programs, Standstill}
 use Rattle.ivy_scope.proofs.watched.session.look_again.Goals as goal
 
 -- a standstill is no end of all programs

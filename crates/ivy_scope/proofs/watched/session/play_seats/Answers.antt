@@ -1,6 +1,6 @@
 use Rattle.std.proofs.Common.{refl, sym, subst}
 use Rattle.std.proofs.lemmas.Result.{IfOk-from_err, err_from_is_err_and}
-use Rattle.ivy_scope.specs.SoFar.{AllKeepSoFar, IsHandedSoFar}
+use Rattle.ivy_standstill.specs.SoFar.{AllKeepSoFar, IsHandedSoFar}
 use Rattle.ivy_scope.proofs.watched.session.play_seats.Goals as goal
 
 pub returns-clause-played : goal.returns-clause-played

@@ -1,6 +1,0 @@
-use Rattle.std.proofs.Common.{◌<◌, ℕ}
-use Rattle.ivy_scope.specs.Delivered.{IsSiteDelivered}
-use Rattle.ivy_scope.proofs.watched.delivered.is_delivered.Given as goal
-
-abbrev pub invariant-loop-from : goal.invariant-loop-from
-invariant-loop-from g l = (i : ℕ) → i < l.from → IsSiteDelivered l.sites i

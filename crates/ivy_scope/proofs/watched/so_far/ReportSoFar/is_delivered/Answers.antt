@@ -1,9 +1,0 @@
-use Rattle.std.proofs.Common.{rules, ◌≡◌, map, subst}
-use Rattle.ivy_scope.specs.SoFar.{so_far_of, AreDelivered}
-use Rattle.ivy_scope.proofs.SoFar.{delivered_so_far}
-use Rattle.ivy_scope.proofs.watched.so_far.ReportSoFar.is_delivered.Goals as goal
-
-pub returns-in-Ok : goal.returns-in-Ok
-returns-in-Ok g c =
-    let same : map so_far_of c.deref.result.now ≡ c.args.self.now = search rules in
-    λ t. subst AreDelivered same (delivered_so_far c.deref.result.now (c.is_delivered.ensures t))

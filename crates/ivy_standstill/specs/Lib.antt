@@ -1,0 +1,4 @@
+pub mod CollectedSoFar
+pub mod Delivered
+pub mod Ends
+pub mod SoFar
