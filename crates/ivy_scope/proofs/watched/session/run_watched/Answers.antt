@@ -6,7 +6,7 @@ use Rattle.ivy_model.specs.declared.Fault.TheVariants.{BadConfig}
 use Rattle.ivy_workers.specs.Stops.{IsStop}
 use Rattle.ivy_session.specs.Faults.{IsSessionFault}
 use Rattle.ivy_program.specs.Programs.{IsWritten}
-use Rattle.ivy_scope.proofs.Played.{if_ended, if_kept, if_settled, if_still, if_unblocked, if_written}
+use Rattle.ivy_scope.proofs.SessionEnds.{if_ended, if_kept, if_settled, if_still, if_unblocked, if_written}
 use Rattle.ivy_scope.proofs.watched.session.run_watched.Goals as goal
 
 fault_of_stop : (fault : Fault) → IsStop fault → IsSessionFault fault
