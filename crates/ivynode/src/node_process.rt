@@ -9,7 +9,7 @@ use crate::request::Asked;
 use crate::standing::{Calls, Standing};
 use ivy_explain::Listing;
 use ivy_logs::{Log as OldLog, LogKind, parse_log, sum_of_run};
-use ivy_model::{Call, Config, LEAST_NODES, LEAST_PAGES, MOST_NODES, MOST_PAGES};
+use ivy_model::{Call, Config, Fault, LEAST_NODES, LEAST_PAGES, MOST_NODES, MOST_PAGES};
 use ivy_moves::Keep;
 use ivy_process::{
     Clockwork, Ending, Harm, LogFile, Mail, Node, Router, Streams, Untaken, inbox_of, open_log,
