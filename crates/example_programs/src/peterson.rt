@@ -5,7 +5,7 @@ ghost use Rattle.ivy_sync.specs.Doing.{stores};
 ghost use Rattle.example_programs.specs.Adding.{AddsSome};
 
 use ivy_calls::{load, store};
-use ivy_model::{Config, Fault};
+use ivy_model::{CANNOT_HAPPEN, Config, Fault};
 use ivy_node::{Limits, OpenGate, OwnFault, SharedMemory, Work, run_with};
 use ivy_sync::Barrier;
 use std::alloc::Allocator;
@@ -51,7 +51,7 @@ impl Peterson {
                 return Ok(());
             }
         }
-        Err(Fault::TurnLimit)
+        Err(CANNOT_HAPPEN)
     }
 
     /// Leaves.

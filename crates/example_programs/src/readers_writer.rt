@@ -5,7 +5,7 @@ ghost use Rattle.example_programs.specs.Adding.{AddsSome};
 ghost use Rattle.example_programs.specs.Readers.{CountsIn, CountsOut, EntersToWrite, Takes};
 
 use ivy_calls::{load, store, swap};
-use ivy_model::Fault;
+use ivy_model::{CANNOT_HAPPEN, Fault};
 use ivy_node::{SharedMemory, Work};
 use ivy_sync::Barrier;
 
@@ -33,7 +33,7 @@ impl ReadersWriter {
                 return Ok(found);
             }
         }
-        Err(Fault::TurnLimit)
+        Err(CANNOT_HAPPEN)
     }
 
     /// Waits until no writer is inside, and enters as a reader.
@@ -70,7 +70,7 @@ impl ReadersWriter {
             }
             store(memory, self.addr, readers)?;
         }
-        Err(Fault::TurnLimit)
+        Err(CANNOT_HAPPEN)
     }
 
     /// The writer leaves.

@@ -4,7 +4,7 @@ ghost use Rattle.example_programs.specs.Adding.{AddsSome};
 ghost use Rattle.example_programs.specs.Jobs.{PutsAJob, PutsOrIsFull, TakesAJob, TakesOrIsEmpty, place_of};
 
 use ivy_calls::{load, store};
-use ivy_model::Fault;
+use ivy_model::{CANNOT_HAPPEN, Fault};
 use ivy_node::{SharedMemory, Work};
 use ivy_sync::Lock;
 
@@ -86,7 +86,7 @@ impl WorkQueue {
                 return Ok(());
             }
         }
-        Err(Fault::TurnLimit)
+        Err(CANNOT_HAPPEN)
     }
 
     /// Waits for a job, and takes it.
@@ -99,7 +99,7 @@ impl WorkQueue {
                 return Ok(job);
             }
         }
-        Err(Fault::TurnLimit)
+        Err(CANNOT_HAPPEN)
     }
 }
 
