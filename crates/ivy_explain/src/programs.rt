@@ -53,14 +53,27 @@ struct Reading<'a> {
 }
 
 impl<'a> Reading<'a> {
+    fn begin_node(&mut self) {
+        self.nodes = self.nodes.saturating_add(1);
+        self.instructions = 0;
+    }
+
     /// A line `node` has the number of the next node.
     fn node(&mut self, line: usize, word: Word<'a>) -> Option<Blame<'a>> {
         if parse_number(word.text) != Some(self.nodes) {
             return Some(blame_at(line, word, Wanted::node(self.nodes)));
         }
-        self.nodes = self.nodes.saturating_add(1);
-        self.instructions = 0;
+        self.begin_node();
         None
+    }
+
+    /// A byte order mark is at fault alone: a line `node` behind it begins a node.
+    fn mark(&mut self, line: usize, first: Word<'a>) -> Option<Blame<'a>> {
+        let behind = first.text.strip_prefix(MARK)?;
+        if behind == "node" {
+            self.begin_node();
+        }
+        Some(blame_at(line, first, Wanted::of(NO_MARK)))
     }
 
     /// An instruction. The first that is one too many is at fault.
@@ -115,8 +128,9 @@ impl<'a> Reading<'a> {
         words: Words<'_, 'a>,
     ) -> Result<Option<Blame<'a>>, AllocError> {
         if let Some(first) = words.get(0) {
-            if first.text.starts_with(MARK) {
-                return Ok(Some(blame_at(line, first, Wanted::of(NO_MARK))));
+            let mark = self.mark(line, first);
+            if mark.is_some() {
+                return Ok(mark);
             }
         }
         let blame = blame_form(line, words, &FORMS, Wanted::line());

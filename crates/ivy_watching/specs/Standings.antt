@@ -17,7 +17,7 @@ HasAsked n = (call : Call) × (n.node.core.memory.asked ≡ Some call)
 pub record HasWorked {Out : Type 0} (done : ℕ → List Answer → Out → Type 0) (i : ℕ) (n : NodeSoFar)
     (out : Out) : Type 0 where
   pub free : n.node.core.memory.asked ≡ None
-  pub done : done i (answers n.node.core.history) out
+  pub worked : done i (answers n.node.core.history) out
 
 -- of node i's work: it has ended, and given this, or a call is in progress
 abbrev pub Stands : {Out : Type 0} → (ℕ → List Answer → Out → Type 0) → ℕ → NodeSoFar → Option Out

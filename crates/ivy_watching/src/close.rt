@@ -57,7 +57,8 @@ fn stands<A: Allocator + Copy, W: Work>(
     ensures stands { IfOk result (Stands (W.done work.now) node (so_far_of site.now)) }
     ensures stop { IfErr result IsStop }
 {
-    let _ = (work, node);
+    let _ = work;
+    let _ = node;
     match (site.asked(), out) {
         (Some(_), _) => Ok(None),
         (None, Some(out)) => Ok(Some(out)),

@@ -62,14 +62,14 @@ const CASES: [Case<'static>; 25] = [
         ),
         Told::Is(""),
     ),
-    // A byte order mark and a bell are shown, and not sent; the mark stands below the word.
+    // A byte order mark and a bell are shown, and not sent; the mark stands below the word, and is the one fault.
     (
         &["explain", "marked.ivy"],
         2,
-        Told::Has(&[
+        Told::Is(
             "marked.ivy:1:1: expected a text without a byte order mark, found `\\u{feff}node`\n    \
              \\u{feff}node 0\n    ^^^^^^^^^^^^\n",
-        ]),
+        ),
         Told::Is(""),
     ),
     (

@@ -36,7 +36,7 @@ loop-given-init g c =
     }
 
 pub part_with-requires-clause-given : goal.part_with-requires-clause-given
-part_with-requires-clause-given g c =
+part_with-requires-clause-given g c κs within =
     let was = c.loop-given.invariant in
     subst
     (λ i. MatchResult c.in-Some.given
