@@ -8,11 +8,11 @@ watch-requires-clause-few g c =
     let most = c.requires.limits.nodes_to in omega (arith, many, most)
 
 pub collect_standing-requires-clause-nodes : goal.collect_standing-requires-clause-nodes
-collect_standing-requires-clause-nodes g c =
+collect_standing-requires-clause-nodes g c κs within =
     c.in_ok-stopped.ensures.all
     ∙ (c.in_ok-places.ensures.mines ∙ ap (λ (k : Config). k.nodes) c.requires.config)
 
 pub collect_ended-requires-clause-nodes : goal.collect_ended-requires-clause-nodes
-collect_ended-requires-clause-nodes g c =
+collect_ended-requires-clause-nodes g c κs within =
     c.in_ok-stopped.ensures.all
     ∙ (c.in_ok-places.ensures.mines ∙ ap (λ (k : Config). k.nodes) c.requires.config)
