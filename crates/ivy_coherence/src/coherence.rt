@@ -152,7 +152,6 @@ impl<M: Manager, A: Allocator> Coherence<M, A> {
     pub(crate) fn sound(&self)
         ensures { IsSound M.ops self.now }
     {
-        // for the proof: what holds of every value of this type.
         let _ = &self.me;
     }
 

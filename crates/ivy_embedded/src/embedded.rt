@@ -671,7 +671,6 @@ impl Embedded {
     pub fn lends_soundly(&self)
         ensures { LendsSoundly self.now }
     {
-        // for the proof: what holds of every value of this type.
         let _ = &self.turns;
     }
 

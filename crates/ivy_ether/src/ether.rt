@@ -70,7 +70,6 @@ impl<S: Setup, A: Allocator + Copy> Ether<S, A> {
         ensures room { IfOk result (λ r. room_of r.0 ≡ capacity) }
         ensures memory { IsOkUnless result Fault.Memory }
     {
-        // for the proof: the clauses name them.
         let _ = config;
         let _ = programs;
         Ether::laid(alloc, capacity, passes)
@@ -92,7 +91,6 @@ impl<S: Setup, A: Allocator + Copy> Ether<S, A> {
         ensures room { IfOk result (λ r. room_of r.0 ≡ capacity) }
         ensures memory { IsOkUnless result Fault.Memory }
     {
-        // for the proof: the clauses name it.
         let _ = config;
         Ether::laid(alloc, capacity, passes)
     }
@@ -137,7 +135,6 @@ impl<S: Setup, A: Allocator + Copy> Ether<S, A> {
         ensures pass { pass.new.ether ≡ pass.old.ether }
         ensures known { MatchOption result (pass.new.known ≡ with_empty pass.old.known) (λ x. pass.new.known ≡ with_taken pass.old.known E.events x) }
     {
-        // for the proof: the clauses name them.
         let _ = events;
         let item = self.queue.pop_as::<Takes<E>, R>(rt, &mut pass.token);
         if item.is_none() {
@@ -177,7 +174,6 @@ impl<S: Setup, A: Allocator + Copy> Ether<S, A> {
         ensures pass { pass.new.ether ≡ pass.old.ether }
         ensures known { MatchPut result (pass.new.known ≡ with_put pass.old.known E.events (frame ∷ [])) (λ back. (back ≡ frame) × (pass.new.known ≡ with_refused pass.old.known frame)) }
     {
-        // for the proof: the clauses name them.
         let _ = events;
         match self
             .queue
@@ -304,7 +300,6 @@ impl<S: Setup, A: Allocator + Copy> Ether<S, A> {
         ensures pass { pass.new.ether ≡ pass.old.ether }
         ensures known { pass.new.known ≡ with_all_handed pass.old.known E.calls }
     {
-        // for the proof: the clauses name it.
         let _ = call;
         self.queue.another::<Hands<E>>(&mut pass.token);
     }
@@ -335,7 +330,6 @@ impl<S: Setup, A: Allocator + Copy> Ether<S, A> {
         ensures pass { pass.new.ether ≡ pass.old.ether }
         ensures known { pass.new.known ≡ with_all_handed pass.old.known E.calls }
     {
-        // for the proof: the clauses name them.
         let _ = (kind, addr, words);
         let _ = bytes;
         self.queue.another::<Hands<E>>(&mut pass.token);
@@ -386,7 +380,6 @@ impl<S: Setup, A: Allocator + Copy> Ether<S, A> {
         ensures pass { pass.new.ether ≡ pass.old.ether }
         ensures known { pass.new.known ≡ with_given pass.old.known E.events }
     {
-        // for the proof: the clauses name them.
         let _ = events;
         self.queue.another::<Gives<E>>(&mut pass.token);
     }

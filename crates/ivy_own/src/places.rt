@@ -84,7 +84,6 @@ fn place_one<'e, S: Setup, H: Home, J: Naming, A: Allocator + Copy>(
     ensures mine { result.1 ≡ listed node [] }
     ensures next { lists.new ≡ node + 1 }
 {
-    // for the proof: the clauses name it.
     let _ = keep;
     let (half, mine) = tie.begin(lists);
     (Owned::new(seated, half), mine)
@@ -159,7 +158,6 @@ pub(crate) fn close_all<S: Setup, H: Home, J: Naming, A: Allocator + Copy, R, G,
     ensures done { IfOk result (λ r. AreClosed (W.done work.now) (map report_of r.0.items) r.1.items) }
     ensures stop { IfErr result IsStop }
 {
-    // for the proof: the clauses name the work.
     let _ = work;
     let WorkedPlaces { seats, all } = worked;
     let mut seats = seats.into_iter();

@@ -75,7 +75,6 @@ impl<'e, S: Setup, A: Allocator + Copy> Seated<'e, S, A> {
     pub fn keeps(&self)
         ensures { KeepsSeat S.config S.programs self.now }
     {
-        // for the proof: what holds of every site.
         let _ = self.site.event_list();
     }
 
@@ -85,7 +84,6 @@ impl<'e, S: Setup, A: Allocator + Copy> Seated<'e, S, A> {
         ensures same { self.new ≡ self.old }
         ensures run { IsInRun S.config S.programs self.new }
     {
-        // for the proof: what holds of every site.
         let _ = self.site.event_list();
         self.ether.learn_run(&mut self.pass);
     }

@@ -116,7 +116,6 @@ pub fn are_written<A: Allocator + Copy>(programs: &[Program<A>])
     ensures { All IsWritten programs.now }
 {
     for program in programs {
-        // for the proof: what holds of every program: it is written down.
         let _ = program.instructions();
     }
 }

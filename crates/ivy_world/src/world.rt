@@ -457,7 +457,6 @@ impl<A: Allocator + Copy> World<A> {
         ensures nodes { length self.now.world.nodes ≡ self.now.config.nodes }
         ensures reached { IsReached self.now }
     {
-        // for the proof: what holds of every value of this type.
         let _ = &self.config;
     }
 
