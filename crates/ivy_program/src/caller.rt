@@ -131,7 +131,6 @@ impl Caller {
     pub(crate) fn output(&self) -> &[u64]
         ensures { result.now ≡ self.now.state.output }
     {
-        // for the proof: the process that it is printed nothing.
         let _ = &self.left;
         &[]
     }
