@@ -69,6 +69,7 @@ fn one_that_ends_is_reported(rt: HostRuntime) {
         panic!(&rt; "the session ends");
     };
     assert_eq!(&rt; report.outs.as_slice(), [0, 1, 7].as_slice());
+    assert_eq!(&rt; report.nodes.nodes(), 3);
     assert_eq!(&rt; report.nodes.history(0).len(), 3);
 }
 
