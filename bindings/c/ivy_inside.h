@@ -219,6 +219,8 @@ void ivy_in_rest(ivy_process *p, uint32_t changes, int64_t until);
 void ivy_in_begin_progress(ivy_process *p);
 /* The lock is not held. */
 void ivy_in_end_progress(ivy_process *p);
+/* A thread of the runtime, for which others wait, is to run as soon as it is woken. */
+void ivy_in_take_short_turns(void);
 /* Something changed. */
 static inline void ivy_in_wake(ivy_process *p) {
   if (p->sleepers) ivy_in_wake_at(&p->changed);

@@ -10,6 +10,8 @@
  *   4. Whoever asks for a page looks at the token first, and waits for those who had drawn it when it looked.
  *   5. Whoever asks for a page for the first time tells all, and waits, in no call, until they have heard it. They hear it while
  *      they have no call in progress. From then on they keep that page, where it may have been written, before each call.
+ *   6. A fault that has its page, and did not fail before, may bring pages behind it, each asked for as any other. It stops where
+ *      somebody waits here, where the token is drawn, and once half of the window of its own page is over.
  *
  * WHY IT IS ENOUGH. A page can be kept only while its node has no call in progress, but by (5) nobody asks then for one that is
  * still to be kept. So a call ends, since what it waits for is served, and who tells is heard. Who did not map the memory does not
@@ -19,13 +21,10 @@
  * those who asked before it drew are finitely many. When they are through it asks alone, so what comes stays: it has the page, or
  * one after another the pages, of its instruction until it ran, if the machine lets it run within LATE_US. So it goes on, and gives
  * the token to the next one. Who only looks waits for those that had drawn before, not for later ones, so it does not wait for ever
- * either.
+ * either. What comes ahead (6) takes a few calls more, each of which ends, and who failed brings nothing.
  *
  * A thread counts a page as gone for nothing where it faults at one of the last MAP_LAST pages that it was given, and ran for
  * less than RAN_NS since. A call that finds its page lent is carried out with the lock held, so none is gone for nothing. */
-#ifndef _GNU_SOURCE
-#define _GNU_SOURCE
-#endif
 #include "ivy_map_inside.h"
 #include <stdlib.h>
 #include <string.h>
@@ -75,7 +74,6 @@ static void open_page(ivy_process *p, uint32_t page) {
   if (!is_common) return;
   it->place = map->opens;
   map->open[map->opens++] = page;
-  map->is_fresh = 1;
 }
 
 static void give_back(ivy_process *p, uint32_t page, uint32_t on) {
@@ -93,6 +91,7 @@ static void take(ivy_process *p, uint32_t page, uint32_t on) {
   if (it->is_open) keep_page(p, page, bytes);
   close_page(map, page);
   if (it->shown > on) it->shown = (uint8_t)on;
+  it->taken = ivy_in_now();
   give_back(p, page, on);
   map->counts.taken++;
 }
@@ -146,6 +145,7 @@ void ivy_in_map_heed(ivy_process *p) {
     map_row *row = &map->asks[i];
     for (uint32_t page = row->first; page < row->first + row->many; page++) {
       map->pages[page].is_common = 1;
+      if (map->pages[page].is_open == OPEN) map->is_fresh = 1;
       if (map->pages[page].is_open) open_page(p, page);
     }
     if (row->many) ivy_in_say_pages(p, i, HEARD, row->first, row->many);
@@ -195,17 +195,23 @@ static uint32_t row_from(ivy_mapping *map, uint32_t page) {
   return many;
 }
 
-static void show(ivy_process *p, uint32_t page, uint32_t to) {
+static uint32_t show(ivy_process *p, uint32_t page, uint32_t to) {
   ivy_mapping *map = p->map;
   map_page *it = &map->pages[page];
   uint32_t many = 1;
-  if (it->shown >= to) return;
+  if (it->shown >= to) return IVY_DONE;
   if (it->shown == IVY_UNLENT) map->image->show(map, page, to);
   else map->image->raise(map, page, many = row_from(map, page));
   for (uint32_t i = 0; i < many; i++) {
     it[i].shown = (uint8_t)to;
     if (to == IVY_TO_WRITE) open_page(p, page + i);
   }
+  return IVY_DONE;
+}
+
+static void hide(ivy_mapping *map, uint32_t page) {
+  if (map->pages[page].shown) map->image->lower(map, page, 1, IVY_UNLENT);
+  map->pages[page].shown = IVY_UNLENT;
 }
 
 /* Lends a page that is here, with the bytes that the node has, and shows it. */
@@ -218,17 +224,15 @@ static uint32_t lend(ivy_process *p, uint32_t page, uint32_t to) {
     ivy_load_block(&p->node, ivy_in_map_address(page), room, MAP_PAGE, &words);
     if (words * 8 != MAP_PAGE) return IVY_NO_PAGE;
     if (it->shown && map->room && memcmp(room, ivy_in_map_at(map->bytes, page), MAP_PAGE)) { /* other bytes stand there still */
-      map->image->lower(map, page, 1, IVY_UNLENT);
-      it->shown = IVY_UNLENT;
+      hide(map, page);
       ivy_load_block(&p->node, ivy_in_map_address(page), room, MAP_PAGE, &words);
     }
   }
   uint32_t status = ivy_lend(&p->node, page, to);
   if (status != IVY_DONE) return status;
   it->lent = (uint8_t)to;
-  show(p, page, to);
   it->until = ivy_in_now() + WINDOW_US;
-  return IVY_DONE;
+  return show(p, page, to);
 }
 
 /* What was asked for is here: it is lent before anything else is delivered. */
@@ -291,15 +295,14 @@ static int offer(ivy_process *p, const uint8_t *bytes, size_t len) {
 }
 
 static void keep_back(ivy_mapping *map, uint32_t peer, const uint8_t *bytes, size_t len) {
-  if (map->many[peer] >= MOST_KEPT) return;
-  kept_string *it = (kept_string *)malloc(sizeof *it + len);
-  if (!it) return;
+  kept_string *it, **end = &map->first[peer];
+  uint32_t many = 0;
+  for (; *end; end = &(*end)->next) many++;
+  if (many >= MOST_KEPT || !(it = (kept_string *)malloc(sizeof *it + len))) return;
   it->next = NULL;
   it->len = len;
   memcpy(it->bytes, bytes, len);
-  *map->end[peer] = it;
-  map->end[peer] = &it->next;
-  map->many[peer]++;
+  *end = it;
   map->kept++;
 }
 
@@ -312,8 +315,6 @@ static void offer_kept(ivy_process *p, uint32_t peer) {
   ivy_mapping *map = p->map;
   for (kept_string *it; (it = map->first[peer]) && offer(p, it->bytes, it->len);) {
     map->first[peer] = it->next;
-    if (!it->next) map->end[peer] = &map->first[peer];
-    map->many[peer]--;
     map->kept--;
     free(it);
   }
@@ -388,18 +389,11 @@ static int64_t ran(uint32_t thread) {
   return (int64_t)t.tv_sec * 1000000000 + t.tv_nsec;
 }
 
-/* The run is over: the next access tells the program so, also where it looks at a copy that nobody ends. */
-static void hide_all(ivy_mapping *map) {
-  for (uint32_t page = ROOT_PAGE; page < map->count; page++) {
-    if (map->pages[page].shown) map->image->lower(map, page, 1, IVY_UNLENT);
-    map->pages[page].shown = IVY_UNLENT;
-  }
-}
-
-/* By the thread of the runtime, while the program goes on: gives the token back where it is time. */
+/* By the thread of the runtime, while the program goes on: gives the token back where it is time. Where the run is over all is hidden:
+ * the next access tells the program so, also where it looks at a copy that nobody ends. */
 void ivy_in_map_tick(ivy_process *p) {
   ivy_mapping *map = p->map;
-  if (p->dead && !map->is_hidden) hide_all(map);
+  for (uint32_t page = ROOT_PAGE; p->dead && !map->is_hidden && page < map->count; page++) hide(map, page);
   map->is_hidden = p->dead != 0;
   if (!map->has_token || p->in_call || p->error) return;
   if (map->holder && ran(map->holder->thread) - map->holder->ran <= RAN_NS && ivy_in_now() - map->shown_at < LATE_US) return;
@@ -441,15 +435,12 @@ static int has(const ivy_mapping *map, uint32_t page, uint32_t to) { return map-
 
 uint32_t ivy_in_map_acquire(ivy_process *p, uint32_t page, uint32_t to, map_thread *who) {
   ivy_mapping *map = p->map;
+  map->is_fresh = 1; /* the program went on since all was kept */
   for (uint32_t failed = who ? who->failed : 0; !p->error; failed++) {
     if (!has(map, page, to)) lend(p, page, to);
-    if (has(map, page, to)) {
-      show(p, page, to);
-      return IVY_DONE;
-    }
+    if (has(map, page, to)) return show(p, page, to);
     if (map->pages[page].lent && who && !p->shared) give_back(p, page, IVY_UNLENT); /* who could see it waits here */
     else if (map->pages[page].lent) take(p, page, IVY_UNLENT);
-    map->is_fresh = 1;
     map->waiting = who;
     map->waits++;
     ivy_in_map_pump(p);
@@ -461,6 +452,54 @@ uint32_t ivy_in_map_acquire(ivy_process *p, uint32_t page, uint32_t to, map_thre
     if (status != IVY_DONE && status != IVY_NO_PAGE && status != IVY_MEMORY) return status;
   }
   return p->error;
+}
+
+/* ---- Pages that come ahead: where faults of one kind run upwards, one brings those behind it too, by a call each -------------- */
+
+/* So many at most. A page comes so once where the run has twice as many; where the program went on past it, as often as this says. */
+enum { MOST_BROUGHT = 8, UNTRIED = 0, TRIED, KNOWN = TRIED + 8 };
+
+/* Not where somebody waits for a page, as far as is known here, or for the token, where one comes and goes, or where the program has
+ * waited for half of the window of its own; nor what others took just now, or use by threads that go on meanwhile. */
+static int may_bring(ivy_process *p, uint32_t page, uint32_t to, int64_t last) {
+  ivy_mapping *map = p->map;
+  int64_t now = ivy_in_now();
+  if (page >= map->count || has(map, page, to) || now - map->pages[page].taken < WINDOW_US) return 0;
+  if (p->error || p->shared || map->kept || map->held || map->waiting->failed || map->has_token || now > last) return 0;
+  const tickets found = look(p);
+  return found.drawn == found.served;
+}
+
+static void bring(ivy_process *p, uint32_t page, uint32_t to) {
+  map_page *it = &p->map->pages[page];
+  p->map->counts.ahead++;
+  if (lend(p, page, to) == IVY_DONE) return;
+  if (it->lent) give_back(p, page, IVY_UNLENT);
+  ask(p, page, to);
+  if (!it->lent) hide(p->map, page);
+}
+
+/* A fault had its page. Where that is right behind those that came ahead, these were used. */
+static void bring_row(ivy_process *p, uint32_t page, uint32_t to, map_thread *who) {
+  ivy_mapping *map = p->map;
+  map_run *run = &map->runs[to];
+  int is_next = page == run->next;
+  for (uint32_t i = 0; is_next && i <= run->ahead; i++) map->pages[page - i].chances[to] = KNOWN;
+  run->many = is_next ? run->many + run->ahead + 1 : 1;
+  uint32_t tries = run->many / 2;
+  run->next = page + 1;
+  map->waiting = who;
+  map->waits++;
+  while (run->next - page <= MOST_BROUGHT && may_bring(p, run->next, to, map->pages[page].until - WINDOW_US / 2)) {
+    uint8_t *chances = &map->pages[run->next].chances[to];
+    if (*chances == TRIED || (*chances == UNTRIED && !tries)) break;
+    if (*chances == UNTRIED) *chances = TRIED, tries--;
+    else --*chances;
+    bring(p, run->next++, to);
+  }
+  map->waits--;
+  map->waiting = NULL;
+  run->ahead = run->next - page - 1;
 }
 
 /* The thread of a fault. Whether it ran since it had its last page. */
@@ -477,24 +516,27 @@ static map_thread *thread_of(ivy_process *p, uint32_t thread, uint32_t page) {
   return who;
 }
 
-/* It has one page more, and goes on. */
-static void go_on_with(ivy_mapping *map, map_thread *who, uint32_t page) {
-  if (!is_of(who, page)) {
-    memmove(who->last + 1, who->last, sizeof who->last - sizeof who->last[0]);
-    who->last[0] = page;
-    if (who->many < MAP_LAST) who->many++;
-  }
-  map->shown_at = ivy_in_now();
-  if (!map->image->wait) who->ran = ran(who->thread); /* else it did not run meanwhile */
+/* It has one page more. */
+static void remember(map_thread *who, uint32_t page) {
+  if (is_of(who, page)) return;
+  memmove(who->last + 1, who->last, sizeof who->last - sizeof who->last[0]);
+  who->last[0] = page;
+  if (who->many < MAP_LAST) who->many++;
 }
 
 void ivy_in_map_fault(ivy_process *p, uint32_t page, uint32_t to, uint32_t thread) {
+  ivy_mapping *map = p->map;
   uint32_t status = ivy_in_enter(p);
-  p->map->counts.faults++;
+  map->counts.faults++;
   if (status == IVY_DONE) {
     map_thread *who = thread_of(p, thread, page);
+    int had = has(map, page, to);
     status = ivy_in_map_acquire(p, page, to, who);
-    go_on_with(p->map, who, page);
+    remember(who, page);
+    if (!had) bring_row(p, page, to, who);
+    if (p->error) status = p->error;
+    map->shown_at = ivy_in_now();
+    if (!map->image->wait) who->ran = ran(thread); /* else it did not run meanwhile */
   }
   if (status != IVY_DONE) p->exits = 0;
   ivy_in_leave(p);

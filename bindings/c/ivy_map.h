@@ -54,7 +54,7 @@ void ivy_map_lock_release(ivy_process *process, uint32_t lock);
 
 /* What was done so far: faults; pages that were asked for, of which so many were gone when they came; pages that were taken; so
  * often the token was had; pages that were kept before a call. */
-typedef struct ivy_map_counts { uint64_t faults, asked, gone, taken, tokens, kept; } ivy_map_counts;
+typedef struct ivy_map_counts { uint64_t faults, asked, gone, taken, tokens, kept, ahead; } ivy_map_counts;
 ivy_map_counts ivy_map_counts_of(ivy_process *process);
 
 #ifdef __cplusplus

@@ -1,7 +1,4 @@
 /* Mapped memory: what a program calls, and calls of words and rows on pages that may be lent. Not proved. */
-#ifndef _GNU_SOURCE
-#define _GNU_SOURCE
-#endif
 #include "ivy_map_inside.h"
 #include <stdlib.h>
 #include <string.h>
@@ -108,13 +105,12 @@ static uint32_t refuse(const ivy_process *p, uint32_t status, const char *why) {
 }
 
 static uint32_t may_map(const ivy_process *p) {
-  int is_alone = p->all == 1u << p->me;
   if (p->map) return refuse(p, IVY_BAD_ARGUMENT, "it is mapped already");
   if (p->log) return refuse(p, IVY_BAD_ARGUMENT, "the process writes a log, which has a line for each call");
   if (p->config.page_size != MAP_PAGE) return refuse(p, IVY_BAD_CONFIG, "pages have not 4096 bytes (IVY_PAGE_SIZE)");
   if (sysconf(_SC_PAGESIZE) != MAP_PAGE) return refuse(p, IVY_BAD_CONFIG, "pages of this machine have not 4096 bytes");
   if (p->config.pages < MAP_LEAST) return refuse(p, IVY_BAD_CONFIG, "there are less than 16 pages (IVY_PAGES)");
-  if (!p->has_thread && !is_alone) return refuse(p, IVY_BAD_ARGUMENT, "progress is made in calls alone (IVY_PROGRESS)");
+  if (!p->has_thread && p->all != 1u << p->me) return refuse(p, IVY_BAD_ARGUMENT, "progress is made in calls alone (IVY_PROGRESS)");
   return IVY_DONE;
 }
 
@@ -150,11 +146,9 @@ static void end_mapping(ivy_mapping *map) {
 static uint32_t begin_mapping(ivy_process *p) {
   ivy_mapping *map = (ivy_mapping *)calloc(1, sizeof *map);
   if (!map) return IVY_MEMORY;
-  map->process = p;
   map->count = p->config.pages;
   map->pages = (map_page *)calloc(map->count, sizeof *map->pages);
   map->open = (uint32_t *)calloc(map->count, sizeof *map->open);
-  for (uint32_t i = 0; i < MOST_NODES; i++) map->end[i] = &map->first[i];
   p->map = map;
   if (map->pages && map->open && ivy_in_map_catch(p)) {
     map->has_thread = map->image->wait && !pthread_create(&map->thread, NULL, map->image->wait, p);
@@ -224,9 +218,8 @@ void **ivy_map_root(ivy_process *p) { return (void **)(void *)(p->map->base + iv
 /* Behind a call, by which all was kept: the only thread of a program writes nothing until this is over, and needs no page. */
 static void wait_for(ivy_process *p, uint32_t width, uint64_t place, ivy_comparison comparison, uint64_t number) {
   uint64_t seen;
-  int is_only;
   ivy_in_lock(p);
-  is_only = !p->shared;
+  int is_only = !p->shared;
   p->map->waits += is_only;
   ivy_in_unlock(p);
   ivy_wait_until(p, width, place, comparison, number, -1, &seen);

@@ -1,7 +1,4 @@
 /* Images of mapped memory: by protection, with a signal for a fault, and by userfaultfd. Not proved. */
-#ifndef _GNU_SOURCE
-#define _GNU_SOURCE
-#endif
 #include "ivy_map_inside.h"
 #include <errno.h>
 #include <fcntl.h>
@@ -24,17 +21,10 @@ static size_t size_of(const ivy_mapping *map) { return (size_t)map->count * MAP_
 static uint32_t page_at(uintptr_t at) { return (uint32_t)((at - MAP_BASE) / MAP_PAGE); }
 
 /* A userfaultfd of some bytes, or -1. */
-static int faults_of(void *at, size_t len, int flags, uint64_t features, uint64_t mode) {
-  struct uffdio_api api;
-  struct uffdio_register all;
-  int file = (int)syscall(SYS_userfaultfd, O_CLOEXEC | O_NONBLOCK | flags);
-  memset(&api, 0, sizeof api);
-  memset(&all, 0, sizeof all);
-  api.api = UFFD_API;
-  api.features = features;
-  all.range.start = (uintptr_t)at;
-  all.range.len = len;
-  all.mode = mode;
+static int faults_of(void *at, size_t len) {
+  struct uffdio_api api = { UFFD_API, UFFD_FEATURE_PAGEFAULT_FLAG_WP | UFFD_FEATURE_THREAD_ID, 0 };
+  struct uffdio_register all = { { (uintptr_t)at, len }, UFFDIO_REGISTER_MODE_MISSING | UFFDIO_REGISTER_MODE_WP, 0 };
+  int file = (int)syscall(SYS_userfaultfd, O_CLOEXEC | O_NONBLOCK);
   if (file < 0 || (!ioctl(file, UFFDIO_API, &api) && !ioctl(file, UFFDIO_REGISTER, &all))) return file;
   close(file);
   return -1;
@@ -89,8 +79,7 @@ static int protection_open(ivy_mapping *map) {
   return 1;
 }
 
-static const ivy_image by_protection = { "protection",     protection_open,  protection_show,
-                                          protection_raise, protection_lower, NULL };
+static const ivy_image by_protection = { "protection", protection_open, protection_show, protection_raise, protection_lower, NULL };
 
 /* ---- By userfaultfd: pages are put there, and taken away -------------------------------------------------------------------- */
 
@@ -100,22 +89,16 @@ static void order(ivy_mapping *map, unsigned long what, void *argument) {
     if (errno != EAGAIN && errno != EINTR) abort();
 }
 
+/* Who waits for a page is woken by `userfaultfd_wait` alone, once all that the fault brings is there. */
 static void write_protect(ivy_mapping *map, uint32_t page, uint32_t many, int is_on) {
-  struct uffdio_writeprotect it;
-  memset(&it, 0, sizeof it);
-  it.range.start = (uintptr_t)ivy_in_map_at(map->base, page);
-  it.range.len = (uint64_t)many * MAP_PAGE;
-  it.mode = is_on ? UFFDIO_WRITEPROTECT_MODE_WP : 0;
+  struct uffdio_writeprotect it = { { (uintptr_t)ivy_in_map_at(map->base, page), (uint64_t)many * MAP_PAGE },
+                                    is_on ? UFFDIO_WRITEPROTECT_MODE_WP : UFFDIO_WRITEPROTECT_MODE_DONTWAKE };
   order(map, UFFDIO_WRITEPROTECT, &it);
 }
 
 static void userfaultfd_show(ivy_mapping *map, uint32_t page, uint32_t to) {
-  struct uffdio_copy it;
-  memset(&it, 0, sizeof it);
-  it.dst = (uintptr_t)ivy_in_map_at(map->base, page);
-  it.src = (uintptr_t)map->room;
-  it.len = MAP_PAGE;
-  it.mode = to == IVY_TO_READ ? UFFDIO_COPY_MODE_WP : 0;
+  uint64_t mode = UFFDIO_COPY_MODE_DONTWAKE | (to == IVY_TO_READ ? UFFDIO_COPY_MODE_WP : 0);
+  struct uffdio_copy it = { (uintptr_t)ivy_in_map_at(map->base, page), (uintptr_t)map->room, MAP_PAGE, mode, 0 };
   order(map, UFFDIO_COPY, &it);
 }
 
@@ -136,6 +119,7 @@ static void *userfaultfd_wait(void *process) {
   ivy_mapping *map = p->map;
   struct uffd_msg said;
   struct pollfd one = { map->faults, POLLIN, 0 };
+  ivy_in_take_short_turns();
   while (!__atomic_load_n(&map->ending, __ATOMIC_RELAXED)) {
     if (poll(&one, 1, WAIT_MS) <= 0 || read(map->faults, &said, sizeof said) != sizeof said) continue;
     if (said.event != UFFD_EVENT_PAGEFAULT) continue;
@@ -155,8 +139,7 @@ static int userfaultfd_open(ivy_mapping *map) {
   map->room = (uint8_t *)malloc(MAP_PAGE);
   map->base = map->bytes = (uint8_t *)MAP_BASE;
   if (map->room && !mprotect(from, len, PROT_READ | PROT_WRITE) && !madvise(from, len, MADV_NOHUGEPAGE))
-    map->faults = faults_of(from, len, 0, UFFD_FEATURE_PAGEFAULT_FLAG_WP | UFFD_FEATURE_THREAD_ID,
-                            UFFDIO_REGISTER_MODE_MISSING | UFFDIO_REGISTER_MODE_WP);
+    map->faults = faults_of(from, len);
   if (map->faults >= 0) return 1;
   mprotect(from, len, PROT_NONE);
   free(map->room);
@@ -164,8 +147,7 @@ static int userfaultfd_open(ivy_mapping *map) {
   return 0;
 }
 
-static const ivy_image by_userfaultfd = { "userfaultfd",     userfaultfd_open,  userfaultfd_show,
-                                           userfaultfd_raise, userfaultfd_lower, userfaultfd_wait };
+static const ivy_image by_userfaultfd = { "userfaultfd", userfaultfd_open, userfaultfd_show, userfaultfd_raise, userfaultfd_lower, userfaultfd_wait };
 
 /* ---- Signals ------------------------------------------------------------------------------------------------------------- */
 
@@ -205,15 +187,11 @@ static void on_fault(int number, siginfo_t *info, void *context) {
   int kept = errno;
   ivy_process *p = mapped;
   uintptr_t at = (uintptr_t)info->si_addr;
-  if (!p || info->si_code <= 0 || at < MAP_BASE || at >= MAP_BASE + (uintptr_t)MOST_PAGES * MAP_PAGE) {
-    hand_on(number, info, context);
-  } else {
-    uint32_t page = page_at(at);
-    if (getpid() != p->map->child_of || p->map->image->wait || !ivy_in_map_has(p->map, page))
-      tell_nothing(p, at, register_of(context, REG_RIP));
-    else
-      ivy_in_map_fault(p, page, register_of(context, REG_ERR) & 2 ? IVY_TO_WRITE : IVY_TO_READ, (uint32_t)gettid());
-  }
+  uint32_t to = register_of(context, REG_ERR) & 2 ? IVY_TO_WRITE : IVY_TO_READ;
+  if (!p || info->si_code <= 0 || at < MAP_BASE || at >= MAP_BASE + (uintptr_t)MOST_PAGES * MAP_PAGE) hand_on(number, info, context);
+  else if (getpid() != p->map->child_of || p->map->image->wait || !ivy_in_map_has(p->map, page_at(at)))
+    tell_nothing(p, at, register_of(context, REG_RIP));
+  else ivy_in_map_fault(p, page_at(at), to, (uint32_t)gettid());
   errno = kept;
 }
 

@@ -1,6 +1,9 @@
 /* ivy_map_inside.h: what the files of mapped memory share. No program includes it. */
 #ifndef IVY_MAP_INSIDE_H
 #define IVY_MAP_INSIDE_H
+#ifndef _GNU_SOURCE
+#define _GNU_SOURCE
+#endif
 #include "ivy_inside.h"
 #include "ivy_map.h"
 enum { MAP_PAGE = 4096, MAP_LEAST = 16 };
@@ -30,10 +33,14 @@ typedef struct {
  * they know that this process may; and whether it is open: it may have been written since the node had its bytes. Then it is in a
  * list, at a place, if others may ask for it. */
 enum { CLOSED, OPEN, LISTED };
-typedef struct { int64_t until; uint32_t place; uint8_t lent, shown, is_common, is_told, is_open; } map_page;
+typedef struct { int64_t until, taken; uint32_t place; uint8_t lent, shown, is_common, is_told, is_open, chances[3]; } map_page;
 
 /* Pages in a row: the first, and how many. */
 typedef struct { uint32_t first, many; } map_row;
+
+/* Faults of one kind that run upwards: at which page the next one would be, so many pages they are, and so many of the last ones
+ * came ahead. */
+typedef struct { uint32_t next, many, ahead; } map_run;
 
 /* A thread that faults: the pages that it had last for what it does, how often they were gone before it could go on, and what
  * time of a processor it had taken when it got the last one. */
@@ -44,7 +51,6 @@ typedef struct { uint32_t thread, many, failed, last[MAP_LAST]; int64_t ran; } m
 typedef struct kept_string { struct kept_string *next; size_t len; uint8_t bytes[1]; } kept_string;
 
 struct ivy_mapping {
-  ivy_process *process;
   const ivy_image *image;
   uint8_t *base;  /* what the program sees */
   uint8_t *bytes; /* the same bytes, for the runtime */
@@ -54,15 +60,15 @@ struct ivy_mapping {
   uint32_t *open, opens; /* the pages that are listed */
   map_row opened, told;  /* how many were opened last in a row, at most, and the page behind them; the same of those told of */
   int faults;            /* the descriptor of userfaultfd */
-  int child_of, has_thread, ending;
+  int child_of, has_thread, ending, is_hidden;
   pthread_t thread;
 
-  uint32_t met, members, known; /* who has mapped the memory; who is told what is asked for; who knows that of this process */
-  uint32_t heard;               /* who heard what is told now */
+  /* Who has mapped the memory; who is told what is asked for; who knows that of this process; who heard what is told now. */
+  uint32_t met, members, known, heard;
   map_row asks[MOST_NODES];     /* what each may ask for, which is not heeded yet */
 
-  kept_string *first[MOST_NODES], **end[MOST_NODES];
-  uint32_t many[MOST_NODES], kept; /* so many strings of each peer, and of all */
+  kept_string *first[MOST_NODES];
+  uint32_t kept;                   /* so many of all */
   uint32_t held;                   /* peers of which the node holds a string that is due */
   int gave;                        /* a page was given back, and nobody went on since */
   int64_t due;                     /* when the first of them may take its page */
@@ -72,7 +78,7 @@ struct ivy_mapping {
   map_thread *waiting;  /* who waits for it, if that is an instruction */
   int waits, is_fresh;  /* so many waits, before which all is kept, but for what is listed since */
   map_thread threads[MAP_THREADS];
-  int is_hidden;
+  map_run runs[3]; /* those that load, and those that store */
   int has_token, lowers; /* it has the token; pages are lowered before a call, since the program goes on meanwhile */
   map_thread *holder;
   int64_t shown_at;     /* when it was given its last page */
