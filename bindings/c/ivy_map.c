@@ -82,15 +82,34 @@ static void give_back(ivy_process *p, uint32_t page, uint32_t on) {
   p->map->gave = 1;
 }
 
-/* Takes a page from the program, but for what it may be lent for then: first from its eyes, then its bytes, then the mark. */
+/* The image shows no more of a page. Gives where its bytes stand then. */
+static const uint8_t *lower(ivy_mapping *map, uint32_t page, uint32_t on) {
+  const uint8_t *bytes = ivy_in_map_at(map->bytes, page);
+  if (map->pages[page].shown > on) bytes = map->image->lower(map, page, 1, on);
+  if (map->pages[page].shown > on) map->pages[page].shown = (uint8_t)on;
+  return bytes;
+}
+
+/* A page that was taken while nobody could look is lowered once the string that took it was served. */
+static void lower_late(ivy_mapping *map) {
+  if (map->late) lower(map, map->late, map->late_on);
+  map->late = 0;
+}
+
+/* While the only thread of the program waits, with the lock free, it cannot touch a page before who has the lock now frees it. */
+static int is_still(const ivy_process *p) { return (p->map->waits || p->waits) && !p->shared && !p->map->lowers; }
+
+/* Takes a page from the program, but for what it may be lent for then: first from its eyes, then its bytes, then the mark. Where it
+ * cannot look now, its eyes are last. */
 static void take(ivy_process *p, uint32_t page, uint32_t on) {
   ivy_mapping *map = p->map;
   map_page *it = &map->pages[page];
   const uint8_t *bytes = ivy_in_map_at(map->bytes, page);
-  if (it->shown > on) bytes = map->image->lower(map, page, 1, on);
+  lower_late(map);
+  if (!is_still(p)) bytes = lower(map, page, on);
+  else map->late = page, map->late_on = on;
   if (it->is_open) keep_page(p, page, bytes);
   close_page(map, page);
-  if (it->shown > on) it->shown = (uint8_t)on;
   it->taken = ivy_in_now();
   give_back(p, page, on);
   map->counts.taken++;
@@ -199,19 +218,23 @@ static uint32_t show(ivy_process *p, uint32_t page, uint32_t to) {
   ivy_mapping *map = p->map;
   map_page *it = &map->pages[page];
   uint32_t many = 1;
-  if (it->shown >= to) return IVY_DONE;
   if (it->shown == IVY_UNLENT) map->image->show(map, page, to);
-  else map->image->raise(map, page, many = row_from(map, page));
+  else if (it->shown < to) map->image->raise(map, page, many = row_from(map, page));
   for (uint32_t i = 0; i < many; i++) {
-    it[i].shown = (uint8_t)to;
+    if (it[i].shown < to) it[i].shown = (uint8_t)to;
     if (to == IVY_TO_WRITE) open_page(p, page + i);
   }
   return IVY_DONE;
 }
 
-static void hide(ivy_mapping *map, uint32_t page) {
-  if (map->pages[page].shown) map->image->lower(map, page, 1, IVY_UNLENT);
-  map->pages[page].shown = IVY_UNLENT;
+/* What is asked for is shown while it comes, where the image needs no bytes for that, and nobody can look until it is here. */
+static void show_early(ivy_process *p, uint32_t page, uint32_t to) {
+  ivy_mapping *map = p->map;
+  map_page *it = &map->pages[page];
+  if (!is_still(p) || it->shown >= to || (it->shown == IVY_UNLENT && map->room)) return;
+  if (it->shown == IVY_UNLENT) map->image->show(map, page, to);
+  else map->image->raise(map, page, 1);
+  it->shown = (uint8_t)to;
 }
 
 /* Lends a page that is here, with the bytes that the node has, and shows it. */
@@ -224,7 +247,7 @@ static uint32_t lend(ivy_process *p, uint32_t page, uint32_t to) {
     ivy_load_block(&p->node, ivy_in_map_address(page), room, MAP_PAGE, &words);
     if (words * 8 != MAP_PAGE) return IVY_NO_PAGE;
     if (it->shown && map->room && memcmp(room, ivy_in_map_at(map->bytes, page), MAP_PAGE)) { /* other bytes stand there still */
-      hide(map, page);
+      lower(map, page, IVY_UNLENT);
       ivy_load_block(&p->node, ivy_in_map_address(page), room, MAP_PAGE, &words);
     }
   }
@@ -261,8 +284,7 @@ static int may_take(ivy_process *p, uint32_t page) {
   ivy_mapping *map = p->map;
   int64_t until = map->pages[page].until;
   if (p->pending && (map->pages[page].is_open == OPEN || (map->pages[page].is_open && ivy_in_is_over(p)))) return 0;
-  int waits = (map->waits || p->waits) && !p->shared && !map->lowers;
-  if ((waits && !is_of(map->waiting, page)) || ivy_in_now() >= until) return 1;
+  if ((is_still(p) && !is_of(map->waiting, page)) || ivy_in_now() >= until) return 1;
   if (!map->due || until < map->due) map->due = until;
   return 0;
 }
@@ -276,8 +298,9 @@ static void go_on(ivy_process *p, uint32_t peer) {
     take(p, page, on);
   }
   map->held = status == IVY_WANTED ? map->held | 1u << peer : map->held & ~(1u << peer);
-  take_reply(p);
   ivy_in_send_frames(p);
+  lower_late(map);
+  take_reply(p);
 }
 
 /* Gives a string to the node, once it may have the page that it would take. Whether it has it. */
@@ -288,6 +311,7 @@ static int offer(ivy_process *p, const uint8_t *bytes, size_t len) {
     if (!may_take(p, page)) return 0;
     take(p, page, on);
     status = ivy_in_deliver(p, bytes, len);
+    lower_late(p->map);
   }
   take_reply(p);
   if (status == IVY_DONE) go_on(p, bytes[SOURCE]);
@@ -393,7 +417,7 @@ static int64_t ran(uint32_t thread) {
  * the next access tells the program so, also where it looks at a copy that nobody ends. */
 void ivy_in_map_tick(ivy_process *p) {
   ivy_mapping *map = p->map;
-  for (uint32_t page = ROOT_PAGE; p->dead && !map->is_hidden && page < map->count; page++) hide(map, page);
+  for (uint32_t page = ROOT_PAGE; p->dead && !map->is_hidden && page < map->count; page++) lower(map, page, IVY_UNLENT);
   map->is_hidden = p->dead != 0;
   if (!map->has_token || p->in_call || p->error) return;
   if (map->holder && ran(map->holder->thread) - map->holder->ran <= RAN_NS && ivy_in_now() - map->shown_at < LATE_US) return;
@@ -423,6 +447,7 @@ static uint32_t ask(ivy_process *p, uint32_t page, uint32_t to) {
     map->page = page;
     map->to = to;
     ivy_in_send_frames(p);
+    show_early(p, page, to);
     while (map->asking && !ivy_in_is_over(p)) ivy_in_wait(p);
     status = map->asking ? p->error : map->answer;
   }
@@ -435,8 +460,9 @@ static int has(const ivy_mapping *map, uint32_t page, uint32_t to) { return map-
 
 uint32_t ivy_in_map_acquire(ivy_process *p, uint32_t page, uint32_t to, map_thread *who) {
   ivy_mapping *map = p->map;
+  uint32_t status = IVY_DONE;
   map->is_fresh = 1; /* the program went on since all was kept */
-  for (uint32_t failed = who ? who->failed : 0; !p->error; failed++) {
+  for (uint32_t failed = who ? who->failed : 0; !p->error && (status == IVY_DONE || status == IVY_NO_PAGE || status == IVY_MEMORY); failed++) {
     if (!has(map, page, to)) lend(p, page, to);
     if (has(map, page, to)) return show(p, page, to);
     if (map->pages[page].lent && who && !p->shared) give_back(p, page, IVY_UNLENT); /* who could see it waits here */
@@ -445,13 +471,14 @@ uint32_t ivy_in_map_acquire(ivy_process *p, uint32_t page, uint32_t to, map_thre
     map->waits++;
     ivy_in_map_pump(p);
     if (failed >= FAILURES && !map->has_token) take_token(p, who);
-    if (!map->has_token) wait_for_ticket(p, look(p).drawn);
-    uint32_t status = p->error ? p->error : ask(p, page, to);
+    const tickets found = look(p);
+    if (!map->has_token && found.drawn != found.served) wait_for_ticket(p, found.drawn);
+    if (!p->error) status = ask(p, page, to);
     map->waits--;
     map->waiting = NULL;
-    if (status != IVY_DONE && status != IVY_NO_PAGE && status != IVY_MEMORY) return status;
   }
-  return p->error;
+  if (!map->pages[page].lent) lower(map, page, IVY_UNLENT);
+  return p->error ? p->error : status;
 }
 
 /* ---- Pages that come ahead: where faults of one kind run upwards, one brings those behind it too, by a call each -------------- */
@@ -476,7 +503,7 @@ static void bring(ivy_process *p, uint32_t page, uint32_t to) {
   if (lend(p, page, to) == IVY_DONE) return;
   if (it->lent) give_back(p, page, IVY_UNLENT);
   ask(p, page, to);
-  if (!it->lent) hide(p->map, page);
+  if (!it->lent) lower(p->map, page, IVY_UNLENT);
 }
 
 /* A fault had its page. Where that is right behind those that came ahead, these were used. */

@@ -106,9 +106,10 @@ static void userfaultfd_raise(ivy_mapping *map, uint32_t page, uint32_t many) { 
 
 static const uint8_t *userfaultfd_lower(ivy_mapping *map, uint32_t page, uint32_t many, uint32_t on) {
   uint8_t *at = ivy_in_map_at(map->base, page);
-  if (map->pages[page].shown == IVY_TO_WRITE) write_protect(map, page, many, 1);
+  int is_kept = page == map->late; /* its bytes are not needed any more */
+  if (map->pages[page].shown == IVY_TO_WRITE && (on || !is_kept)) write_protect(map, page, many, 1);
   if (on == IVY_TO_READ) return at;
-  memcpy(map->room, at, MAP_PAGE);
+  if (!is_kept) memcpy(map->room, at, MAP_PAGE);
   if (madvise(at, MAP_PAGE, MADV_DONTNEED)) abort();
   return map->room;
 }

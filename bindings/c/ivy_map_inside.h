@@ -71,6 +71,7 @@ struct ivy_mapping {
   uint32_t kept;                   /* so many of all */
   uint32_t held;                   /* peers of which the node holds a string that is due */
   int gave;                        /* a page was given back, and nobody went on since */
+  uint32_t late, late_on;          /* a page that is to be lowered still, if there is one, to what */
   int64_t due;                     /* when the first of them may take its page */
 
   int asking;           /* a page is asked for, which is lent once it comes: */
