@@ -173,8 +173,7 @@ uint32_t ivy_map(ivy_process *p) {
 
 void ivy_in_map_end(ivy_process *p) {
   ivy_mapping *map = p->map;
-  __atomic_store_n(&map->ending, 1, __ATOMIC_RELAXED);
-  if (map->has_thread) pthread_join(map->thread, NULL);
+  if (map->has_thread && !pthread_cancel(map->thread)) pthread_join(map->thread, NULL);
   ivy_in_map_close(map);
   p->map = NULL;
   end_mapping(map);

@@ -3,7 +3,6 @@
 #include <errno.h>
 #include <fcntl.h>
 #include <linux/userfaultfd.h>
-#include <poll.h>
 #include <signal.h>
 #include <stdlib.h>
 #include <string.h>
@@ -15,7 +14,7 @@
 
 /* The address in all processes, and how much of it nobody else has, whatever the number of pages. */
 #define MAP_BASE ((uintptr_t)0x200000000000u)
-enum { MOST_PAGES = 65536 + 1, WAIT_MS = 100 };
+enum { MOST_PAGES = 65536 + 1 };
 
 static size_t size_of(const ivy_mapping *map) { return (size_t)map->count * MAP_PAGE; }
 static uint32_t page_at(uintptr_t at) { return (uint32_t)((at - MAP_BASE) / MAP_PAGE); }
@@ -24,7 +23,7 @@ static uint32_t page_at(uintptr_t at) { return (uint32_t)((at - MAP_BASE) / MAP_
 static int faults_of(void *at, size_t len) {
   struct uffdio_api api = { UFFD_API, UFFD_FEATURE_PAGEFAULT_FLAG_WP | UFFD_FEATURE_THREAD_ID, 0 };
   struct uffdio_register all = { { (uintptr_t)at, len }, UFFDIO_REGISTER_MODE_MISSING | UFFDIO_REGISTER_MODE_WP, 0 };
-  int file = (int)syscall(SYS_userfaultfd, O_CLOEXEC | O_NONBLOCK);
+  int file = (int)syscall(SYS_userfaultfd, O_CLOEXEC);
   if (file < 0 || (!ioctl(file, UFFDIO_API, &api) && !ioctl(file, UFFDIO_REGISTER, &all))) return file;
   close(file);
   return -1;
@@ -114,16 +113,18 @@ static const uint8_t *userfaultfd_lower(ivy_mapping *map, uint32_t page, uint32_
   return map->room;
 }
 
-/* Faults of all threads of the program, and of the kernel where it has a pointer of theirs. */
+/* Faults of all threads of the program, and of the kernel where it has a pointer of theirs, until the thread is cancelled. */
 static void *userfaultfd_wait(void *process) {
   ivy_process *p = (ivy_process *)process;
   ivy_mapping *map = p->map;
   struct uffd_msg said;
-  struct pollfd one = { map->faults, POLLIN, 0 };
+  ssize_t got;
   ivy_in_take_short_turns();
-  while (!__atomic_load_n(&map->ending, __ATOMIC_RELAXED)) {
-    if (poll(&one, 1, WAIT_MS) <= 0 || read(map->faults, &said, sizeof said) != sizeof said) continue;
-    if (said.event != UFFD_EVENT_PAGEFAULT) continue;
+  for (;;) {
+    pthread_setcancelstate(PTHREAD_CANCEL_ENABLE, NULL);
+    got = read(map->faults, &said, sizeof said);
+    pthread_setcancelstate(PTHREAD_CANCEL_DISABLE, NULL);
+    if (got != sizeof said || said.event != UFFD_EVENT_PAGEFAULT) continue;
     uint64_t how = said.arg.pagefault.flags, at = said.arg.pagefault.address & ~(uint64_t)(MAP_PAGE - 1);
     struct uffdio_range range = { at, MAP_PAGE };
     ivy_in_map_fault(p, page_at(at),

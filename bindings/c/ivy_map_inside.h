@@ -25,7 +25,7 @@ typedef struct {
   /* They may no more, on any processor, than be loaded; or it is one, not even that. Then gives where its bytes stand, until
    * another call. */
   const uint8_t *(*lower)(ivy_mapping *map, uint32_t page, uint32_t many, uint32_t on);
-  /* Waits for faults and serves them, until it ends; null where a signal tells of them. */
+  /* Waits for faults and serves them, until it is cancelled; null where a signal tells of them. */
   void *(*wait)(void *process);
 } ivy_image;
 
@@ -60,7 +60,7 @@ struct ivy_mapping {
   uint32_t *open, opens; /* the pages that are listed */
   map_row opened, told;  /* how many were opened last in a row, at most, and the page behind them; the same of those told of */
   int faults;            /* the descriptor of userfaultfd */
-  int child_of, has_thread, ending, is_hidden;
+  int child_of, has_thread, is_hidden;
   pthread_t thread;
 
   /* Who has mapped the memory; who is told what is asked for; who knows that of this process; who heard what is told now. */
