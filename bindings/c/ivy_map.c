@@ -104,10 +104,9 @@ static int is_still(const ivy_process *p) { return (p->map->waits || p->waits) &
 static void take(ivy_process *p, uint32_t page, uint32_t on) {
   ivy_mapping *map = p->map;
   map_page *it = &map->pages[page];
-  const uint8_t *bytes = ivy_in_map_at(map->bytes, page);
   lower_late(map);
-  if (!is_still(p)) bytes = lower(map, page, on);
-  else map->late = page, map->late_on = on;
+  if (is_still(p)) map->late = page, map->late_on = on;
+  const uint8_t *bytes = map->late ? ivy_in_map_at(map->bytes, page) : lower(map, page, on);
   if (it->is_open) keep_page(p, page, bytes);
   close_page(map, page);
   it->taken = ivy_in_now();
@@ -222,20 +221,11 @@ static uint32_t show(ivy_process *p, uint32_t page, uint32_t to) {
   else if (it->shown < to) map->image->raise(map, page, many = row_from(map, page));
   for (uint32_t i = 0; i < many; i++) {
     if (it[i].shown < to) it[i].shown = (uint8_t)to;
-    if (to == IVY_TO_WRITE) open_page(p, page + i);
+    if (to == IVY_TO_WRITE && it[i].lent == to) open_page(p, page + i);
   }
   return IVY_DONE;
 }
 
-/* What is asked for is shown while it comes, where the image needs no bytes for that, and nobody can look until it is here. */
-static void show_early(ivy_process *p, uint32_t page, uint32_t to) {
-  ivy_mapping *map = p->map;
-  map_page *it = &map->pages[page];
-  if (!is_still(p) || it->shown >= to || (it->shown == IVY_UNLENT && map->room)) return;
-  if (it->shown == IVY_UNLENT) map->image->show(map, page, to);
-  else map->image->raise(map, page, 1);
-  it->shown = (uint8_t)to;
-}
 
 /* Lends a page that is here, with the bytes that the node has, and shows it. */
 static uint32_t lend(ivy_process *p, uint32_t page, uint32_t to) {
@@ -367,8 +357,6 @@ long ivy_in_map_patience(const ivy_process *p, long wait_us) {
 
 /* ---- The token: tickets in the runtime's own page, by calls -------------------------------------------------------------- */
 
-typedef struct { uint32_t drawn, served; } tickets;
-
 static uint64_t call_of(ivy_process *p, uint32_t kind, uint32_t width, uint64_t place, uint64_t operand) {
   const call c = { kind, width, place, operand, 0 };
   uint64_t value = 0;
@@ -377,15 +365,12 @@ static uint64_t call_of(ivy_process *p, uint32_t kind, uint32_t width, uint64_t 
   return value;
 }
 
-static tickets look(ivy_process *p) {
-  uint64_t both = call_of(p, IVY_LOAD, 8, ivy_in_map_address(TOKEN_PAGE), 0);
-  const tickets found = { (uint32_t)(both >> 32), (uint32_t)both };
-  return found;
-}
+static uint32_t drawn(ivy_process *p) { return (uint32_t)call_of(p, IVY_LOAD, 4, ivy_in_map_address(TOKEN_PAGE), 0); }
+static uint32_t served(ivy_process *p) { return (uint32_t)call_of(p, IVY_LOAD, 4, ivy_in_map_address(TOKEN_PAGE) + 4, 0); }
 
 /* Waits until so many were served. */
 static void wait_for_ticket(ivy_process *p, uint32_t number) {
-  while (!p->error && (int32_t)(number - look(p).served) > 0) {
+  while (!p->error && (int32_t)(number - served(p)) > 0) {
     p->in_call = 1;
     ivy_in_wait(p);
     p->in_call = 0;
@@ -447,7 +432,7 @@ static uint32_t ask(ivy_process *p, uint32_t page, uint32_t to) {
     map->page = page;
     map->to = to;
     ivy_in_send_frames(p);
-    show_early(p, page, to);
+    if (is_still(p) && (map->pages[page].shown || !map->room)) show(p, page, to); /* nobody can look before it is here */
     while (map->asking && !ivy_in_is_over(p)) ivy_in_wait(p);
     status = map->asking ? p->error : map->answer;
   }
@@ -462,7 +447,7 @@ uint32_t ivy_in_map_acquire(ivy_process *p, uint32_t page, uint32_t to, map_thre
   ivy_mapping *map = p->map;
   uint32_t status = IVY_DONE;
   map->is_fresh = 1; /* the program went on since all was kept */
-  for (uint32_t failed = who ? who->failed : 0; !p->error && (status == IVY_DONE || status == IVY_NO_PAGE || status == IVY_MEMORY); failed++) {
+  for (uint32_t failed = who ? who->failed : 0; !p->error; failed++) {
     if (!has(map, page, to)) lend(p, page, to);
     if (has(map, page, to)) return show(p, page, to);
     if (map->pages[page].lent && who && !p->shared) give_back(p, page, IVY_UNLENT); /* who could see it waits here */
@@ -471,13 +456,13 @@ uint32_t ivy_in_map_acquire(ivy_process *p, uint32_t page, uint32_t to, map_thre
     map->waits++;
     ivy_in_map_pump(p);
     if (failed >= FAILURES && !map->has_token) take_token(p, who);
-    const tickets found = look(p);
-    if (!map->has_token && found.drawn != found.served) wait_for_ticket(p, found.drawn);
+    if (!map->has_token) wait_for_ticket(p, drawn(p));
     if (!p->error) status = ask(p, page, to);
     map->waits--;
     map->waiting = NULL;
+    if (status != IVY_DONE && status != IVY_NO_PAGE && status != IVY_MEMORY) break;
   }
-  if (!map->pages[page].lent) lower(map, page, IVY_UNLENT);
+  lower(map, page, IVY_UNLENT); /* it may be shown already */
   return p->error ? p->error : status;
 }
 
@@ -493,8 +478,7 @@ static int may_bring(ivy_process *p, uint32_t page, uint32_t to, int64_t last) {
   int64_t now = ivy_in_now();
   if (page >= map->count || has(map, page, to) || now - map->pages[page].taken < WINDOW_US) return 0;
   if (p->error || p->shared || map->kept || map->held || map->waiting->failed || map->has_token || now > last) return 0;
-  const tickets found = look(p);
-  return found.drawn == found.served;
+  return drawn(p) == served(p);
 }
 
 static void bring(ivy_process *p, uint32_t page, uint32_t to) {

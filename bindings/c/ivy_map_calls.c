@@ -151,8 +151,7 @@ static uint32_t begin_mapping(ivy_process *p) {
   map->open = (uint32_t *)calloc(map->count, sizeof *map->open);
   p->map = map;
   if (map->pages && map->open && ivy_in_map_catch(p)) {
-    map->has_thread = map->image->wait && !pthread_create(&map->thread, NULL, map->image->wait, p);
-    if (map->has_thread || !map->image->wait) return IVY_DONE;
+    if (!map->image->wait || !pthread_create(&map->thread, NULL, map->image->wait, p)) return IVY_DONE;
     ivy_in_map_close(map);
   }
   p->map = NULL;
@@ -173,7 +172,7 @@ uint32_t ivy_map(ivy_process *p) {
 
 void ivy_in_map_end(ivy_process *p) {
   ivy_mapping *map = p->map;
-  if (map->has_thread && !pthread_cancel(map->thread)) pthread_join(map->thread, NULL);
+  if (map->image->wait && !pthread_cancel(map->thread)) pthread_join(map->thread, NULL);
   ivy_in_map_close(map);
   p->map = NULL;
   end_mapping(map);
@@ -183,8 +182,7 @@ void *ivy_map_base(const ivy_process *p) { return p->map ? p->map->base : NULL; 
 const char *ivy_map_image(const ivy_process *p) { return p->map ? p->map->image->name : "none"; }
 
 ivy_map_counts ivy_map_counts_of(ivy_process *p) {
-  ivy_map_counts none;
-  memset(&none, 0, sizeof none);
+  ivy_map_counts none = { 0, 0, 0, 0, 0, 0, 0 };
   ivy_in_lock(p);
   if (p->map) none = p->map->counts;
   ivy_in_unlock(p);

@@ -19,16 +19,6 @@ enum { MOST_PAGES = 65536 + 1 };
 static size_t size_of(const ivy_mapping *map) { return (size_t)map->count * MAP_PAGE; }
 static uint32_t page_at(uintptr_t at) { return (uint32_t)((at - MAP_BASE) / MAP_PAGE); }
 
-/* A userfaultfd of some bytes, or -1. */
-static int faults_of(void *at, size_t len) {
-  struct uffdio_api api = { UFFD_API, UFFD_FEATURE_PAGEFAULT_FLAG_WP | UFFD_FEATURE_THREAD_ID, 0 };
-  struct uffdio_register all = { { (uintptr_t)at, len }, UFFDIO_REGISTER_MODE_MISSING | UFFDIO_REGISTER_MODE_WP, 0 };
-  int file = (int)syscall(SYS_userfaultfd, O_CLOEXEC);
-  if (file < 0 || (!ioctl(file, UFFDIO_API, &api) && !ioctl(file, UFFDIO_REGISTER, &all))) return file;
-  close(file);
-  return -1;
-}
-
 static int reserve(void) {
   return mmap((void *)MAP_BASE, (size_t)MOST_PAGES * MAP_PAGE, PROT_NONE,
               MAP_PRIVATE | MAP_ANONYMOUS | MAP_NORESERVE | MAP_FIXED_NOREPLACE, -1, 0) == (void *)MAP_BASE;
@@ -118,11 +108,10 @@ static void *userfaultfd_wait(void *process) {
   ivy_process *p = (ivy_process *)process;
   ivy_mapping *map = p->map;
   struct uffd_msg said;
-  ssize_t got;
   ivy_in_take_short_turns();
   for (;;) {
     pthread_setcancelstate(PTHREAD_CANCEL_ENABLE, NULL);
-    got = read(map->faults, &said, sizeof said);
+    ssize_t got = read(map->faults, &said, sizeof said);
     pthread_setcancelstate(PTHREAD_CANCEL_DISABLE, NULL);
     if (got != sizeof said || said.event != UFFD_EVENT_PAGEFAULT) continue;
     uint64_t how = said.arg.pagefault.flags, at = said.arg.pagefault.address & ~(uint64_t)(MAP_PAGE - 1);
@@ -138,12 +127,16 @@ static void *userfaultfd_wait(void *process) {
 static int userfaultfd_open(ivy_mapping *map) {
   uint8_t *from = ivy_in_map_at((uint8_t *)MAP_BASE, ROOT_PAGE);
   size_t len = size_of(map) - (size_t)ROOT_PAGE * MAP_PAGE;
+  struct uffdio_api api = { UFFD_API, UFFD_FEATURE_PAGEFAULT_FLAG_WP | UFFD_FEATURE_THREAD_ID, 0 };
+  struct uffdio_register all = { { (uintptr_t)from, len }, UFFDIO_REGISTER_MODE_MISSING | UFFDIO_REGISTER_MODE_WP, 0 };
   map->room = (uint8_t *)malloc(MAP_PAGE);
   map->base = map->bytes = (uint8_t *)MAP_BASE;
-  if (map->room && !mprotect(from, len, PROT_READ | PROT_WRITE) && !madvise(from, len, MADV_NOHUGEPAGE))
-    map->faults = faults_of(from, len);
-  if (map->faults >= 0) return 1;
+  map->faults = (int)syscall(SYS_userfaultfd, O_CLOEXEC);
+  if (map->room && map->faults >= 0 && !mprotect(from, len, PROT_READ | PROT_WRITE) && !madvise(from, len, MADV_NOHUGEPAGE) &&
+      !ioctl(map->faults, UFFDIO_API, &api) && !ioctl(map->faults, UFFDIO_REGISTER, &all)) return 1;
   mprotect(from, len, PROT_NONE);
+  close(map->faults);
+  map->faults = -1;
   free(map->room);
   map->room = NULL;
   return 0;

@@ -60,7 +60,7 @@ struct ivy_mapping {
   uint32_t *open, opens; /* the pages that are listed */
   map_row opened, told;  /* how many were opened last in a row, at most, and the page behind them; the same of those told of */
   int faults;            /* the descriptor of userfaultfd */
-  int child_of, has_thread, is_hidden;
+  int child_of, is_hidden;
   pthread_t thread;
 
   /* Who has mapped the memory; who is told what is asked for; who knows that of this process; who heard what is told now. */
