@@ -473,12 +473,12 @@ enum { MOST_BROUGHT = 8, UNTRIED = 0, TRIED, KNOWN = TRIED + 8 };
 
 /* Not where somebody waits for a page, as far as is known here, or for the token, where one comes and goes, or where the program has
  * waited for half of the window of its own; nor what others took just now, or use by threads that go on meanwhile. */
-static int may_bring(ivy_process *p, uint32_t page, uint32_t to, int64_t last) {
+static int may_bring(ivy_process *p, uint32_t page, uint32_t to, uint32_t behind) {
   ivy_mapping *map = p->map;
   int64_t now = ivy_in_now();
-  if (page >= map->count || has(map, page, to) || now - map->pages[page].taken < WINDOW_US) return 0;
-  if (p->error || p->shared || map->kept || map->held || map->waiting->failed || map->has_token || now > last) return 0;
-  return drawn(p) == served(p);
+  if (has(map, page, to) || now - map->pages[page].taken < WINDOW_US) return 0;
+  if (p->error || p->shared || map->kept || map->held || map->waiting->failed || map->has_token) return 0;
+  return now <= map->pages[behind].until - WINDOW_US / 2 && drawn(p) == served(p);
 }
 
 static void bring(ivy_process *p, uint32_t page, uint32_t to) {
@@ -501,9 +501,9 @@ static void bring_row(ivy_process *p, uint32_t page, uint32_t to, map_thread *wh
   run->next = page + 1;
   map->waiting = who;
   map->waits++;
-  while (run->next - page <= MOST_BROUGHT && may_bring(p, run->next, to, map->pages[page].until - WINDOW_US / 2)) {
+  while (run->next - page <= MOST_BROUGHT && run->next < map->count) {
     uint8_t *chances = &map->pages[run->next].chances[to];
-    if (*chances == TRIED || (*chances == UNTRIED && !tries)) break;
+    if (*chances == TRIED || (*chances == UNTRIED && !tries) || !may_bring(p, run->next, to, page)) break;
     if (*chances == UNTRIED) *chances = TRIED, tries--;
     else --*chances;
     bring(p, run->next++, to);
