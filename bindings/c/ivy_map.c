@@ -23,6 +23,10 @@
  * the token to the next one. Who only looks waits for those that had drawn before, not for later ones, so it does not wait for ever
  * either. What comes ahead (6) takes a few calls more, each of which ends, and who failed brings nothing.
  *
+ * WHO LOOKS. While the only thread of a program waits it looks at no page. So what it waits for is shown while that is still under
+ * way, and it goes on once that is lent, or hidden again. What others take meanwhile is lowered once they were served, before the lock
+ * is free.
+ *
  * A thread counts a page as gone for nothing where it faults at one of the last MAP_LAST pages that it was given, and ran for
  * less than RAN_NS since. A call that finds its page lent is carried out with the lock held, so none is gone for nothing. */
 #include "ivy_map_inside.h"
