@@ -184,7 +184,8 @@ void ivy_in_rest(ivy_process *p, uint32_t changes, int64_t until) {
 
 /* Asks the system for short turns of a processor. These begin sooner: who computes is interrupted for them, as of Linux 6.12. */
 void ivy_in_take_short_turns(void) {
-  struct { uint32_t size, policy; uint64_t flags; int32_t nice; uint32_t priority; uint64_t turn_ns, deadline, period; } own;
+  struct turns { uint32_t size, policy; uint64_t flags; int32_t nice; uint32_t priority; uint64_t turn_ns, deadline, period; };
+  struct turns own = { sizeof own, 0, 0, 0, 0, 0, 0, 0 };
   if (syscall(SYS_sched_getattr, 0, &own, sizeof own, 0)) return;
   own.turn_ns = TURN_NS;
   syscall(SYS_sched_setattr, 0, &own, 0);
