@@ -1,10 +1,11 @@
 /* A product of matrices and a relaxation, by plain pointers between the processes of ivyrun, or by as many plain threads of one
- * process: WORK SIZE threads|nodes PARTS. Prints the milliseconds of the best of some rounds, and what a process asked for. */
+ * process, of which each has a processor as those have: WORK SIZE threads|nodes PARTS. Prints the milliseconds of the best of some rounds, and what a process asked for. */
 #ifndef _GNU_SOURCE
 #define _GNU_SOURCE
 #endif
 #include "ivy_map.h"
 #include <pthread.h>
+#include <sched.h>
 #include <stdlib.h>
 #include <string.h>
 #include <time.h>
@@ -51,8 +52,20 @@ static void relax(int first, int last) {
   }
 }
 
+/* The processor of a thread: one of those that are allowed. */
+static void take_processor(int part) {
+  cpu_set_t allowed, own;
+  int at = -1;
+  if (sched_getaffinity(0, sizeof allowed, &allowed)) return;
+  for (int left = part % CPU_COUNT(&allowed) + 1; left; left -= CPU_ISSET(at, &allowed) != 0) at++;
+  CPU_ZERO(&own);
+  CPU_SET(at, &own);
+  sched_setaffinity(0, sizeof own, &own);
+}
+
 static void *work(void *argument) {
   int part = (int)(uintptr_t)argument, first = size * part / (int)parts, last = size * (part + 1) / (int)parts;
+  if (!ivy) take_processor(part);
   for (int i = first; i < last; i++)
     for (int j = 0; j < (is_product ? 3 : 1) * size; j++)
       area[(size_t)i * (size_t)size + (size_t)j % (size_t)size + (size_t)(j / size) * (size_t)size * (size_t)size] = (double)((i * 7 + j) % 13);
