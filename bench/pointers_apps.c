@@ -1,5 +1,6 @@
 /* A product of matrices and a relaxation, by plain pointers between the processes of ivyrun, or by as many plain threads of one
- * process, of which each has a processor as those have: WORK SIZE threads|nodes PARTS. Prints the milliseconds of the best of some rounds, and what a process asked for. */
+ * process, of which each has a processor as those have: product|rows|relaxation SIZE threads|nodes PARTS. Prints the milliseconds of
+ * the best of some rounds, and what a process asked for. `rows` is the product row by row. */
 #ifndef _GNU_SOURCE
 #define _GNU_SOURCE
 #endif
@@ -14,7 +15,7 @@ enum { ROUNDS = 3, SWEEPS = 20, MOST_PARTS = 8 };
 
 static ivy_process *ivy;
 static uint32_t parts;
-static int size, is_product;
+static int size, block, is_product;
 static double *area;
 static pthread_barrier_t all_here;
 static double best = 1e18;
@@ -30,15 +31,18 @@ static void meet(void) {
   else pthread_barrier_wait(&all_here);
 }
 
+/* By blocks of rows of the second operand that a processor's own cache holds. Where a block is all rows, each process streams its own
+ * copy of that operand through the cache that all share, and threads stream one copy together. */
 static void multiply(int first, int last) {
   const double *a = area, *b = area + (size_t)size * (size_t)size;
   double *c = area + 2 * (size_t)size * (size_t)size;
-  for (int i = first; i < last; i++) {
-    double *row = c + (size_t)i * (size_t)size;
-    memset(row, 0, (size_t)size * sizeof *row);
-    for (int k = 0; k < size; k++)
-      for (int j = 0; j < size; j++) row[j] += a[(size_t)i * (size_t)size + (size_t)k] * b[(size_t)k * (size_t)size + (size_t)j];
-  }
+  for (int from = 0; from < size; from += block)
+    for (int i = first; i < last; i++) {
+      double *row = c + (size_t)i * (size_t)size;
+      if (!from) memset(row, 0, (size_t)size * sizeof *row);
+      for (int k = from; k < from + block && k < size; k++)
+        for (int j = 0; j < size; j++) row[j] += a[(size_t)i * (size_t)size + (size_t)k] * b[(size_t)k * (size_t)size + (size_t)j];
+    }
 }
 
 static void relax(int first, int last) {
@@ -111,8 +115,9 @@ static int by_nodes(int argc, char **argv) {
 
 int main(int argc, char **argv) {
   if (argc < 5) return 2;
-  is_product = !strcmp(argv[1], "product");
+  is_product = strcmp(argv[1], "relaxation") != 0;
   size = atoi(argv[2]);
+  block = strcmp(argv[1], "product") ? size : 64;
   parts = (uint32_t)atoi(argv[4]);
   if (parts < 1 || parts > MOST_PARTS) return 2;
   if (strcmp(argv[3], "threads")) return by_nodes(argc, argv);
