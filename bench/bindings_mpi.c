@@ -27,7 +27,7 @@ static void settle(ivy_process *ivy) {
 int main(int argc, char **argv) {
   static samples missed, exchanged, rows, handed, to_and_fro;
   int me, level;
-  ivy_config config = { 2, PAGES, PAGE, IVY_DYNAMIC };
+  ivy_config config = { 2, PAGES, PAGE, MANAGER };
   ivy_progress progress = argc > 1 ? IVY_BY_THREAD : IVY_IN_CALLS;
   const char *by = argc > 1 ? "MPI, by thread" : "MPI";
   MPI_Init_thread(&argc, &argv, MPI_THREAD_MULTIPLE, &level);

@@ -8,6 +8,10 @@
 #include <stdlib.h>
 #include <time.h>
 
+#ifndef MANAGER
+#define MANAGER IVY_DYNAMIC
+#endif
+
 enum { ROUNDS = 10, TIMES = 500, ROW = 200, PAGES = 256 };
 
 /* Microseconds, of all rounds. */

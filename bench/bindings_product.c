@@ -5,8 +5,13 @@
 #include "../bindings/c/examples/product.c"
 #undef main
 
+#ifndef MANAGER
+#define MANAGER IVY_DYNAMIC
+#endif
+
 enum { ROUNDS = 21 };
 
+static const char *const managers[] = { "fixed", "dynamic", "steady" };
 static MPI_Comm beside; /* what is sent without Ivy, apart */
 static uint8_t plain_right[N][N];
 static uint16_t plain_product[N][N];
@@ -65,7 +70,8 @@ static double median(double *seconds) {
 int main(int argc, char **argv) {
   example e;
   double ours[ROUNDS], plainly[ROUNDS];
-  begin_example(&e, argc, argv, 256, PAGE);
+  char *words[] = { argv[0], argv[argc - 1], (char *)managers[MANAGER] };
+  begin_example(&e, 3, words, 256, PAGE);
   MPI_Comm_dup(MPI_COMM_WORLD, &beside);
   if (N % e.nodes) MPI_Abort(MPI_COMM_WORLD, 2);
   for (int round = 0; round < ROUNDS; round++) {

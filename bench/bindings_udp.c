@@ -74,7 +74,7 @@ static void stay_at(int processor) {
 static int run(int me, int port, uint32_t page, ivy_progress progress) {
   static samples missed, exchanged, rows, handed, to_and_fro;
   const char *by = progress == IVY_BY_THREAD ? "UDP, by thread" : "UDP";
-  ivy_config config = { 2, PAGES, page, IVY_DYNAMIC };
+  ivy_config config = { 2, PAGES, page, MANAGER };
   stay_at(me);
   open_own(port + 2, me);
   ivy_process *ivy = ivy_join(&config, (uint32_t)me, measured(ivy_udp((uint32_t)me, 2, (uint16_t)port, 0, 0, 0)), progress,

@@ -26,6 +26,7 @@ LOAD, STORE, SWAP, CAS, FETCH_ADD, COUNT, ADVANCE, AWAIT = range(8)
 PENDING, NEXT, PAGE, MEETINGS, ROUNDS = 300, 0, 256, 8, 6
 NODES = [2, 4, 8, 16, 32]
 KINDS = {"fixed": 0, "dynamic": 1}
+STEADY = {"steady": 2}
 
 
 class Handle(ctypes.Structure):
@@ -39,7 +40,7 @@ class World:
         self.ivy, self.random = library, random.Random(seed)
         self.nodes = [Handle() for _ in range(nodes)]
         for me, node in enumerate(self.nodes):
-            assert self.ivy.ivy_open(ctypes.byref(node), nodes, 160, PAGE, KINDS[manager], me) == 0
+            assert self.ivy.ivy_open_by(ctypes.byref(node), nodes, 160, PAGE, (KINDS | STEADY)[manager], me) == 0
         self.links = {}
         self.messages = self.pages = 0
         self.room = ctypes.create_string_buffer(PAGE + 41)
@@ -52,7 +53,10 @@ class World:
         size, dest = ctypes.c_size_t(), ctypes.c_uint32()
         while self.ivy.ivy_next_frame(ctypes.byref(self.nodes[me]), self.room, len(self.room), ctypes.byref(size),
                                       ctypes.byref(dest)) == 0:
-            self.links.setdefault((me, dest.value), []).append(self.room.raw[: size.value])
+            self.put((me, dest.value), self.room.raw[: size.value])
+
+    def put(self, link, frame):
+        self.links.setdefault(link, []).append(frame)
 
     def deliver(self, link):
         frame = self.links[link].pop(0)
@@ -65,6 +69,12 @@ class World:
             self.pages += len(frame) > PAGE
         self.send(link[1])
 
+    def draw(self, moves):
+        return self.random.choice(moves)
+
+    def had_turn(self, me, is_waiting):
+        """Nothing is to do."""
+
     def run(self, programs):
         """Runs each node's program, a generator of calls, to its end."""
         value = ctypes.c_uint64()
@@ -72,7 +82,7 @@ class World:
         begun = set()
         while waiting:
             moves = [("turn", me) for me in waiting] + [("deliver", link) for link in self.links]
-            move, at = self.random.choice(moves)
+            move, at = self.draw(moves)
             if move == "deliver":
                 self.deliver(at)
                 continue
@@ -87,6 +97,7 @@ class World:
                     continue
                 status = self.ivy.ivy_begin(node, *call, ctypes.byref(value))
             self.send(at)
+            self.had_turn(at, status == PENDING)
             begun.add(at) if status == PENDING else begun.discard(at)
             if status != PENDING:
                 assert status == 0, status
@@ -240,12 +251,16 @@ def tables(library, seeds, wanted):
             print(f"| {name}, {manager} | " + " | ".join(cells) + " |", flush=True)
 
 
+def load_library(file):
+    library = ctypes.CDLL(file)
+    for function in ("ivy_open_by", "ivy_begin", "ivy_reply", "ivy_deliver", "ivy_next_frame"):
+        getattr(library, function).restype = ctypes.c_uint32
+    library.ivy_begin.argtypes = [ctypes.c_void_p, ctypes.c_uint32, ctypes.c_uint32, ctypes.c_uint64, ctypes.c_uint64,
+                                  ctypes.c_uint64, ctypes.c_void_p]
+    return library
+
+
 if __name__ == "__main__":
     if len(sys.argv) < 2:
         sys.exit(__doc__)
-    LIBRARY = ctypes.CDLL(sys.argv[1])
-    for function in ("ivy_open", "ivy_begin", "ivy_reply", "ivy_deliver", "ivy_next_frame"):
-        getattr(LIBRARY, function).restype = ctypes.c_uint32
-    LIBRARY.ivy_begin.argtypes = [ctypes.c_void_p, ctypes.c_uint32, ctypes.c_uint32, ctypes.c_uint64, ctypes.c_uint64,
-                                  ctypes.c_uint64, ctypes.c_void_p]
-    tables(LIBRARY, int(sys.argv[2]) if len(sys.argv) > 2 else 3, sys.argv[3:])
+    tables(load_library(sys.argv[1]), int(sys.argv[2]) if len(sys.argv) > 2 else 3, sys.argv[3:])

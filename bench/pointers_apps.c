@@ -1,6 +1,8 @@
 /* A product of matrices and a relaxation, by plain pointers between the processes of ivyrun, or by as many plain threads of one
- * process, of which each has a processor as those have: product|rows|relaxation SIZE threads|nodes PARTS. Prints the milliseconds of
- * the best of some rounds, and what a process asked for. `rows` is the product row by row. */
+ * process, of which each has a processor as those have: product|rows|relaxation SIZE threads|copies|nodes PARTS. Prints the
+ * milliseconds of the best of some rounds, and what a process asked for. `rows` is the product row by row. `copies` is plain
+ * processes, of which each has all matrices in memory of its own and gets nothing from the others: what no shared memory of
+ * processes with copies can be faster than. */
 #ifndef _GNU_SOURCE
 #define _GNU_SOURCE
 #endif
@@ -9,15 +11,18 @@
 #include <sched.h>
 #include <stdlib.h>
 #include <string.h>
+#include <sys/mman.h>
+#include <sys/wait.h>
 #include <time.h>
+#include <unistd.h>
 
 enum { ROUNDS = 3, SWEEPS = 20, MOST_PARTS = 8 };
 
 static ivy_process *ivy;
 static uint32_t parts;
-static int size, block, is_product;
+static int size, block, is_product, has_copy;
 static double *area;
-static pthread_barrier_t all_here;
+static pthread_barrier_t *all_here;
 static double best = 1e18;
 
 static double now_ms(void) {
@@ -28,7 +33,7 @@ static double now_ms(void) {
 
 static void meet(void) {
   if (ivy) ivy_map_barrier(ivy);
-  else pthread_barrier_wait(&all_here);
+  else pthread_barrier_wait(all_here);
 }
 
 /* By blocks of rows of the second operand that a processor's own cache holds. Where a block is all rows, each process streams its own
@@ -70,7 +75,7 @@ static void take_processor(int part) {
 static void *work(void *argument) {
   int part = (int)(uintptr_t)argument, first = size * part / (int)parts, last = size * (part + 1) / (int)parts;
   if (!ivy) take_processor(part);
-  for (int i = first; i < last; i++)
+  for (int i = has_copy ? 0 : first; i < (has_copy ? size : last); i++)
     for (int j = 0; j < (is_product ? 3 : 1) * size; j++)
       area[(size_t)i * (size_t)size + (size_t)j % (size_t)size + (size_t)(j / size) * (size_t)size * (size_t)size] = (double)((i * 7 + j) % 13);
   for (int round = 0; round < ROUNDS; round++) {
@@ -84,12 +89,38 @@ static void *work(void *argument) {
   return NULL;
 }
 
+static void take_area(void) {
+  area = (double *)calloc((size_t)(is_product ? 3 : 1) * (size_t)size * (size_t)size, sizeof *area);
+}
+
+/* One barrier for threads and for processes. */
+static void take_barrier(void) {
+  pthread_barrierattr_t shared;
+  all_here = (pthread_barrier_t *)mmap(NULL, sizeof *all_here, PROT_READ | PROT_WRITE, MAP_SHARED | MAP_ANONYMOUS, -1, 0);
+  pthread_barrierattr_init(&shared);
+  pthread_barrierattr_setpshared(&shared, PTHREAD_PROCESS_SHARED);
+  pthread_barrier_init(all_here, &shared, parts);
+}
+
 static void by_threads(void) {
   pthread_t threads[MOST_PARTS];
-  area = (double *)calloc((size_t)(is_product ? 3 : 1) * (size_t)size * (size_t)size, sizeof *area);
-  pthread_barrier_init(&all_here, NULL, parts);
+  take_area();
   for (uint32_t i = 0; i < parts; i++) pthread_create(&threads[i], NULL, work, (void *)(uintptr_t)i);
   for (uint32_t i = 0; i < parts; i++) pthread_join(threads[i], NULL);
+  printf("%.1f\n", best);
+}
+
+static void by_copies(void) {
+  has_copy = 1;
+  for (uint32_t i = 1; i < parts; i++)
+    if (!fork()) {
+      take_area();
+      work((void *)(uintptr_t)i);
+      _exit(0);
+    }
+  take_area();
+  work(NULL);
+  while (wait(NULL) > 0) continue;
   printf("%.1f\n", best);
 }
 
@@ -120,7 +151,9 @@ int main(int argc, char **argv) {
   block = strcmp(argv[1], "product") ? size : 64;
   parts = (uint32_t)atoi(argv[4]);
   if (parts < 1 || parts > MOST_PARTS) return 2;
-  if (strcmp(argv[3], "threads")) return by_nodes(argc, argv);
-  by_threads();
+  if (!strcmp(argv[3], "nodes")) return by_nodes(argc, argv);
+  take_barrier();
+  if (strcmp(argv[3], "copies")) by_threads();
+  else by_copies();
   return 0;
 }

@@ -3,8 +3,8 @@ words of which it is the one writer in this phase, by stores or by swaps, which 
 count; then they load words of any width; then they meet again. So an array, kept by this script, says each number that
 they print. Words of several writers lie side by side.
 
-Drawn besides: manager, pages, their size from 64 to 4,096 bytes, the ether's capacity from 1, and from 1 to 1,024 turns
-between pulses. Each session has to end in time with status 0, and to print what the array says.
+Drawn besides: manager (but with `--steady`), pages, their size from 64 to 4,096 bytes, the ether's capacity from 1, and
+from 1 to 1,024 turns between pulses. Each session has to end in time with status 0, and to print what the array says.
 
 What differs is printed at once, with its command line; its program is kept. Then follow the number of sessions and the
 longest.
@@ -16,11 +16,11 @@ import shutil
 import subprocess
 import tempfile
 import time
-from dataclasses import dataclass
+from dataclasses import dataclass, replace
 from pathlib import Path
 
 from flat import Flat
-from running import MANAGERS, positive, program_of
+from running import MANAGERS, STEADY, add_steady, positive, program_of, told_with
 
 COUNT = 500
 SECONDS = 5
@@ -155,7 +155,7 @@ def wrong_of(program, session, file, seconds):
         done = subprocess.run(
             words,
             stdout=subprocess.PIPE,
-            stderr=subprocess.STDOUT,
+            stderr=told_with(session.manager),
             text=True,
             errors="backslashreplace",
             timeout=seconds,
@@ -199,6 +199,7 @@ def add_words(parser):
         "--narrow-seconds", type=float, default=NARROW_SECONDS, help=f"and below; {NARROW_SECONDS}"
     )
     parser.add_argument("--dry", action="store_true", help="run the programs on one memory of this script instead")
+    add_steady(parser)
 
 
 def is_good(options):
@@ -208,6 +209,8 @@ def is_good(options):
     wrong, longest = 0, (0, "")
     for number in range(options.first, options.first + options.count):
         session = drawn(options.seed, number, options.least_pulse, options.most_nodes)
+        if options.steady:
+            session = replace(session, manager=STEADY)
         file = folder / f"{options.seed}-{number}.ivy"
         file.write_text(session.programs)
         began = time.monotonic()
@@ -216,7 +219,7 @@ def is_good(options):
         else:
             seconds = options.seconds if session.capacity >= WIDE else options.narrow_seconds
             fault = wrong_of(program, session, file, seconds)
-        named = shlex.join(["ivy", *session.words(file)])
+        named = shlex.join(["ivyscope" if options.steady else "ivy", *session.words(file)])
         longest = max(longest, (time.monotonic() - began, named))
         if fault:
             wrong += 1

@@ -10,6 +10,8 @@ from pathlib import Path
 ROOT = Path(__file__).resolve().parent.parent
 EXAMPLES = ROOT / "examples"
 MANAGERS = ("fixed", "dynamic")
+# Which `ivy` does not take, but `ivyscope`.
+STEADY = "steady"
 # Far above what a run takes: one that takes longer is said to hang.
 SECONDS = 300
 
@@ -17,6 +19,11 @@ SECONDS = 300
 def add_program(parser):
     """Has a parser of words know which build of the program is meant."""
     parser.add_argument("--program", metavar="FILE", type=Path, help="another build than that of this repository")
+
+
+def add_steady(parser):
+    """Has a parser of words know whether sessions run under steady hints."""
+    parser.add_argument("--steady", action="store_true", help="under steady hints, by `ivyscope run`")
 
 
 def parser_of(about):
@@ -32,8 +39,9 @@ def program_of(options):
     """
     if options.program:
         return options.program.resolve()
-    subprocess.run([ROOT / "ivy", "run", EXAMPLES / "first_load.ivy"], check=True, stdout=subprocess.DEVNULL)
-    return ROOT / "crates" / "ivy" / "out" / "ivy"
+    name = "ivyscope" if getattr(options, "steady", False) else "ivy"
+    subprocess.run([ROOT / name, "run", EXAMPLES / "first_load.ivy"], check=True, stdout=subprocess.DEVNULL)
+    return ROOT / "crates" / name / "out" / name
 
 
 def positive(word):
@@ -77,6 +85,11 @@ class Ended:
     wrong: str
 
 
+def told_with(manager):
+    """Where standard error goes beside what is compared: of calls that are refused `ivyscope` tells there."""
+    return subprocess.DEVNULL if manager == STEADY else subprocess.STDOUT
+
+
 def run(program, session):
     """Runs a session, and says what came of it."""
     words = [program, *session.words()]
@@ -86,7 +99,7 @@ def run(program, session):
         done = subprocess.run(
             words,
             stdout=subprocess.PIPE,
-            stderr=subprocess.STDOUT,
+            stderr=told_with(session.manager),
             text=True,
             errors="backslashreplace",
             timeout=SECONDS,

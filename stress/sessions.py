@@ -1,22 +1,22 @@
-"""Runs the programs that have their output beside them in sessions of threads: under either manager, over ethers of 1,
-2 and 256 items, and with a pulse in each 7th, 64th and 1,024th turn on the wire, so often each. Whatever the
-threads do, a run has to end with status 0 and to print the text that lies beside its program.
+"""Runs the programs that have their output beside them in sessions of threads: under either manager, or with `--steady`
+under steady hints, over ethers of 1, 2 and 256 items, and with a pulse in each 7th, 64th and 1,024th turn on the wire, so
+often each. Whatever the threads do, a run has to end with status 0 and to print the text that lies beside its program.
 
 Then prints, for each program, how many sessions there were and how long the longest and all of them took.
 """
 
-from running import MANAGERS, Session, names_with_output, positive, program_of, run
+from running import MANAGERS, STEADY, Session, add_steady, names_with_output, positive, program_of, run
 
 TIMES = 20
 CAPACITIES = (1, 2, 256)
 PULSES = (7, 64, 1024)
 
 
-def sessions(program, name, times):
-    """Whether all sessions of a program print what they have to."""
+def sessions(program, name, times, managers):
+    """Whether all sessions of a program under these managers print what they have to."""
     done = [
         run(program, Session(name, manager, capacity, pulse))
-        for manager in MANAGERS
+        for manager in managers
         for capacity in CAPACITIES
         for pulse in PULSES
         for _ in range(times)
@@ -33,9 +33,11 @@ def add_words(parser):
         "times", nargs="?", type=positive, default=TIMES, metavar="TIMES", help=f"how often each session; {TIMES}"
     )
     parser.add_argument("names", nargs="*", metavar="NAME", help="the programs of these names; all without one")
+    add_steady(parser)
 
 
 def is_good(options):
     """Whether all sessions print what they have to."""
     program = program_of(options)
-    return all([sessions(program, name, options.times) for name in options.names or names_with_output()])
+    managers = (STEADY,) if options.steady else MANAGERS
+    return all([sessions(program, name, options.times, managers) for name in options.names or names_with_output()])

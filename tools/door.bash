@@ -96,7 +96,7 @@ read_words() {
         [[ $seen != *" $option "* && $word != -* ]] || return 1
         seen+="$option "
         case $option in
-            --manager) [[ $word == fixed || $word == dynamic ]] || fine= ;;
+            --manager) [[ $word == fixed || $word == dynamic || $word == steady && $name != ivy ]] || fine= ;;
             --logs | --log | --until) ;;
             *) [[ $word =~ ^[1-9][0-9]{0,4}$ ]] || fine= ;;
         esac

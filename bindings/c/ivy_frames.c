@@ -92,7 +92,7 @@ void ivy_in_log_begin(ivy_process *p) {
   const ivy_config *c = &p->config;
   if (!p->log) return;
   fprintf(p->log, "ivy own %u %u %u %u %s\n", p->me, c->nodes, c->pages, c->page_size,
-          c->manager == IVY_FIXED ? "fixed" : "dynamic");
+          c->manager == IVY_FIXED ? "fixed" : c->manager == IVY_STEADY ? "steady" : "dynamic");
 }
 
 void ivy_in_log_call(ivy_process *p, const call *c) {

@@ -126,7 +126,7 @@ static void tell_limit(const ivy_start *start) {
   if (c->nodes < 2 || c->nodes > MOST_NODES) fprintf(stderr, "ivy: %u nodes, and not 2 to 32\n", c->nodes);
   else if (c->page_size < 64 || c->page_size > 4096 || (c->page_size & (c->page_size - 1)))
     fprintf(stderr, "ivy: pages of %u bytes, and not of a power of two from 64 to 4096\n", c->page_size);
-  else if (c->manager > IVY_DYNAMIC) fprintf(stderr, "ivy: manager %u, and not 0, fixed, or 1, dynamic\n", c->manager);
+  else if (c->manager > IVY_STEADY) fprintf(stderr, "ivy: manager %u, and not 0, fixed, 1, dynamic, or 2, steady\n", c->manager);
   else if (start->me >= c->nodes) fprintf(stderr, "ivy: node %u, and not 0 to %u\n", start->me, c->nodes - 1);
   else fprintf(stderr, "ivy: %u pages are more or fewer than the library takes\n", c->pages);
 }
@@ -137,7 +137,7 @@ static uint32_t open_node(ivy_process *p, const ivy_start *start) {
   if (!start->transport.receive) return IVY_NO_TRANSPORT;
   if (!ivy_in_find_key(p)) return IVY_NO_KEY;
   if (ivy_version() != IVY_VERSION) return IVY_BAD_VERSION;
-  uint32_t status = ivy_open(&p->node, c->nodes, c->pages, c->page_size, c->manager, start->me);
+  uint32_t status = ivy_open_by(&p->node, c->nodes, c->pages, c->page_size, c->manager, start->me);
   if (status == IVY_BAD_CONFIG || status == IVY_BAD_ARGUMENT) tell_limit(start);
   else if (status != IVY_DONE) fprintf(stderr, "ivy: node %u: %s\n", start->me, ivy_text(status));
   return status;

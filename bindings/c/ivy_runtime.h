@@ -68,8 +68,8 @@ int ivy_exit_status(uint32_t status);
  *
  * `ivyrun -n 4 PROGRAM` starts as many processes of a program, which say who they are by the environment: IVY_NODE of
  * IVY_NODES, over UDP from the port IVY_PORT on. A process that is started without them is alone, as in a debugger. Further
- * variables have defaults: IVY_PAGES (256) and IVY_PAGE_SIZE (1024), unless the program says so; IVY_MANAGER (dynamic, or
- * fixed), IVY_PROGRESS (thread, or calls), IVY_START_MS (10000), IVY_DEATH_MS (5000), IVY_LOG (none, or the folder of logs),
+ * variables have defaults: IVY_PAGES (256) and IVY_PAGE_SIZE (1024), unless the program says so; IVY_MANAGER (steady,
+ * dynamic or fixed), IVY_PROGRESS (thread, or calls), IVY_START_MS (10000), IVY_DEATH_MS (5000), IVY_LOG (none, or the folder of logs),
  * IVY_LOST, IVY_TWICE and IVY_LATE (0, as for ivy_udp), IVY_HOSTS and IVY_BIND (none; else over UDP between machines, as for
  * ivy_open_hosts: IVY_NODES is how many hosts there are, and each process is told its IVY_NODE), IVY_KEY or IVY_KEY_FILE (none), IVY_REPORT (1: ivy_finalize prints the
  * counts of the process on stderr). */

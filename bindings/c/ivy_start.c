@@ -64,6 +64,7 @@ static int read_start(ivy_start *start) {
   uint32_t start_ms = START_MS, death_ms = DEATH_MS;
   if (is_said("IVY_MANAGER", "fixed")) start->config.manager = IVY_FIXED;
   if (is_said("IVY_MANAGER", "dynamic")) start->config.manager = IVY_DYNAMIC;
+  if (is_said("IVY_MANAGER", "steady")) start->config.manager = IVY_STEADY;
   if (is_said("IVY_PROGRESS", "calls") || start->alone) start->progress = IVY_IN_CALLS;
   if (!read_number("IVY_PAGES", &start->config.pages) || !read_number("IVY_PAGE_SIZE", &start->config.page_size)) return 0;
   if (!read_number("IVY_START_MS", &start_ms) || !read_number("IVY_DEATH_MS", &death_ms)) return 0;
@@ -73,7 +74,7 @@ static int read_start(ivy_start *start) {
 }
 
 uint32_t ivy_start_over(ivy_transport transport, uint32_t me, uint32_t nodes, const ivy_config *config, ivy_process **process) {
-  ivy_start start = { { 0, PAGES, PAGE_SIZE, IVY_DYNAMIC }, me, transport, IVY_BY_THREAD, START_MS, DEATH_MS, NULL, nodes < 2 };
+  ivy_start start = { { 0, PAGES, PAGE_SIZE, IVY_STEADY }, me, transport, IVY_BY_THREAD, START_MS, DEATH_MS, NULL, nodes < 2 };
   *process = NULL;
   if (config) start.config = *config;
   start.config.nodes = nodes < 2 ? 2 : nodes;

@@ -28,7 +28,7 @@ static inline void Tmk_startup(int argc, char **argv) {
   ivy_config config;
   memset(&config, 0, sizeof config);
   config.pages = config.page_size = 4096;
-  config.manager = IVY_DYNAMIC;
+  config.manager = IVY_STEADY;
   if (ivy_init_as(&argc, &argv, &config, &tmk_process) != IVY_DONE || ivy_map(tmk_process) != IVY_DONE) exit(2);
   ivy_exit_on_error(tmk_process, 1);
   Tmk_proc_id = ivy_me(tmk_process);

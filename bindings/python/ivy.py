@@ -6,7 +6,7 @@ import ctypes
 import os
 
 VERSION = 1
-FIXED, DYNAMIC = 0, 1
+FIXED, DYNAMIC, STEADY = 0, 1, 2
 LOAD, STORE, SWAP, COMPARE_AND_SWAP, FETCH_AND_ADD, COUNT, ADVANCE, AWAIT, ALLOC, FREE = range(10)
 NEXT, REPEAT, AHEAD, NOT_MINE = range(4)
 DONE, MEMORY, PENDING, NO_FRAME = 0, 257, 300, 302
@@ -24,7 +24,7 @@ def _library():
     size, text = ctypes.c_size_t, ctypes.c_char_p
     to32, to64, to_size = ctypes.POINTER(u32), ctypes.POINTER(u64), ctypes.POINTER(size)
     types = {
-        "version": [], "open": [node] + [u32] * 5, "close": [node],
+        "version": [], "open_by": [node] + [u32] * 5, "close": [node],
         "begin": [node, u32, u32, u64, u64, u64, to64], "reply": [node, to64],
         "deliver": [node, text, size, to32], "next_frame": [node, text, size, to_size, to32],
         "load_block": [node, u64, text, size, to_size], "store_block": [node, u64, text, size, to_size],
@@ -60,7 +60,7 @@ class Node:
 
     def __init__(self, nodes, pages, page_size, manager, me):
         self._handle = Handle()
-        _done(_lib.ivy_open(self._handle, nodes, pages, page_size, manager, me))
+        _done(_lib.ivy_open_by(self._handle, nodes, pages, page_size, manager, me))
         self._buffer = ctypes.create_string_buffer(page_size + 41)
 
     def close(self):

@@ -8,7 +8,7 @@ A buffer is the memory itself: what is stored there others find. Where several t
 import contextlib
 import ctypes
 
-from ivy_process import Process, _done, _lib
+from ivy_process import STEADY, Process, _done, _lib
 
 _process = ctypes.c_void_p
 for _name, _result, _arguments in (
@@ -28,7 +28,7 @@ for _name, _result, _arguments in (
 class Mapped(Process):
     """A process that has joined the others and mapped the memory, before anything is allocated."""
 
-    def __init__(self, pages=4096, manager=1, threads=False):
+    def __init__(self, pages=4096, manager=STEADY, threads=False):
         super().__init__(pages=pages, page_size=4096, manager=manager)
         if threads:
             self.use_threads()

@@ -13,6 +13,7 @@ import os
 from contextlib import contextmanager
 
 LOAD, STORE, SWAP, COMPARE_AND_SWAP, FETCH_AND_ADD, COUNT, ADVANCE, AWAIT, ALLOC, FREE = range(10)
+FIXED, DYNAMIC, STEADY = range(3)
 DONE, TIMEOUT = 0, 406
 COMPARISONS = ("==", "!=", "<", "<=", ">", ">=")
 
@@ -136,7 +137,7 @@ class Barrier:
 class Process:
     """A process that has joined the others, until it leaves, or is alone where neither ivyrun nor mpirun started it."""
 
-    def __init__(self, pages=0, page_size=1024, manager=1):
+    def __init__(self, pages=0, page_size=1024, manager=STEADY):
         self._at = ctypes.c_void_p()
         config = Config(0, pages, page_size, manager) if pages else None
         _done((_mpi.ivy_init_mpi_as if _mpi else _lib.ivy_init_as)(None, None, config, self._at))

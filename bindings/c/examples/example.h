@@ -41,6 +41,8 @@ static inline void read_options(example_start *start, int argc, char **argv, int
   for (int i = first; i < argc; i++) {
     if (!strcmp(argv[i], "thread")) start->progress = IVY_BY_THREAD;
     if (!strcmp(argv[i], "fixed")) start->config.manager = IVY_FIXED;
+    if (!strcmp(argv[i], "dynamic")) start->config.manager = IVY_DYNAMIC;
+    if (!strcmp(argv[i], "steady")) start->config.manager = IVY_STEADY;
     if (!strcmp(argv[i], "lossy")) start->lossy = 1;
     if (!strcmp(argv[i], "log") && i + 1 < argc) start->folder = argv[++i];
   }
@@ -66,7 +68,7 @@ static inline void begin_by_mpi(example *e, example_start *start, int argc, char
 
 static inline void begin_by_udp(example *e, example_start *start, int argc, char **argv) {
   if (argc < 5) {
-    fprintf(stderr, "usage: %s udp NODE NODES PORT [thread] [fixed] [lossy] [log FOLDER]\n", argv[0]);
+    fprintf(stderr, "usage: %s udp NODE NODES PORT [thread] [fixed | dynamic] [lossy] [log FOLDER]\n", argv[0]);
     exit(2);
   }
   read_options(start, argc, argv, 5);
@@ -82,7 +84,7 @@ static inline void begin_example(example *e, int argc, char **argv, uint32_t pag
   memset(&start, 0, sizeof start);
   start.config.pages = pages;
   start.config.page_size = page_size;
-  start.config.manager = IVY_DYNAMIC;
+  start.config.manager = IVY_STEADY;
   if (argc == 1) {
     ivy_init_as(&argc, &argv, &start.config, &e->ivy);
   } else {

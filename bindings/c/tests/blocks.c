@@ -145,10 +145,10 @@ static int drawn(void) {
 }
 
 int main(void) {
-  for (uint32_t manager = IVY_FIXED; manager <= IVY_DYNAMIC; manager++) {
+  for (uint32_t manager = IVY_FIXED; manager <= IVY_STEADY; manager++) {
     memset(should, 0, sizeof should);
     for (uint32_t i = 0; i < NODES; i++)
-      if (ivy_open(&node[i], NODES, PAGES, PAGE, manager, i)) return 1;
+      if (ivy_open_by(&node[i], NODES, PAGES, PAGE, manager, i)) return 1;
     int status = closed();
     if (status || (status = refusals())) return printf("refusals: %d\n", status), 1;
     if ((status = drawn())) return printf("drawn: %d\n", status), 1;

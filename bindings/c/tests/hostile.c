@@ -29,6 +29,10 @@ static int bad_arguments(void) {
   if (ivy_open(&node, 2, 16, 100, 0, 0) != IVY_BAD_CONFIG || ivy_open(&node, 2, 16, 256, 7, 0) != IVY_BAD_ARGUMENT) return 5;
   if (ivy_open(&node, 2, 65537, 256, 0, 0) != IVY_BAD_CONFIG || ivy_open(&node, 2, 1, 256, 0, 0) != IVY_BAD_CONFIG) return 5;
   if (ivy_open(&node, 2, 16, 256, 0, 2) != IVY_BAD_ARGUMENT || ivy_open(&node, 2, 16, 256, 0, 256) != IVY_BAD_ARGUMENT) return 6;
+  if (ivy_open(&node, 2, 16, 256, IVY_STEADY, 0) != IVY_BAD_ARGUMENT || ivy_open_by(&node, 2, 16, 256, 3, 0) != IVY_BAD_ARGUMENT) return 16;
+  if (ivy_open_by(&node, 2, 65537, 256, IVY_STEADY, 0) != IVY_BAD_CONFIG || ivy_open_by(&node, 2, 16, 256, IVY_STEADY, 2) != IVY_BAD_ARGUMENT) return 17;
+  if (node.at || ivy_open_by(&node, 2, 16, 256, IVY_STEADY, 1) || ivy_open_by(&node, 2, 16, 256, IVY_STEADY, 1) != IVY_OPEN) return 18;
+  ivy_close(&node);
   if (node.at || ivy_open(&node, 2, 16, 256, 0, 1) || ivy_open(&node, 2, 16, 256, 0, 1) != IVY_OPEN) return 7;
   if (ivy_begin(&node, 10, 8, 256, 0, 0, &value) != IVY_BAD_ARGUMENT) return 8;
   if (ivy_begin(&node, IVY_LOAD, 3, 256, 0, 0, &value) != IVY_BAD_ARGUMENT) return 9;

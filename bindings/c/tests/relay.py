@@ -24,6 +24,10 @@ SPEAK, PATIENCE, REPEATS = 0.02, 100, 5
 LOST = 10
 
 
+# By their numbers.
+MANAGERS = ["fixed", "dynamic", "steady"]
+
+
 def sum_of(draws):
     """The name of a run."""
     return bytes(reduce(lambda a, b: [x ^ y for x, y in zip(a, b)], draws))
@@ -34,7 +38,7 @@ class Member:
 
     def __init__(self, me, nodes, port, manager, pages, page):
         self.me, self.all, self.port = me, set(range(nodes)), port
-        self.numbers = (VERSION, nodes, pages, page, int(manager == "dynamic"), struct.pack("=I", 0x01020304)[0])
+        self.numbers = (VERSION, nodes, pages, page, MANAGERS.index(manager), struct.pack("=I", 0x01020304)[0])
         self.socket = socket.socket(socket.AF_INET, socket.SOCK_DGRAM)
         self.socket.bind(("127.0.0.1", port + me))
         self.draws, self.run = {me: os.urandom(DRAW)}, NOTHING

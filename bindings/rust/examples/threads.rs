@@ -190,6 +190,7 @@ fn run_one(mut process: Process, done: &AtomicUsize) -> Result<(u64, u64), Statu
 fn main() -> Result<(), Status> {
     let manager = match std::env::args().nth(1).as_deref() {
         Some("fixed") => Manager::Fixed,
+        Some("steady") => Manager::Steady,
         _ => Manager::Dynamic,
     };
     let config = Config { nodes: NODES, pages: 4, page_size: PAGE as u32, manager };

@@ -16,7 +16,7 @@ mod header {
 
     unsafe extern "C" {
         pub fn ivy_version() -> u32;
-        pub fn ivy_open(node: *mut Handle, nodes: u32, pages: u32, page_size: u32, manager: u32, me: u32) -> u32;
+        pub fn ivy_open_by(node: *mut Handle, nodes: u32, pages: u32, page_size: u32, manager: u32, me: u32) -> u32;
         pub fn ivy_close(node: *mut Handle);
         pub fn ivy_begin(
             node: *mut Handle,
@@ -100,6 +100,8 @@ impl std::error::Error for Status {}
 pub enum Manager {
     Fixed = 0,
     Dynamic = 1,
+    /// By hints that stay as copies end; what finds a copy awaited is sent on.
+    Steady = 2,
 }
 
 /// What all nodes have alike.
@@ -189,7 +191,7 @@ impl Node {
         }
         let mut handle = header::Handle { at: std::ptr::null_mut() };
         let Config { nodes, pages, page_size, manager } = config;
-        match unsafe { header::ivy_open(&mut handle, nodes, pages, page_size, manager as u32, me) } {
+        match unsafe { header::ivy_open_by(&mut handle, nodes, pages, page_size, manager as u32, me) } {
             DONE => Ok(Node { handle, frame_most: page_size as usize + 41 }),
             other => Err(Status(other)),
         }

@@ -125,7 +125,8 @@ static inline ivy_node ivy_none(void) {
 
 typedef enum ivy_manager {
   IVY_FIXED = 0,  /* a fixed node for each page keeps who owns it */
-  IVY_DYNAMIC = 1 /* each node keeps a hint of who owns each page */
+  IVY_DYNAMIC = 1, /* each node keeps a hint of who owns each page */
+  IVY_STEADY = 2   /* the same, but hints stay as copies end, and what finds a copy awaited is sent on: of ivy_open_by alone */
 } ivy_manager;
 
 /* No frame of a configuration is longer. */
@@ -136,6 +137,9 @@ typedef enum ivy_manager {
  * BAD_CONFIG (out of these limits), BAD_ARGUMENT (no such node); else IVY_DONE, or MEMORY. After any but IVY_DONE the
  * handle is as it was. */
 uint32_t ivy_open(ivy_node *node, uint32_t nodes, uint32_t pages, uint32_t page_size, uint32_t manager, uint32_t me);
+
+/* The same by any manager, IVY_STEADY among them, which ivy_open refuses. All nodes of a run are opened by one manager. */
+uint32_t ivy_open_by(ivy_node *node, uint32_t nodes, uint32_t pages, uint32_t page_size, uint32_t manager, uint32_t me);
 
 /* Frees all that a node has. A handle without one stays as it is. */
 void ivy_close(ivy_node *node);

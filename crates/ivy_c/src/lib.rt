@@ -10,23 +10,24 @@ ghost use Rattle.ivy_model.specs.declared.Config.{Config};
 ghost use Rattle.ivy_model.specs.declared.Row.TheVariants.{Loads, Stores};
 ghost use Rattle.ivy_pagetable.specs.stated.NodeSets.{nodes_code};
 ghost use Rattle.ivy_alloc.specs.Heap.{heap_state_code};
-ghost use Rattle.ivy_embedded.specs.Nodes.{Embedded, first_embedded};
+ghost use Rattle.ivy_embedded.specs.Nodes.{Embedded, first_embedded, opened_embedded};
 ghost use Rattle.ivy_embedded.specs.Blocks.{BeginsAll, HasWordsAt, LoadsAll, RefusesBlock, RefusesStores, StoresAll, StoresNoneRead, TakesAll};
 ghost use Rattle.ivy_embedded.specs.Exports.{Answers, Begins, BeginsBlock, CarriesOut, Delivers, IsRequest, Polls, Pulses, RefusesCall, RefusesPoll, RefusesPulse, RefusesString, TakesAt, TakesBlock, marks_at};
 ghost use Rattle.ivy_embedded.specs.Lending.{LendsSoundly};
 ghost use Rattle.ivy_embedded.specs.LentPages.{DeliversFarAt, GivesBack, GoesOnFor, IsTold, Lends, RefusesGiveBack, RefusesLend, RefusesPeer, TellsWanted};
 ghost use Rattle.ivy_embedded.specs.declared.lending.Want.{Want};
-ghost use Rattle.ivy_embedded.specs.Openings.{Names, RefusesOpening};
+ghost use Rattle.ivy_embedded.specs.Openings.{IsOpenedBy, Names, RefusesOpening, RefusesOpeningBy};
 ghost use Rattle.ivy_embedded.specs.Peers.{KeepsFor, OwesTo, TellsThose};
 ghost use Rattle.ivy_embedded.specs.Turns.{TellsTurns};
 ghost use Rattle.ivy_c.specs.Ownership.{handle_owns};
 
 use ivy_embedded::{
-    BAD_ARGUMENT, BAD_CONFIG, CLOSED, DONE, Declined, Embedded, LENT, MEMORY, NO_CALL, NO_FRAME,
-    OPEN, PENDING, SHORT_BUFFER, TakenString, WANTED, Want, call_of, config_of, lending_number,
-    lending_of, manager_of, refusal_status, status_of, tell, verdict_number,
+    BAD_ARGUMENT, BAD_CONFIG, CLOSED, DONE, DYNAMIC, Declined, Embedded, LENT, MEMORY, NO_CALL,
+    NO_FRAME, OPEN, PENDING, SHORT_BUFFER, STEADY, TakenString, WANTED, Want, call_of, config_of,
+    lending_number, lending_of, manager_of, refusal_status, status_of, tell, verdict_number,
 };
 use ivy_model::Row;
+use ivy_site::Opening;
 use std::alloc::Global;
 use std::marker::Model;
 use std::mem::{ManuallyDrop, replace};
@@ -142,6 +143,51 @@ pub extern "C" fn ivy_open(
     ensures refused { result ≢ DONE → RefusesOpening nodes pages page_size manager me result handle.old.held }
     ensures lent { IfSome handle.new.held LendsSoundly }
 {
+    let opening = Opening::Configured;
+    open_as(alloc, handle, nodes, pages, page_size, manager, me, opening)
+}
+
+/// The same by any manager: a number of [`ivy_open`], or STEADY, with which all nodes of a run begin under a configuration
+/// that names DYNAMIC.
+#[unsafe(no_mangle)]
+pub extern "C" fn ivy_open_by(
+    alloc: Global,
+    handle: &mut Handle,
+    nodes: u32,
+    pages: u32,
+    page_size: u32,
+    manager: u32,
+    me: u32,
+) -> u32
+    ensures done { result ≡ DONE → IsOpenedBy nodes pages page_size manager me handle.old.held handle.new.held }
+    ensures same { result ≢ DONE → handle.new.held ≡ handle.old.held }
+    ensures refused { result ≢ DONE → RefusesOpeningBy nodes pages page_size manager me result handle.old.held }
+    ensures lent { IfSome handle.new.held LendsSoundly }
+{
+    if manager == STEADY {
+        let opening = Opening::Steady;
+        return open_as(alloc, handle, nodes, pages, page_size, DYNAMIC, me, opening);
+    }
+    let opening = Opening::Configured;
+    open_as(alloc, handle, nodes, pages, page_size, manager, me, opening)
+}
+
+/// Opens node `me`, which begins so, under a configuration of these numbers.
+fn open_as(
+    alloc: Global,
+    handle: &mut Handle,
+    nodes: u32,
+    pages: u32,
+    page_size: u32,
+    manager: u32,
+    me: u32,
+    opening: Opening,
+) -> u32
+    ensures done { result ≡ DONE → (c : Config) × Names nodes pages page_size manager c × (me < c.nodes) × (handle.old.held ≡ None) × (handle.new.held ≡ Some (opened_embedded opening c me)) }
+    ensures same { result ≢ DONE → handle.new.held ≡ handle.old.held }
+    ensures refused { result ≢ DONE → RefusesOpening nodes pages page_size manager me result handle.old.held }
+    ensures lent { IfSome handle.new.held LendsSoundly }
+{
     if let Some(node) = take(alloc, handle) {
         put(alloc, handle, node);
         return OPEN;
@@ -158,7 +204,7 @@ pub extern "C" fn ivy_open(
     if config.nodes <= me {
         return BAD_ARGUMENT;
     }
-    let Ok(node) = Embedded::open(alloc, &config, me) else {
+    let Ok(node) = Embedded::open_by(alloc, &config, me, opening) else {
         return MEMORY;
     };
     let Some(node) = held(alloc, node) else {

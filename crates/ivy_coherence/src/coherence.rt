@@ -16,7 +16,8 @@ ghost use Rattle.ivy_coherence.specs.Hits.{permits, is_at_hand, has_to_wait, Are
 ghost use Rattle.ivy_coherence.specs.Outcomes.{IsWantOfPage};
 ghost use Rattle.ivy_coherence.specs.stated.Several.{first_out, later_outs};
 ghost use Rattle.ivy_coherence.specs.Takes.{are_given, AreOutsTaken, given_there};
-ghost use Rattle.ivy_coherence.specs.stated.Sound.{first_coherent, IsSound};
+ghost use Rattle.ivy_coherence.specs.stated.Sound.{new_coherent, first_coherent, IsSound};
+ghost use Rattle.ivy_pagetable.specs.Manager.{IsNew};
 
 use crate::need::Need;
 use crate::rest::{Rest, number_of, put_number, word_at};
@@ -35,6 +36,8 @@ use std::marker::Model;
 pub struct Coherence<M: Manager, A: Allocator> {
     pub(crate) config: Config,
     pub(crate) me: u8,
+    /// Whether requests are sent on while a copy is awaited, and not put off.
+    pub(crate) sends_on: bool,
     pub(crate) table: NodeTable<A>,
     pub(crate) manager: M,
     pub(crate) locked: Option<u32>,
@@ -63,6 +66,7 @@ impl<M: Manager, A: Allocator> Model for Coherence<M, A> {
     ghost view = { λ c. record {
       config = c.config;
       me = c.me;
+      sends_on = c.sends_on;
       table = c.table;
       manager = c.manager;
       locked = c.locked;
@@ -75,6 +79,7 @@ impl<M: Manager, A: Allocator> Model for Coherence<M, A> {
     ghost invariant = { λ c. IsSound M.ops (record {
       config = c.config;
       me = c.me;
+      sends_on = c.sends_on;
       table = c.table;
       manager = c.manager;
       locked = c.locked;
@@ -109,12 +114,38 @@ impl<M: Manager, A: Allocator + Copy> Coherence<M, A> {
         ensures first { IfOk result (λ c. c ≡ first_coherent M.ops config.now me) }
         ensures memory { IsOkUnless result Fault.Memory }
     {
+        Coherence::made(alloc, config, me, false, manager)
+    }
+
+    /// The same, with any new manager, but requests are sent on while a copy is awaited, and not put off [1].
+    pub fn sending_on(alloc: A, config: &Config, me: u8, manager: M) -> Result<Self, Fault>
+    where
+        M: Drop,
+        requires limits { IsConfig config.now }
+        requires here { me < config.now.nodes }
+        requires fresh { IsNew M.ops config.now me manager }
+        ensures first { IfOk result (λ c. c ≡ new_coherent true config.now me manager) }
+        ensures memory { IsOkUnless result Fault.Memory }
+    {
+        Coherence::made(alloc, config, me, true, manager)
+    }
+
+    fn made(alloc: A, config: &Config, me: u8, sends_on: bool, manager: M) -> Result<Self, Fault>
+    where
+        M: Drop,
+        requires limits { IsConfig config.now }
+        requires here { me < config.now.nodes }
+        requires fresh { IsNew M.ops config.now me manager }
+        ensures first { IfOk result (λ c. c ≡ new_coherent sends_on config.now me manager) }
+        ensures memory { IsOkUnless result Fault.Memory }
+    {
         let table = NodeTable::new(alloc, config, me)?;
         let spare = Page::zeros(alloc, config.page_size as usize)?;
         let rest = Rest::new(alloc, config.page_size)?;
         Ok(Coherence {
             config: *config,
             me,
+            sends_on,
             table,
             manager,
             locked: None,
@@ -152,6 +183,7 @@ impl<M: Manager, A: Allocator> Coherence<M, A> {
     pub(crate) fn sound(&self)
         ensures { IsSound M.ops self.now }
     {
+        // for the proof: what holds of every value of this type.
         let _ = &self.me;
     }
 

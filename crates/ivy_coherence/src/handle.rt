@@ -15,7 +15,7 @@ ghost use Rattle.ivy_coherence.specs.Outcomes.{IsStep, IsWantOfPage};
 ghost use Rattle.ivy_coherence.specs.MessageSteps.{IsWaiting, IsCollecting};
 ghost use Rattle.ivy_coherence.specs.stated.MessageSteps.{unlocked_as};
 ghost use Rattle.ivy_coherence.specs.stated.MessageSteps.{is_none, unlocked_by_reply, unlocked_by_last};
-ghost use Rattle.ivy_coherence.specs.stated.MessageSteps.{put_aside_at, given_up, asked_at, copy_came_at, owned_with, page_came_at, left_with, acknowledged_at, handled};
+ghost use Rattle.ivy_coherence.specs.stated.MessageSteps.{reply_as, sent_on, put_aside_at, given_up, asked_at, copy_came_at, owned_with, page_came_at, left_with, acknowledged_at, handled};
 
 use crate::coherence::Coherence;
 use crate::serving::{Place, count, invalidate, serve_put_off};
@@ -34,6 +34,23 @@ fn unlocked_as(kind: Request) -> Idle
     match kind {
         Request::Write => Idle::owned(),
         Request::Read | Request::Invalidate => Idle::plain(Access::Read),
+    }
+}
+
+#[tactic(auto, unfolding(crate::specs::stated::MessageSteps::reply_as))]
+/// What the manager learns once the page, or a copy, came.
+fn reply_as(kind: Request, waiting: &Waiting) -> Option<Request>
+    ensures { result ≡ reply_as kind waiting.now }
+{
+    match kind {
+        Request::Write => Some(Request::Write),
+        Request::Read | Request::Invalidate => {
+            if waiting.sent_on() {
+                None
+            } else {
+                Some(Request::Read)
+            }
+        }
     }
 }
 
@@ -99,25 +116,60 @@ impl<M: Manager, A: Allocator> Coherence<M, A> {
         ensures { IsStep P.ops post.old post.new result self.old self.new
             (asked_at M.ops self.old page message) }
     {
+        let is_order = message.kind == Request::Invalidate;
         match self.table.entry(page) {
             LentEntry::Idle(_) => unreachable!(),
-            LentEntry::AwaitRead(_) => self.put_aside(page, message),
-            LentEntry::AwaitWrite(state) => {
-                if message.kind == Request::Invalidate {
-                    let waiting = state.waiting().copied();
-                    self.give_up(page, waiting, message, post)?;
-                } else {
-                    self.put_aside(page, message);
-                }
+            LentEntry::AwaitRead(waiting) if self.sends_on && !is_order => {
+                let waiting = waiting.copied();
+                self.send_on(page, waiting, message, post)?;
             }
-            LentEntry::AwaitAcks(_) => {
-                if message.kind == Request::Invalidate {
-                    count(&mut self.breaches);
-                } else {
-                    self.put_aside(page, message);
-                }
+            LentEntry::AwaitWrite(state) if is_order => {
+                let waiting = state.waiting().copied();
+                self.give_up(page, waiting, message, post)?;
+            }
+            LentEntry::AwaitAcks(_) if is_order => count(&mut self.breaches),
+            LentEntry::AwaitRead(_) | LentEntry::AwaitWrite(_) | LentEntry::AwaitAcks(_) => {
+                self.put_aside(page, message);
             }
         }
+        Ok(())
+    }
+
+    /// A node that waits for a copy sends a request on, the way that its own went, and remembers that.
+    fn send_on<P: Post>(
+        &mut self,
+        page: u32,
+        waiting: Waiting,
+        message: PutOff,
+        post: &mut P,
+    ) -> Result<(), Fault>
+        requires page { page < self.old.config.pages }
+        requires message { CanBeServed self.old.config self.old.me message }
+        requires waits { IsWaiting (entry_at self.old.table page) request.Read waiting }
+        requires post { IsPostOf P.ops post.old self.old.config self.old.me }
+        ensures { IsStep P.ops post.old post.new result self.old self.new
+            (sent_on M.ops self.old page waiting message) }
+    {
+        let at = Place {
+            me: self.me,
+            from: message.origin,
+            page,
+            bytes: self.table.page(page),
+        };
+        let idle = Idle::plain(Access::Nil);
+        let breaches = &mut self.breaches;
+        serve_put_off(
+            at,
+            None,
+            idle,
+            &mut self.manager,
+            breaches,
+            &[message],
+            post,
+        )?;
+        let mut waiting = waiting;
+        waiting.send_on();
+        self.table.set_entry(page, Entry::AwaitRead(waiting));
         Ok(())
     }
 
@@ -194,7 +246,7 @@ impl<M: Manager, A: Allocator> Coherence<M, A> {
         let idle = unlocked_as(kind);
         let breaches = &mut self.breaches;
         let messages = waiting.put_offs();
-        let reply = Some(kind);
+        let reply = reply_as(kind, waiting);
         let after = serve_put_off(at, reply, idle, &mut self.manager, breaches, messages, post)?;
         self.table.set_entry(page, Entry::Idle(after));
         self.table.exchange(page, &mut self.spare);
@@ -204,6 +256,7 @@ impl<M: Manager, A: Allocator> Coherence<M, A> {
         Ok(())
     }
 
+    #[tactic(auto, unfolding(crate::specs::stated::MessageSteps::reply_as))]
     /// A copy comes for the word that waits to read.
     fn copy_came<P: Post>(
         &mut self,
@@ -262,6 +315,7 @@ impl<M: Manager, A: Allocator> Coherence<M, A> {
         Ok(())
     }
 
+    #[tactic(auto, unfolding(crate::specs::stated::MessageSteps::reply_as))]
     /// The page is this node's, and these nodes have a copy: they give it up before the word is carried out.
     fn owned_with<P: Post>(
         &mut self,

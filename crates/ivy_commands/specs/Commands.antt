@@ -6,6 +6,7 @@ use Rattle.ivy_arguments.specs.declared.IvyCommand.TheVariants as request
 use Rattle.ivy_model.specs.declared.Config.{Config}
 use Rattle.ivy_model.specs.declared.Fault.{Fault}
 use Rattle.ivy_model.specs.declared.Fault.TheVariants.{BadConfig, ProgramFault}
+use Rattle.ivy_host.specs.declared.opening.Opening.TheVariants.{Configured}
 use Rattle.ivy_program.specs.stated.Programs.{Program}
 use Rattle.ivy_program.specs.texts.Texts.{SpellsText}
 use Rattle.ivy_session.specs.Faults.{IsSessionFault}
@@ -20,7 +21,7 @@ module _ (c : Config) (programs : List Program) (old new : Option (List ℕ)) wh
   -- a session of these programs has ended, and what its report says that they printed was printed
   pub record PrintsSession : Type 0 where
     pub report : List NodeReport
-    pub is : IsReport c programs report
+    pub is : IsReport c Configured programs report
     pub printed : Appends old new (outputs_text (map (λ (n : NodeReport). n.output) report))
 
 -- some text spells these programs

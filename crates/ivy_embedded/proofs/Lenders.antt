@@ -29,7 +29,8 @@ use Rattle.ivy_site.specs.Calls.{AreAnswered, AreTaken, BeginsTogether}
 use Rattle.ivy_site.specs.Handed.{site_handed}
 use Rattle.ivy_site.specs.SiteView.{SiteView}
 use Rattle.ivy_site.specs.Inside.{Holds, Receives}
-use Rattle.ivy_site.specs.Sites.{GoesOnOnce, IsSite, SiteDelivers, first_keeping, without_ready}
+use Rattle.ivy_host.specs.declared.opening.Opening.{Opening}
+use Rattle.ivy_site.specs.Sites.{GoesOnOnce, IsSite, SiteDelivers, first_opened, without_ready}
 use Rattle.ivy_wire.specs.stated.Data.{Frame}
 use Rattle.ivy_link.specs.declared.Verdict.{Verdict}
 use Rattle.ivy_link.specs.declared.Verdict.TheVariants as verdict
@@ -272,10 +273,10 @@ gone_lender old new lent page from bytes l k none g =
     }))
 
 -- a node as it begins
-pub first_lender : (c : Config) (me : ℕ) (s : SiteView) (lent : List Lending)
-    → s ≡ first_keeping Nothing c me (Called []) → lent ≡ replicate c.pages Unlent
+pub first_lender : (o : Opening) (c : Config) (me : ℕ) (s : SiteView) (lent : List Lending)
+    → s ≡ first_opened o Nothing c me (Called []) → lent ≡ replicate c.pages Unlent
     → IsLender s lent 0
-first_lender c me s lent at none =
+first_lender o c me s lent at none =
     rw (at, none) (record {
       each = length-replicate c.pages Unlent;
       first = unlent c.pages 0;
@@ -291,7 +292,8 @@ first_lender c me s lent at none =
     unlent (suc n) zero = refl
     unlent (suc n) (suc p) = unlent n p
 
-    nothing : (call : Call) → HasUnanswered (core_of (first_keeping Nothing c me (Called []))).process call → ⊥
+    nothing : (call : Call)
+        → HasUnanswered (core_of (first_opened o Nothing c me (Called []))).process call → ⊥
     nothing call h = none-some call (sym (slice_get_past List.[] h.place (omega arith)) ∙ h.made)
 
 -- more, or less, is lent

@@ -1,11 +1,13 @@
 -- What the numbers that a node is opened with name, and why one is not opened.
-use Rattle.std.specs.Prelude.{◌≡◌, ◌⊎◌, ℕ, ◌<◌, ◌≤◌, Option, None, Some}
+use Rattle.std.specs.Prelude.{◌≡◌, ◌≢◌, ◌⊎◌, ℕ, ◌<◌, ◌≤◌, Option, None, Some}
 use Rattle.ivy_model.specs.declared.Config.{Config}
 use Rattle.ivy_model.specs.declared.Kind.{Kind}
 use Rattle.ivy_model.specs.declared.Kind.TheVariants.{Fixed, Dynamic}
 use Rattle.ivy_model.specs.stated.Config.{IsConfig}
-use Rattle.ivy_embedded.specs.Nodes.{Embedded}
-use Rattle.ivy_embedded.specs.declared.status.TheConstants.{MEMORY, BAD_CONFIG, BAD_ARGUMENT, OPEN, FIXED, DYNAMIC}
+use Rattle.ivy_host.specs.declared.opening.Opening.{Opening}
+use Rattle.ivy_host.specs.declared.opening.Opening.TheVariants.{Configured, Steady}
+use Rattle.ivy_embedded.specs.Nodes.{Embedded, opened_embedded}
+use Rattle.ivy_embedded.specs.declared.status.TheConstants.{MEMORY, BAD_CONFIG, BAD_ARGUMENT, OPEN, FIXED, DYNAMIC, STEADY}
 
 -- the number names the kind of manager
 abbrev pub IsManager : ℕ → Kind → Type 0
@@ -51,3 +53,29 @@ RefusesOpening nodes pages page_size manager me status None =
     ((status ≡ BAD_ARGUMENT) × IsNoManager manager)
     ⊎ ((status ≡ BAD_CONFIG) × IsOutOfLimits nodes pages page_size manager)
     ⊎ RefusesNode nodes pages page_size manager me status
+
+-- the number names the manager with which a node begins: steady hints, under a configuration that
+-- names hints; or any other number, by which the configuration names it
+abbrev pub OpensBy : ℕ → Opening → ℕ → Type 0
+OpensBy manager Configured named = (manager ≢ STEADY) × (named ≡ manager)
+OpensBy manager Steady named = (manager ≡ STEADY) × (named ≡ DYNAMIC)
+
+-- why no node is opened by this manager: as under the configuration
+pub record RefusesOpeningBy (nodes pages page_size manager me status : ℕ) (held : Option Embedded)
+    : Type 0 where
+  pub opening : Opening
+  pub named : ℕ
+  pub opens : OpensBy manager opening named
+  pub why : RefusesOpening nodes pages page_size named me status held
+
+-- the handle had no node, and has this one, which begins by this manager
+pub record IsOpenedBy (nodes pages page_size manager me : ℕ) (old new : Option Embedded)
+    : Type 0 where
+  pub opening : Opening
+  pub named : ℕ
+  pub opens : OpensBy manager opening named
+  pub config : Config
+  pub names : Names nodes pages page_size named config
+  pub here : me < config.nodes
+  pub none : old ≡ None
+  pub held : new ≡ Some (opened_embedded opening config me)

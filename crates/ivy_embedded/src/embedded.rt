@@ -15,7 +15,7 @@ ghost use Rattle.ivy_site.specs.Handed.{site_handed};
 ghost use Rattle.ivy_site.specs.Sites.{AfterDelivery, IsSpentTurn};
 ghost use Rattle.ivy_wire.specs.stated.DecodeErrors.{checked};
 ghost use Rattle.ivy_embedded.specs.Taking.{IsTaken};
-ghost use Rattle.ivy_embedded.specs.Nodes.{first_embedded, waiting_in};
+ghost use Rattle.ivy_embedded.specs.Nodes.{first_embedded, opened_embedded, waiting_in};
 ghost use Rattle.ivy_embedded.specs.Exports.{AfterCall, AfterBegin, ChangesWaiting, IsBeginFault, IsReady, MayBegin, OfSite};
 ghost use Rattle.ivy_embedded.specs.Turns.{CountsTurns};
 ghost use Rattle.ivy_embedded.specs.Peers.{AreThose, KeepsFor, OwesTo};
@@ -36,7 +36,7 @@ use crate::peers::{Kept, Owed, peers_of};
 use ivy_link::MOST_AHEAD;
 use ivy_memory::{Asked, asked_of};
 use ivy_model::{Call, Config, Fault, Reply, Row};
-use ivy_site::{Keep, Site, Turn, Verdict};
+use ivy_site::{Keep, Opening, Site, Turn, Verdict};
 use ivy_wire::{Bytes, destination};
 use std::alloc::Global;
 use std::marker::Model;
@@ -254,8 +254,24 @@ impl Embedded {
         ensures first { IfOk result (λ e. e ≡ first_embedded config.now me) }
         ensures memory { IsOkUnless result Fault.Memory }
     {
+        Embedded::open_by(alloc, config, me, Opening::Configured)
+    }
+
+    /// The same, of a node that begins so [1]: by the manager that the configuration names, or by steady hints. All nodes
+    /// of a run begin alike.
+    pub fn open_by(
+        alloc: Global,
+        config: &Config,
+        me: u8,
+        opening: Opening,
+    ) -> Result<Embedded, Fault>
+        requires limits { IsConfig config.now }
+        requires here { me < config.now.nodes }
+        ensures first { IfOk result (λ e. e ≡ opened_embedded opening config.now me) }
+        ensures memory { IsOkUnless result Fault.Memory }
+    {
         Ok(Embedded {
-            site: Site::open_keeping(alloc, config, me, Keep::Nothing)?,
+            site: Site::open_by(alloc, config, me, opening, Keep::Nothing)?,
             first: None,
             turns: 0,
             lendings: Lendings::new(alloc, config.pages)?,
@@ -671,6 +687,7 @@ impl Embedded {
     pub fn lends_soundly(&self)
         ensures { LendsSoundly self.now }
     {
+        // for the proof: what holds of every value of this type.
         let _ = &self.turns;
     }
 

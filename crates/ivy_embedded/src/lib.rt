@@ -13,7 +13,7 @@ pub use lending::{Lending, Want};
 pub use status::{
     ADVANCE, ALLOCATE, AWAIT, BAD_ARGUMENT, BAD_CONFIG, BUSY, CLOSED, COMPARE_AND_SWAP, COUNT,
     DONE, DYNAMIC, FETCH_AND_ADD, FIXED, FREE, LENT, LOAD, MEMORY, NO_CALL, NO_FRAME, NO_PAGE,
-    NO_REPLY, OPEN, PENDING, SHORT_BUFFER, STORE, SWAP, TO_READ, TO_WRITE, UNLENT, WANTED, call_of,
-    config_of, lending_number, lending_of, manager_of, refusal_status, status_of, tell,
+    NO_REPLY, OPEN, PENDING, SHORT_BUFFER, STEADY, STORE, SWAP, TO_READ, TO_WRITE, UNLENT, WANTED,
+    call_of, config_of, lending_number, lending_of, manager_of, refusal_status, status_of, tell,
     verdict_number,
 };

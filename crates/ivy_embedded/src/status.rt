@@ -71,6 +71,10 @@ pub const FIXED: u32 = 0;
 /// Managers that follow hints.
 pub const DYNAMIC: u32 = 1;
 
+/// Managers that follow steady hints. No configuration names them: the nodes begin with them, under one that names
+/// [`DYNAMIC`].
+pub const STEADY: u32 = 2;
+
 /// A load: the kinds of calls are numbered from it on.
 pub const LOAD: u32 = 0;
 

@@ -10,9 +10,11 @@ use Rattle.ivy_moves.specs.Marks.{Mark}
 use Rattle.ivy_moves.specs.Parts.{AreParts}
 use Rattle.ivy_moves.specs.stated.Worlds.{World}
 use Rattle.ivy_moves.proofs.Carried.{changed-one}
+use Rattle.ivy_host.specs.declared.opening.Opening.{Opening}
 use Rattle.ivy_host.specs.Handing.{handing}
 use Rattle.ivy_host.specs.stated.Hosts.{Host, host_rules}
 use Rattle.ivy_host.specs.stated.Managers.{Managed, managed_ops}
+use Rattle.ivy_host.specs.stated.Openings.{managed_start}
 use Rattle.ivy_host.proofs.HandedHosts.{unseen, handing_none, opening_handed}
 use Rattle.ivy_host.proofs.WellBehaved.{first_length}
 use Rattle.ivy_ether.specs.Programs.{beginning, all_handed_from, all_handed}
@@ -57,37 +59,42 @@ pub length-all_handed : (calls : ℕ → List (List Call)) (ps : List Program)
     → length (all_handed calls ps) ≡ length ps
 length-all_handed calls ps = length-handed calls 0 ps
 
-pub handed_count : (c : Config) (calls : ℕ → List (List Call)) (ps : List Program)
-    → length (beginning c (all_handed calls ps)).nodes ≡ length ps
-handed_count c calls ps =
-    first_length managed_ops c 0 (all_handed calls ps) ∙ length-all_handed calls ps
+pub handed_count : (c : Config) (opened : Opening) (calls : ℕ → List (List Call))
+    (ps : List Program)
+    → length (beginning c opened (all_handed calls ps)).nodes ≡ length ps
+handed_count c opened calls ps =
+    first_length (managed_start opened) c 0 (all_handed calls ps) ∙ length-all_handed calls ps
 
 -- the nodes as they begin
-pub opened : (c : Config) (programs : List Program) (calls : ℕ → List (List Call))
-    → IsStart (host_rules managed_ops) c (beginning c programs) handing calls
-    (beginning c (all_handed calls programs))
-opened c programs calls = opening_handed managed_ops c calls programs (all_handed calls programs)
+pub handed_start : (c : Config) (opened : Opening) (programs : List Program)
+    (calls : ℕ → List (List Call))
+    → IsStart (host_rules managed_ops) c (beginning c opened programs) handing calls
+    (beginning c opened (all_handed calls programs))
+handed_start c opened programs calls = opening_handed (managed_start opened) c calls programs
+    (all_handed calls programs)
     (record {
       count = length-all_handed calls programs;
       each = λ i p is. handed-at calls programs i p is;
     })
 
 -- whatever was handed to the others
-abbrev pub starts_with : (c : Config) (programs : List Program) (node : ℕ) (calls : List (List Call))
-    → StartsWith (host_rules managed_ops) c (beginning c programs) handing node calls
-starts_with c programs node calls = record {
+abbrev pub starts_with : (c : Config) (opened : Opening) (programs : List Program) (node : ℕ)
+    (calls : List (List Call))
+    → StartsWith (host_rules managed_ops) c (beginning c opened programs) handing node calls
+starts_with c opened programs node calls = record {
   calls = λ _. calls;
   own = refl;
-  start = beginning c (all_handed (λ _. calls) programs);
-  starts = opened c programs (λ _. calls);
+  start = beginning c opened (all_handed (λ _. calls) programs);
+  starts = handed_start c opened programs (λ _. calls);
 }
 
 -- a run of nodes to which calls were handed is one of the programs with these calls
-pub from_start : (c : Config) (programs : List Program) (calls : ℕ → List (List Call))
-    (parts : ℕ → List Mark) (end : World (Host Managed))
-    → AreRunParts (host_rules managed_ops) c (beginning c programs) handing calls parts end
-    → AreParts (host_rules managed_ops) c (beginning c (all_handed calls programs)) parts end
-from_start c programs calls parts end r =
+pub from_start : (c : Config) (opened : Opening) (programs : List Program)
+    (calls : ℕ → List (List Call)) (parts : ℕ → List Mark) (end : World (Host Managed))
+    → AreRunParts (host_rules managed_ops) c (beginning c opened programs) handing calls parts end
+    → AreParts (host_rules managed_ops) c (beginning c opened (all_handed calls programs)) parts end
+from_start c opened programs calls parts end r =
     subst (λ w. AreParts (host_rules managed_ops) c w parts end)
-    (changed-one (λ i. handing (calls i)) (beginning c programs) r.start
-    (beginning c (all_handed calls programs)) r.starts (opened c programs calls)) r.run
+    (changed-one (λ i. handing (calls i)) (beginning c opened programs) r.start
+    (beginning c opened (all_handed calls programs)) r.starts
+    (handed_start c opened programs calls)) r.run

@@ -1,4 +1,5 @@
--- The rule, and what steps ask, for the ether of these programs under this configuration.
+-- The rule, and what steps ask, for the ether of these programs under this configuration, whose
+-- nodes begin so.
 use Rattle.std.specs.Prelude.{ℕ, ◌+◌, List, [], ◌∷◌}
 use Rattle.ivy_model.specs.declared.Call.{Call}
 use Rattle.ivy_model.specs.declared.Config.{Config}
@@ -7,10 +8,11 @@ use Rattle.ivy_program.specs.stated.Programs.{Program}
 use Rattle.ivy_program.specs.Programs.{handed}
 use Rattle.ivy_moves.specs.Marks.{Mark}
 use Rattle.ivy_moves.specs.stated.Worlds.{World}
+use Rattle.ivy_host.specs.declared.opening.Opening.{Opening}
 use Rattle.ivy_host.specs.Handing.{handing}
 use Rattle.ivy_host.specs.stated.Hosts.{Host, host_rules}
 use Rattle.ivy_host.specs.stated.Managers.{Managed, managed_ops}
-use Rattle.ivy_host.specs.stated.Openings.{opening}
+use Rattle.ivy_host.specs.stated.Openings.{managed_start, opening}
 use Rattle.ivy_ether.specs.Data.{Item}
 use Rattle.ivy_ether.specs.Views.{View}
 use Rattle.ivy_ether.specs.Rule as rule
@@ -27,10 +29,10 @@ all_handed_from i calls (p ∷ ps) = handed (calls i) p ∷ all_handed_from (i +
 abbrev pub all_handed : (ℕ → List (List Call)) → List Program → List Program
 all_handed calls programs = all_handed_from 0 calls programs
 
-module _ (c : Config) (programs : List Program) where
+module _ (c : Config) (opened : Opening) (programs : List Program) where
   -- the world from which the programs run
   abbrev pub beginning : World (Host Managed)
-  beginning = opening managed_ops c programs
+  beginning = opening (managed_start opened) c programs
 
   -- the rule, over these items of the ether and the views of its passes
   abbrev pub Kept : List Item → List View → Type 0

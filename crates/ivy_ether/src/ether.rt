@@ -70,6 +70,7 @@ impl<S: Setup, A: Allocator + Copy> Ether<S, A> {
         ensures room { IfOk result (λ r. room_of r.0 ≡ capacity) }
         ensures memory { IsOkUnless result Fault.Memory }
     {
+        // for the proof: the clauses name them.
         let _ = config;
         let _ = programs;
         Ether::laid(alloc, capacity, passes)
@@ -91,6 +92,7 @@ impl<S: Setup, A: Allocator + Copy> Ether<S, A> {
         ensures room { IfOk result (λ r. room_of r.0 ≡ capacity) }
         ensures memory { IsOkUnless result Fault.Memory }
     {
+        // for the proof: the clauses name it.
         let _ = config;
         Ether::laid(alloc, capacity, passes)
     }
@@ -131,10 +133,11 @@ impl<S: Setup, A: Allocator + Copy> Ether<S, A> {
     ) -> Option<Wired<A>>
         requires pass { pass.old.ether ≡ self.now }
         requires given { E.events ≡ events.now.marks }
-        requires events { MayGive S.config S.programs pass.old.known E.events }
+        requires events { MayGive S.config S.opened S.programs pass.old.known E.events }
         ensures pass { pass.new.ether ≡ pass.old.ether }
         ensures known { MatchOption result (pass.new.known ≡ with_empty pass.old.known) (λ x. pass.new.known ≡ with_taken pass.old.known E.events x) }
     {
+        // for the proof: the clauses name them.
         let _ = events;
         let item = self.queue.pop_as::<Takes<E>, R>(rt, &mut pass.token);
         if item.is_none() {
@@ -153,7 +156,7 @@ impl<S: Setup, A: Allocator + Copy> Ether<S, A> {
         events: &Events<A>,
     ) -> Option<Wired<A>>
         requires pass { pass.old.ether ≡ self.now }
-        requires events { MayGive S.config S.programs pass.old.known events.now.marks }
+        requires events { MayGive S.config S.opened S.programs pass.old.known events.now.marks }
         ensures pass { pass.new.ether ≡ pass.old.ether }
         ensures known { MatchOption result (pass.new.known ≡ with_empty pass.old.known) (λ x. pass.new.known ≡ with_taken pass.old.known events.now.marks x) }
     {
@@ -169,11 +172,12 @@ impl<S: Setup, A: Allocator + Copy> Ether<S, A> {
     ) -> Put<Bytes<A>>
         requires pass { pass.old.ether ≡ self.now }
         requires given { (E.events ≡ events.now.marks) × (E.frame ≡ frame) }
-        requires events { MayGive S.config S.programs pass.old.known E.events }
-        requires frame { SendsFrom S.config S.programs pass.old.known E.events frame ⊎ Contains pass.old.known.took frame }
+        requires events { MayGive S.config S.opened S.programs pass.old.known E.events }
+        requires frame { SendsFrom S.config S.opened S.programs pass.old.known E.events frame ⊎ Contains pass.old.known.took frame }
         ensures pass { pass.new.ether ≡ pass.old.ether }
         ensures known { MatchPut result (pass.new.known ≡ with_put pass.old.known E.events (frame ∷ [])) (λ back. (back ≡ frame) × (pass.new.known ≡ with_refused pass.old.known frame)) }
     {
+        // for the proof: the clauses name them.
         let _ = events;
         match self
             .queue
@@ -198,8 +202,8 @@ impl<S: Setup, A: Allocator + Copy> Ether<S, A> {
         frame: Bytes<A>,
     ) -> Put<Bytes<A>>
         requires pass { pass.old.ether ≡ self.now }
-        requires events { MayGive S.config S.programs pass.old.known events.now.marks }
-        requires frame { SendsFrom S.config S.programs pass.old.known events.now.marks frame }
+        requires events { MayGive S.config S.opened S.programs pass.old.known events.now.marks }
+        requires frame { SendsFrom S.config S.opened S.programs pass.old.known events.now.marks frame }
         ensures pass { pass.new.ether ≡ pass.old.ether }
         ensures known { MatchPut result (pass.new.known ≡ with_put pass.old.known events.now.marks (frame ∷ [])) (λ back. (back ≡ frame) × (pass.new.known ≡ with_refused pass.old.known frame)) }
     {
@@ -215,7 +219,7 @@ impl<S: Setup, A: Allocator + Copy> Ether<S, A> {
         frame: Bytes<A>,
     ) -> Put<Bytes<A>>
         requires pass { pass.old.ether ≡ self.now }
-        requires events { MayGive S.config S.programs pass.old.known events.now.marks }
+        requires events { MayGive S.config S.opened S.programs pass.old.known events.now.marks }
         requires frame { Contains pass.old.known.took frame }
         ensures pass { pass.new.ether ≡ pass.old.ether }
         ensures known { MatchPut result (pass.new.known ≡ with_put pass.old.known events.now.marks (frame ∷ [])) (λ back. (back ≡ frame) × (pass.new.known ≡ with_refused pass.old.known frame)) }
@@ -262,7 +266,7 @@ impl<S: Setup, A: Allocator + Copy> Ether<S, A> {
         events: Events<A>,
     ) -> Result<(), Events<A>>
         requires pass { pass.old.ether ≡ self.now }
-        requires events { MayGive S.config S.programs pass.old.known events.marks }
+        requires events { MayGive S.config S.opened S.programs pass.old.known events.marks }
         ensures pass { pass.new.ether ≡ pass.old.ether }
         ensures known { MatchResult result (λ _. pass.new.known ≡ with_report pass.old.known events.marks) (λ back. (back ≡ events) × (pass.new.known ≡ pass.old.known)) }
     {
@@ -300,6 +304,7 @@ impl<S: Setup, A: Allocator + Copy> Ether<S, A> {
         ensures pass { pass.new.ether ≡ pass.old.ether }
         ensures known { pass.new.known ≡ with_all_handed pass.old.known E.calls }
     {
+        // for the proof: the clauses name it.
         let _ = call;
         self.queue.another::<Hands<E>>(&mut pass.token);
     }
@@ -330,6 +335,7 @@ impl<S: Setup, A: Allocator + Copy> Ether<S, A> {
         ensures pass { pass.new.ether ≡ pass.old.ether }
         ensures known { pass.new.known ≡ with_all_handed pass.old.known E.calls }
     {
+        // for the proof: the clauses name them.
         let _ = (kind, addr, words);
         let _ = bytes;
         self.queue.another::<Hands<E>>(&mut pass.token);
@@ -376,10 +382,11 @@ impl<S: Setup, A: Allocator + Copy> Ether<S, A> {
     fn give<E: Given>(&self, pass: &mut Pass<Wired<A>>, events: &Events<A>)
         requires pass { pass.old.ether ≡ self.now }
         requires given { E.events ≡ events.now.marks }
-        requires events { MayGive S.config S.programs pass.old.known E.events }
+        requires events { MayGive S.config S.opened S.programs pass.old.known E.events }
         ensures pass { pass.new.ether ≡ pass.old.ether }
         ensures known { pass.new.known ≡ with_given pass.old.known E.events }
     {
+        // for the proof: the clauses name them.
         let _ = events;
         self.queue.another::<Gives<E>>(&mut pass.token);
     }
@@ -401,7 +408,7 @@ impl<S: Setup, A: Allocator + Copy> Ether<S, A> {
     pub fn close(&self, starter: &mut Pass<Wired<A>>, pass: Pass<Wired<A>>, events: &Events<A>)
         requires starter { starter.old.ether ≡ self.now }
         requires pass { pass.ether ≡ self.now }
-        requires events { MayGive S.config S.programs pass.known events.now.marks }
+        requires events { MayGive S.config S.opened S.programs pass.known events.now.marks }
         ensures starter { starter.new.ether ≡ starter.old.ether }
         ensures known { starter.new.known ≡ with_closed starter.old.known (with_given pass.known events.now.marks) }
     {
@@ -415,7 +422,7 @@ impl<S: Setup, A: Allocator + Copy> Ether<S, A> {
     pub fn learn_run(&self, pass: &mut Pass<Wired<A>>)
         requires pass { pass.old.ether ≡ self.now }
         ensures same { pass.new ≡ pass.old }
-        ensures run { Runs S.config S.programs pass.new.known }
+        ensures run { Runs S.config S.opened S.programs pass.new.known }
     {
         self.queue.learn_as::<Own<S>>(&mut pass.token);
     }
@@ -424,7 +431,7 @@ impl<S: Setup, A: Allocator + Copy> Ether<S, A> {
     pub fn learn(&self, pass: &mut Pass<Wired<A>>)
         requires pass { pass.old.ether ≡ self.now }
         ensures same { pass.new ≡ pass.old }
-        ensures told { Told S.config S.programs pass.new.known }
+        ensures told { Told S.config S.opened S.programs pass.new.known }
     {
         self.queue.learn_as::<Parts<S>>(&mut pass.token);
     }

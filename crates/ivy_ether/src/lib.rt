@@ -14,6 +14,7 @@ mod steps;
 
 pub use ether::{Ether, Put};
 pub use item::{Item, View, Wired};
+pub use ivy_host::Opening;
 pub use ivy_moves::{Event, Events, Move};
 pub use law::{Law, Setup, lists_go_on};
 pub use pass::Pass;

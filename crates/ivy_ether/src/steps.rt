@@ -142,7 +142,7 @@ pub struct Parts<S: Setup>(PhantomData<S>);
 impl<S: Setup, A: Allocator> Lesson<Wired<A>, View> for Parts<S> {
     ghost use Rattle.ivy_ether.specs.Programs.{Told};
 
-    ghost fact = { λ v items. Told S.config S.programs v };
+    ghost fact = { λ v items. Told S.config S.opened S.programs v };
 }
 
 /// What the run so far is to a pass.
@@ -151,7 +151,7 @@ pub struct Own<S: Setup>(PhantomData<S>);
 impl<S: Setup, A: Allocator> Lesson<Wired<A>, View> for Own<S> {
     ghost use Rattle.ivy_ether.specs.Programs.{Runs};
 
-    ghost fact = { λ v items. Runs S.config S.programs v };
+    ghost fact = { λ v items. Runs S.config S.opened S.programs v };
 }
 
 /// A frame that found the ether full. What a pass notes makes a newcomer beside it, which nobody uses.

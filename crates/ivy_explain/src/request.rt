@@ -108,6 +108,11 @@ impl<'a> ScopeRequest<'a> {
         }
     }
 
+    /// Whether nodes begin with steady hints, in place of the manager of the settings.
+    pub fn is_steady(&self) -> bool {
+        self.given.is_steady()
+    }
+
     /// The seed and the number of drawn moves.
     pub fn drawn(&self) -> (u64, u64) {
         (self.number("--seed"), self.number("--moves"))

@@ -17,7 +17,7 @@ use Rattle.ivy_moves.specs.stated.Nodes.{Node}
 use Rattle.ivy_alloc.specs.declared.CallProgress.{CallProgress}
 use Rattle.ivy_alloc.specs.declared.CallProgress.TheVariants.{Given, Awaited, Unserved}
 use Rattle.ivy_memory.specs.stated.Memories.{NodeMemory, CallBegun, call_begun, polled}
-use Rattle.ivy_host.specs.stated.Openings.{first_node, first_nodes, opening}
+use Rattle.ivy_host.specs.stated.Openings.{Start, first_node, first_nodes, opening}
 use Rattle.ivy_host.specs.stated.Hosts.{Host, host_rules, begins_as, begins_with, quietly, recorded, serving, steps, turn_of, turned_at}
 use Rattle.ivy_host.specs.Handing.{handing}
 
@@ -112,31 +112,31 @@ as_many [] (z ∷ ys) y e = absurd (omega (arith, e))
 as_many (x ∷ xs) [] y e = absurd (omega (arith, e))
 as_many (x ∷ xs) (z ∷ ys) y e = ap (λ l. y ∷ l) (as_many xs ys y (omega (arith, e)))
 
-module _ {S : Type 0} (ops : Ops S) (c : Config) where
+module _ {S : Type 0} (start : Start S) (c : Config) where
   first_nodes-at : (me i k : ℕ) (ps : List Program) → k ≡ me + i
-      → slice_get (first_nodes ops c me ps) i ≡ option_map (first_node ops c k) (slice_get ps i)
+      → slice_get (first_nodes start c me ps) i ≡ option_map (first_node start c k) (slice_get ps i)
   first_nodes-at me i k [] e = refl
   first_nodes-at me zero k (p ∷ ps) e =
-      ap (λ j. Some (first_node ops c j p)) (let same : me ≡ k = omega (arith, e) in same)
+      ap (λ j. Some (first_node start c j p)) (let same : me ≡ k = omega (arith, e) in same)
   first_nodes-at me (suc i) k (p ∷ ps) e = first_nodes-at (me + 1) i k ps (omega (arith, e))
 
-  first_nodes-length : (me : ℕ) (ps : List Program) → length (first_nodes ops c me ps) ≡ length ps
+  first_nodes-length : (me : ℕ) (ps : List Program) → length (first_nodes start c me ps) ≡ length ps
   first_nodes-length me [] = refl
   first_nodes-length me (p ∷ ps) = ap suc (first_nodes-length (me + 1) ps)
 
   module _ (more : ℕ → List (List Call)) (old new : List Program) (h : AreHanded more old new) where
     handed-at : (i : ℕ) (n : Node (Host S)) (o : Option Program) → slice_get old i ≡ o
-        → option_map (first_node ops c i) o ≡ Some n
-        → slice_get (first_nodes ops c 0 new) i ≡ Some (node_changed (handing (more i)) n)
+        → option_map (first_node start c i) o ≡ Some n
+        → slice_get (first_nodes start c 0 new) i ≡ Some (node_changed (handing (more i)) n)
     handed-at i n None there is = absurd (none-some n is)
     handed-at i n (Some p) there is =
         first_nodes-at 0 i i new (omega arith)
-        ∙ ap (option_map (first_node ops c i)) (h.each i p there)
-        ∙ ap (λ m. Some (node_changed (handing (more i)) m)) (same_Some (first_node ops c i p) n is)
+        ∙ ap (option_map (first_node start c i)) (h.each i p there)
+        ∙ ap (λ m. Some (node_changed (handing (more i)) m)) (same_Some (first_node start c i p) n is)
 
     -- the opening of the longer programs is the other one, with this change at each node
     pub opening_handed :
-        IsChangedBy (λ i. handing (more i)) (opening ops c old) (opening ops c new)
+        IsChangedBy (λ i. handing (more i)) (opening start c old) (opening start c new)
     opening_handed = record {
       there = λ i n at. handed-at i n (slice_get old i) refl
           (sym (first_nodes-at 0 i i old (omega arith)) ∙ at);

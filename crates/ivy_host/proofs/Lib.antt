@@ -1,3 +1,4 @@
+pub mod Starts
 pub mod WellBehaved
 pub mod Pages
 pub mod Same

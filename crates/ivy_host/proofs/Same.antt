@@ -1,16 +1,18 @@
--- A turn leaves a node who it is.
-use Rattle.std.proofs.Common.{◌≡◌, ◌+◌, ◌^◌, Bool, true, false, length, Option, Some, None, nat_lt, refl, subst, if◌then◌else◌}
+-- An event leaves a node who it is.
+use Rattle.std.proofs.Common.{◌≡◌, ℕ, ◌+◌, ◌^◌, Bool, true, false, length, Option, Some, None, nat_lt, refl, subst, if◌then◌else◌}
 use Rattle.std.proofs.lemmas.Option.{same_Some, none-some}
 use Rattle.ivy_model.specs.declared.Call.{Call}
+use Rattle.ivy_wire.specs.stated.Data.{Message}
 use Rattle.ivy_pagetable.specs.stated.Manager.{Ops}
 use Rattle.ivy_program.specs.stated.InstructionSteps.{Step, Local, Asks, Ends, step_of, at_state, along_of}
 use Rattle.ivy_moves.specs.stated.Cores.{Outcome}
 use Rattle.ivy_alloc.specs.declared.CallProgress.{CallProgress}
 use Rattle.ivy_alloc.specs.declared.CallProgress.TheVariants.{Given, Awaited, Unserved}
 use Rattle.ivy_memory.specs.stated.Memories.{CallBegun, call_begun, polled}
-use Rattle.ivy_host.specs.stated.Hosts.{Host, recorded, quietly, begins, begins_as, begins_with, steps, turned_at, turn_of}
+use Rattle.ivy_host.specs.stated.Hosts.{Host, recorded, quietly, begins, begins_as, begins_with, steps, turned_at, turn_of, serving}
 use Rattle.ivy_memory.proofs.keeping.WellBehaved.{SameNode, call-same}
 use Rattle.ivy_memory.proofs.keeping.Polling.{polled-same}
+use Rattle.ivy_memory.proofs.keeping.Same.{told-same}
 
 module _ {S : Type 0} (ops : Ops S) where
   abbrev IsSame : Host S → Outcome (Host S) → Type 0
@@ -44,7 +46,7 @@ module _ {S : Type 0} (ops : Ops S) where
   steps-same : (n : Host S) (t : Step) (o : Outcome (Host S)) → steps ops n t ≡ Some o → IsSame n o
   steps-same n (Local t) o is =
       subst (IsSame n) (same_Some (quietly (record n { process = at_state n.process t })) o is)
-      (record { config = refl; me = refl })
+      (record { config = refl; me = refl; sends_on = refl })
   steps-same n (Asks c) o is = begins-same n c o is
   steps-same n Ends o is = absurd (none-some o is)
 
@@ -60,3 +62,8 @@ module _ {S : Type 0} (ops : Ops S) where
       → SameNode n.memory.coherence o.after.memory.coherence
   unfolding turn_of
   turn-same n o is = at-same n n.memory.asked o is
+
+  pub serving-same : (n : Host S) (from : ℕ) (m : Message)
+      → SameNode n.memory.coherence (serving ops n from m).after.memory.coherence
+  unfolding serving
+  serving-same n from m = told-same ops n.memory from m

@@ -15,7 +15,7 @@ use Rattle.ivy_model.specs.stated.Legal.{HasWidth}
 use Rattle.ivy_wire.specs.stated.Data.{Message}
 use Rattle.ivy_wire.specs.stated.Spelling.{FitsMessage, FitsParcel}
 use Rattle.ivy_pagetable.specs.stated.Manager.{Ops}
-use Rattle.ivy_pagetable.specs.Manager.{Laws}
+use Rattle.ivy_pagetable.specs.Manager.{Laws, IsNew}
 use Rattle.ivy_coherence.proofs.keeping.IdleServing.{all_none}
 use Rattle.ivy_program.specs.stated.Programs.{Program}
 use Rattle.ivy_program.specs.stated.InstructionSteps.{Process, Step, Local, Asks, Ends, step_of, at_state, answered_with, AsksRow, along_of}
@@ -30,9 +30,10 @@ use Rattle.ivy_alloc.specs.declared.CallProgress.TheVariants.{Given, Awaited, Un
 use Rattle.ivy_memory.specs.stated.Memories.{NodeMemory, CallBegun, call_begun, polled}
 use Rattle.ivy_memory.specs.stated.Sound.{IsSoundMemory}
 use Rattle.ivy_host.specs.stated.Sound.{IsSoundHost}
-use Rattle.ivy_host.specs.stated.Hosts.{Host, recorded, quietly, begins_with, begins_as, begins, steps, turned_at, turn_of, serving, host_rules, first_host}
-use Rattle.ivy_host.specs.stated.Openings.{first_node, first_nodes, opening}
-use Rattle.ivy_memory.proofs.keeping.WellBehaved.{SameNode, KeepsMemory, first_sound-memory, told-sound, call-sound}
+use Rattle.ivy_host.specs.stated.Hosts.{Host, recorded, quietly, begins_with, begins_as, begins, steps, turned_at, turn_of, serving, host_rules}
+use Rattle.ivy_host.specs.stated.Openings.{Start, first_host, first_node, first_nodes, opening}
+use Rattle.ivy_host.proofs.Starts.{IsStart}
+use Rattle.ivy_memory.proofs.keeping.WellBehaved.{SameNode, KeepsMemory, new_sound-memory, told-sound, call-sound}
 use Rattle.ivy_memory.proofs.keeping.Begun.{GoesOn, IsBegunAs, IsBegun, call-begun}
 use Rattle.ivy_memory.proofs.keeping.Polling.{polled-keeps, polled-begun}
 use Rattle.ivy_memory.proofs.keeping.Same.{told-same, told-asked, told-along, told-number}
@@ -126,9 +127,9 @@ module _ {S : Type 0} (ops : Ops S) where
       subst (λ calls. AsksRow n.process (k ∷ calls)) (sym (told-along ops n.memory from m))
       (h k (sym (told-asked ops n.memory from m) ∙ asked))
 
-  pub first-asking : (c : Config) (me : ℕ) (p : Program)
-      → IsAskingHost (first_host ops c me p)
-  first-asking c me p j h = absurd (none-some j h)
+  pub first-asking : (start : Start S) (c : Config) (me : ℕ) (p : Program)
+      → IsAskingHost (first_host start c me p)
+  first-asking start c me p j h = absurd (none-some j h)
 
 module _ {S : Type 0} {ops : Ops S} (laws : Laws ops) where
   -- what an event of node i has to keep
@@ -204,7 +205,7 @@ module _ {S : Type 0} {ops : Ops S} (laws : Laws ops) where
   steps-well_behaved c i n (Local t) o s idle at is =
       subst (KeepsWellBehaved c i) (same_Some _ o is)
       (keeps_well_behaved c i n (quietly (record n { process = at_state n.process t })) s s.memory
-      (record { config = refl; me = refl })
+      (record { config = refl; me = refl; sends_on = refl })
       (all_none (FitsParcel n.memory.coherence.config n.memory.coherence.me))
       (λ j h. absurd (none-some j (sym idle ∙ h))) (λ j h. absurd (none-some j (sym idle ∙ h))))
   steps-well_behaved c i n (Asks k) o s idle at is = begins-well_behaved c i n k o s idle at is
@@ -247,20 +248,32 @@ module _ {S : Type 0} {ops : Ops S} (laws : Laws ops) where
     serve = λ i source n m s below foreign fits. serve-well_behaved c i source n m s below foreign fits;
   }
 
-pub first_length : {S : Type 0} (ops : Ops S) (c : Config) (me : ℕ) (ps : List Program)
-    → length (first_nodes ops c me ps) ≡ length ps
-first_length ops c me [] = refl
-first_length ops c me (p ∷ ps) = ap suc (first_length ops c (me + 1) ps)
+pub first_length : {S : Type 0} (start : Start S) (c : Config) (me : ℕ) (ps : List Program)
+    → length (first_nodes start c me ps) ≡ length ps
+first_length start c me [] = refl
+first_length start c me (p ∷ ps) = ap suc (first_length start c (me + 1) ps)
 
-first_at : {S : Type 0} (ops : Ops S) (c : Config) (me k : ℕ) (ps : List Program) (i : ℕ)
-    (n : Node (Host S)) → me + i ≡ k → slice_get (first_nodes ops c me ps) i ≡ Some n
-    → (p : Program) × (n ≡ first_node ops c k p) × (i < length ps)
-first_at ops c me k [] i n at is = absurd (none-some n is)
-first_at ops c me k (p ∷ ps) zero n at is =
-    (p, sym (same_Some _ n is) ∙ ap (λ j. first_node ops c j p) (omega (arith, at)), omega arith)
-first_at ops c me k (p ∷ ps) (suc i) n at is =
-    let rest = first_at ops c (me + 1) k ps i n (omega (arith, at)) is in
+first_at : {S : Type 0} (start : Start S) (c : Config) (me k : ℕ) (ps : List Program) (i : ℕ)
+    (n : Node (Host S)) → me + i ≡ k → slice_get (first_nodes start c me ps) i ≡ Some n
+    → (p : Program) × (n ≡ first_node start c k p) × (i < length ps)
+first_at start c me k [] i n at is = absurd (none-some n is)
+first_at start c me k (p ∷ ps) zero n at is =
+    (p, sym (same_Some _ n is) ∙ ap (λ j. first_node start c j p) (omega (arith, at)), omega arith)
+first_at start c me k (p ∷ ps) (suc i) n at is =
+    let rest = first_at start c (me + 1) k ps i n (omega (arith, at)) is in
     (rest.0, rest.1, (let below = rest.2 in omega (arith, below)))
+
+-- a host as it begins, with a new manager
+pub first_sound-host : {S : Type 0} {ops : Ops S} (start : Start S) (c : Config) (i : ℕ)
+    (p : Program) → IsConfig c → i < c.nodes → IsNew ops c i (start.manager c i)
+    → IsSoundHost ops c i (first_host start c i p)
+first_sound-host start c i p limits here new = record {
+  memory = new_sound-memory start.sends_on c i (start.manager c i) limits here new;
+  config = refl;
+  me = refl;
+  asking = λ k asked. absurd (none-some k asked);
+  numbered = λ k asked. absurd (none-some k asked);
+}
 
 none_early : (programs : List Program) (i : ℕ)
     → ◌≡◌ {A = List (List ℕ)} (get_or (map (λ (p : Program). []) programs) i []) []
@@ -269,23 +282,17 @@ none_early (p ∷ ps) zero = refl
 none_early (p ∷ ps) (suc i) = none_early ps i
 
 -- the world as it begins
-pub opening_is : {S : Type 0} {ops : Ops S} → Laws ops
-    → (c : Config) (programs : List Program) → IsConfig c → length programs ≡ c.nodes
-    → IsOpening c (IsSoundHost ops c) (opening ops c programs)
-opening_is {S} {ops} laws c programs limits many = record {
-  nodes = first_length ops c 0 programs ∙ many;
-  sound = λ i n is. (let x = first_at ops c 0 i programs i n (omega arith) is in
+pub opening_is : {S : Type 0} {ops : Ops S} (start : Start S) (c : Config) (programs : List Program)
+    → IsConfig c → IsStart ops c start → length programs ≡ c.nodes
+    → IsOpening c (IsSoundHost ops c) (opening start c programs)
+opening_is {S} {ops} start c programs limits new many = record {
+  nodes = first_length start c 0 programs ∙ many;
+  sound = λ i n is. (let x = first_at start c 0 i programs i n (omega arith) is in
+      let here : i < c.nodes = (let below = x.2 in omega (arith, below, many)) in
       subst (λ (m : Node (Host S)). IsSoundHost ops c i m.core) (sym x.1)
-      (record {
-        memory =
-            first_sound-memory laws c i limits (let below = x.2 in omega (arith, below, many));
-        config = refl;
-        me = refl;
-        asking = λ k asked. absurd (none-some k asked);
-        numbered = λ k asked. absurd (none-some k asked);
-      }));
+      (first_sound-host start c i x.0 limits here (new i here)));
   links = λ i n is.
-      (let x = first_at ops c 0 i programs i n (omega arith) is in
+      (let x = first_at start c 0 i programs i n (omega arith) is in
       ap (λ (m : Node (Host S)). m.link) x.1);
   sent = refl;
   early = none_early programs;

@@ -39,6 +39,7 @@ module _ (sent : List (List ℕ)) where
   entries-begin s took = record {
     me = refl;
     config = refl;
+    opened = refl;
     program = sym (handed_none (program_in s));
     answered = adds-none s.node.core.history s.node.core.history refl;
     events = sym (append-nil s.events);
@@ -51,6 +52,7 @@ module _ (sent : List (List ℕ)) where
   did-on event s s' took on listed = record {
     me = on.me;
     config = on.config;
+    opened = on.opened;
     program = on.program ∙ sym (handed_none (program_in s));
     answered = on.answered;
     events = listed ∙ ap (λ l. s.events ++ l) (sym (append-nil (marks_of event)));
@@ -62,6 +64,7 @@ module _ (sent : List (List ℕ)) where
   asked_on call s s' took is = subst (GoesOnByEntries sent (Asked call ∷ []) s) (sym is) (record {
     me = refl;
     config = refl;
+    opened = refl;
     program = refl;
     answered = adds-none s.node.core.history s.node.core.history refl;
     events = sym (append-nil s.events);
@@ -73,6 +76,7 @@ module _ (sent : List (List ℕ)) where
   answered_on answer s took = record {
     me = refl;
     config = refl;
+    opened = refl;
     program = sym (handed_none (program_in s));
     answered = adds-none s.node.core.history s.node.core.history refl;
     events = sym (append-nil s.events);
@@ -86,6 +90,7 @@ module _ (sent : List (List ℕ)) where
       let here : GoesOnByEntries sent entries a (record b { waiting = [] }) = record {
         me = x.me;
         config = x.config;
+        opened = x.opened;
         program = x.program;
         answered = x.answered;
         events = x.events;
@@ -95,6 +100,7 @@ module _ (sent : List (List ℕ)) where
       subst (GoesOnByEntries sent entries a) (sym same) here in record {
         me = there.me;
         config = there.config;
+        opened = there.opened;
         program = there.program;
         answered = there.answered;
         events = there.events;
@@ -112,6 +118,7 @@ module _ (sent : List (List ℕ)) where
       subst (λ l. GoesOnByEntries sent l a d) (sym longer) (record {
         me = y.me ∙ x.me;
         config = y.config ∙ x.config;
+        opened = y.opened ∙ x.opened;
         program = y.program ∙ ap (handed (one_by_one (calls_in (entry ∷ [])))) x.program
             ∙ handed-further (one_by_one (calls_in (take i entries)))
             (one_by_one (calls_in (entry ∷ []))) (program_in a)

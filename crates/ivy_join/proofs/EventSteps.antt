@@ -53,6 +53,7 @@ module _ (sent : List (List ℕ)) where
     config = ap (λ (x : SiteView). x.config) same;
     program = ap program_in same;
     keep = ap (λ (x : SiteView). x.keep) same;
+    opened = ap (λ (x : SiteView). x.opened) same;
     answered = same-records s s' same;
     more = [];
     events = ap (λ (x : SiteView). x.events) same ∙ sym (append-nil s.events);
@@ -66,6 +67,7 @@ module _ (sent : List (List ℕ)) where
     config = y.config ∙ x.config;
     program = y.program ∙ x.program;
     keep = y.keep ∙ x.keep;
+    opened = y.opened ∙ x.opened;
     answered = adds-further a.node.core.history b.node.core.history d.node.core.history x.answered y.answered;
     more = x.more ++ y.more;
     events = y.events ∙ ap (λ l. l ++ y.more) x.events ∙ append_assoc a.events x.more y.more;
@@ -95,6 +97,7 @@ module _ (sent : List (List ℕ)) where
         (posting-core s.node after.outcome.after after.outcome.posted after.effect after.sent)
         ∙ turned-program s.node.core after.outcome after.turn;
     keep = ap (λ (x : SiteView). x.keep) after.after;
+    opened = ap (λ (x : SiteView). x.opened) after.after;
     answered = turn-records s s' after;
     more = Turn ∷ [];
     events = ap (λ (x : SiteView). x.events) after.after;
@@ -111,6 +114,7 @@ module _ (sent : List (List ℕ)) where
     program = ap program_in after
         ∙ delivered-program s.config limits s.node d.frame bytes d.effect d.spelled d.delivered;
     keep = ap (λ (x : SiteView). x.keep) after;
+    opened = ap (λ (x : SiteView). x.opened) after;
     answered = delivery-records bytes v w s s' d after;
     more = Delivery bytes ∷ [];
     events = ap (λ (x : SiteView). x.events) after;
@@ -142,6 +146,7 @@ module _ (sent : List (List ℕ)) where
     config = ap (λ (x : SiteView). x.config) same;
     program = ap program_in same;
     keep = ap (λ (x : SiteView). x.keep) same;
+    opened = ap (λ (x : SiteView). x.opened) same;
     answered = adds-none s.node.core.history s'.node.core.history
         (ap (λ (x : SiteView). x.node.core.history) same);
     more = [];
@@ -176,6 +181,7 @@ module _ (sent : List (List ℕ)) where
     config = ap (λ (x : SiteView). x.config) after;
     program = ap program_in after;
     keep = ap (λ (x : SiteView). x.keep) after;
+    opened = ap (λ (x : SiteView). x.opened) after;
     answered = adds-none s.node.core.history s'.node.core.history
         (ap (λ (x : SiteView). x.node.core.history) after);
     more = pulse_marks to (pulsing s.node to).sent;
@@ -257,6 +263,7 @@ emptied sent s s' same = record {
   config = ap (λ (x : SiteView). x.config) same;
   program = ap program_in same;
   keep = ap (λ (x : SiteView). x.keep) same;
+  opened = ap (λ (x : SiteView). x.opened) same;
   answered = adds-none s.node.core.history s'.node.core.history
       (ap (λ (x : SiteView). x.node.core.history) same);
   more = [];

@@ -14,10 +14,11 @@ use Rattle.ivy_moves.specs.stated.Nodes.{Effect}
 use Rattle.ivy_moves.proofs.Places.{set-cases, set-there, set-elsewhere}
 use Rattle.ivy_program.specs.stated.Programs.{Program}
 use Rattle.ivy_program.specs.Programs.{handed}
+use Rattle.ivy_host.specs.declared.opening.Opening.{Opening}
 use Rattle.ivy_host.specs.Handing.{handing}
 use Rattle.ivy_host.specs.stated.Hosts.{Host, host_rules}
 use Rattle.ivy_host.specs.stated.Managers.{Managed, managed_ops}
-use Rattle.ivy_host.specs.stated.Openings.{first_node, opening}
+use Rattle.ivy_host.specs.stated.Openings.{first_node, managed_start, opening}
 use Rattle.ivy_site.specs.Handed.{site_handed}
 use Rattle.ivy_site.specs.SiteView.{SiteView}
 use Rattle.ivy_site.specs.Sites.{IsMadeByEvents}
@@ -32,12 +33,12 @@ use Rattle.ivy_join.specs.Exact.{HasSent, HaveSent, IsMadeAt}
 sends-handed : (more : List (List Call)) (s : SiteView) → IsMadeByEvents s → (b : List ℕ)
     → Sends (site_handed more s) b → Sends s b
 sends-handed more s made b (effect, happen, own) =
-    let first = first_node managed_ops s.config s.me (program_in s) in
+    let first = first_node (managed_start s.opened) s.config s.me (program_in s) in
     let over = events-over (host_rules managed_ops) s.config (handing more) (unseen managed_ops more) first
     s.events made.effect made.happen in
     let same : effect ≡ effect_changed (handing more) made.effect =
     same-effect (host_rules managed_ops) s.config
-    (first_node managed_ops s.config s.me (program_in (site_handed more s))) s.events effect
+    (first_node (managed_start s.opened) s.config s.me (program_in (site_handed more s))) s.events effect
     (effect_changed (handing more) made.effect) happen over.happen in
     (made.effect, made.happen, subst (λ (e : Effect (Host Managed)). Contains e.sent b) same own)
 
@@ -105,33 +106,34 @@ module _ (sites : List SiteView) (node : ℕ) (old : SiteView) (there : slice_ge
         ∙ sym (slice_get-map program_in sites i);
   }
 
-  module _ (c : Config) (sent : List (List ℕ)) (played : ArePlayed c sites sent) where
-    node_each : (i : ℕ) (s : SiteView) → slice_get after i ≡ Some s → IsNode c sent i s
+  module _ (c : Config) (o : Opening) (sent : List (List ℕ)) (played : ArePlayed c o sites sent) where
+    node_each : (i : ℕ) (s : SiteView) → slice_get after i ≡ Some s → IsNode c o sent i s
     node_each i s at =
         ⊎_elim
         (λ p. let was = played.each node old there in
-        subst (IsNode c sent i) (sym p.1) (subst (λ x. IsNode c sent x new) (sym p.0) (record {
+        subst (IsNode c o sent i) (sym p.1) (subst (λ x. IsNode c o sent x new) (sym p.0) (record {
           config = was.config;
           me = was.me;
+          opened = was.opened;
           made = handed_made more old was.made;
           took = was.took;
         })))
         (λ q. played.each i s q)
         (set-cases sites node i new s at)
 
-    pub played-handed : ArePlayed c after sent
+    pub played-handed : ArePlayed c o after sent
     played-handed =
         let over = carry_over (host_rules managed_ops) c (λ i. handing (more_at i))
-        (λ i. unseen managed_ops (more_at i)) (opening managed_ops c (programs_of sites)) played.end
-        (events_at sites) played.run (opening managed_ops c (programs_of after))
-        (opening_handed managed_ops c more_at (programs_of sites) (programs_of after) programs_handed) in
+        (λ i. unseen managed_ops (more_at i)) (opening (managed_start o) c (programs_of sites)) played.end
+        (events_at sites) played.run (opening (managed_start o) c (programs_of after))
+        (opening_handed (managed_start o) c more_at (programs_of sites) (programs_of after) programs_handed) in
         record {
           limits = played.limits;
           count = length-set sites node new ∙ played.count;
           each = node_each;
           end = over.0;
           run = subst (λ l. AreParts (host_rules managed_ops) c
-              (opening managed_ops c (programs_of after)) l over.0) (λ k j. same_events j k) over.1;
+              (opening (managed_start o) c (programs_of after)) l over.0) (λ k j. same_events j k) over.1;
           all_sent = λ b is. subst (λ l. Contains l b) (sym over.2.sent) (played.all_sent b is);
         }
 
@@ -176,20 +178,20 @@ module _ (sites : List SiteView) (node : ℕ) (more : List (List Call)) (end : L
   is : end ≡ set sites node (site_handed more old)
   is = rw there at after
 
-  pub calls-played : (c : Config) (sent : List (List ℕ)) → ArePlayed c sites sent → ArePlayed c end sent
-  calls-played c sent played =
-      subst (λ ss. ArePlayed c ss sent) (sym is) (played-handed sites node old there more c sent played)
+  pub calls-played : (c : Config) (o : Opening) (sent : List (List ℕ)) → ArePlayed c o sites sent → ArePlayed c o end sent
+  calls-played c o sent played =
+      subst (λ ss. ArePlayed c o ss sent) (sym is) (played-handed sites node old there more c o sent played)
 
   pub calls-called : HasCalled node more (programs_of sites) (programs_of end)
   calls-called =
       subst (λ ss. HasCalled node more (programs_of sites) (programs_of ss)) (sym is)
       (called-handed sites node old there more)
 
-  pub calls-made : (c : Config) (sent : List (List ℕ)) → ArePlayed c sites sent → HaveSent sent sites
+  pub calls-made : (c : Config) (o : Opening) (sent : List (List ℕ)) → ArePlayed c o sites sent → HaveSent sent sites
       → IsMadeAt node [] sites end sent
-  calls-made c sent played have =
+  calls-made c o sent played have =
       subst (λ ss. IsMadeAt node [] sites ss sent) (sym is)
-      (made-handed sites node old there more c sent played have)
+      (made-handed sites node old there more c o sent played have)
 
 -- an answer is passed over
 pub passed : (sites : List SiteView) (node : ℕ) (sent : List (List ℕ)) → HaveSent sent sites

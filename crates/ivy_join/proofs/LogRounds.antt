@@ -7,6 +7,7 @@ use Rattle.ivy_moves.specs.Marks.{marks}
 use Rattle.ivy_program.specs.stated.Programs.{Program}
 use Rattle.ivy_site.specs.SiteView.{SiteView}
 use Rattle.ivy_world.specs.WorldSites.{programs_of}
+use Rattle.ivy_host.specs.declared.opening.Opening.{Opening}
 use Rattle.ivy_join.specs.Exact.{left_of, IsNoPart, PlaysTo}
 use Rattle.ivy_join.specs.Joined.{AreNoParts}
 use Rattle.ivy_join.specs.ReplaySites.{ArePlayed}
@@ -56,17 +57,17 @@ module _ {X : Type 0} (f : X → List LogEntry) (logs : List X) (node : ℕ) (x 
       (before (sym (joins refl) ∙ none))
 
 -- a node that can't make its log
-pub none_of : {X : Type 0} (f : X → List LogEntry) (c : Config) (sites : List SiteView) (sent : List (List ℕ))
-    (programs : List Program) (logs : List X) (node : ℕ) (x : X) → ArePlayed c sites sent
+pub none_of : {X : Type 0} (f : X → List LogEntry) (c : Config) (o : Opening) (sites : List SiteView) (sent : List (List ℕ))
+    (programs : List Program) (logs : List X) (node : ℕ) (x : X) → ArePlayed c o sites sent
     → programs_of sites ≡ programs → length logs ≡ length sites → slice_get logs node ≡ Some x
-    → IsNoPart c (programs_of sites) node (marks (events_in (f x)))
-    → AreNoParts c programs (map (λ y. marks (events_in (f y))) logs)
-none_of f c sites sent programs logs node x played same each there never =
+    → IsNoPart c o (programs_of sites) node (marks (events_in (f x)))
+    → AreNoParts c o programs (map (λ y. marks (events_in (f y))) logs)
+none_of f c o sites sent programs logs node x played same each there never =
     let size = length-map sites (λ (s : SiteView). s.node.core.process.program) in
     let count = played.count in
     let inside = slice_get_within logs node x there in
-    subst (λ ps. AreNoParts c ps (map (λ y. marks (events_in (f y))) logs)) same
-    (no-parts c (programs_of sites) (map (λ y. marks (events_in (f y))) logs) node (size ∙ count)
+    subst (λ ps. AreNoParts c o ps (map (λ y. marks (events_in (f y))) logs)) same
+    (no-parts c o (programs_of sites) (map (λ y. marks (events_in (f y))) logs) node (size ∙ count)
     (omega (arith, size, inside, each))
-    (subst (IsNoPart c (programs_of sites) node)
+    (subst (IsNoPart c o (programs_of sites) node)
     (sym (part_at (λ y. marks (events_in (f y))) logs node x there)) never))

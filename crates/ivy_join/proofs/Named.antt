@@ -1,5 +1,5 @@
 -- What an error says of the first lines of logs.
-use Rattle.std.proofs.Common.{◌≡◌, ◌≢◌, ℕ, ◌+◌, ◌<◌, List, All, length, map, take, get_or, slice_get, option_map, Option, Some, None, refl, sym, ap, subst, ◌∙◌, inl, inr, arith}
+use Rattle.std.proofs.Common.{◌≡◌, ◌≢◌, ℕ, Bool, ◌+◌, ◌<◌, List, All, length, map, take, get_or, slice_get, option_map, Option, Some, None, refl, sym, ap, subst, ◌∙◌, inl, inr, arith}
 use Rattle.std.proofs.lemmas.List.{get_or-map, length-map}
 use Rattle.std.proofs.lemmas.List.Elements.{All-more, All-nil}
 use Rattle.std.proofs.lemmas.Option.{slice_get-map, slice_get_read}
@@ -16,15 +16,15 @@ head-there f xs i x below there =
     slice_get-map f xs i ∙ ap (option_map f) (slice_get_read xs (length xs) i x refl below there)
 
 -- what is said of first lines is nothing of parts
-none-of-head : (c : Config) (node : ℕ) (h : LogHead) (why : Unjoined) → SaysOfHead c node h why → SaysNoParts why → ⊥
-none-of-head c node h (Refused fault) said told = told
-none-of-head c node h (Missing n) said told = told
-none-of-head c node h (Twice n) said told = told
-none-of-head c node h (Differs n) said told = told
-none-of-head c node h (OtherRun n) said told = told
-none-of-head c node h (NotSent n l) said told = said
-none-of-head c node h (NoSuchEvent n l) said told = said
-none-of-head c node h (OtherAnswers n) said told = said
+none-of-head : (steady : Bool) (c : Config) (node : ℕ) (h : LogHead) (why : Unjoined) → SaysOfHead steady c node h why → SaysNoParts why → ⊥
+none-of-head steady c node h (Refused fault) said told = told
+none-of-head steady c node h (Missing n) said told = told
+none-of-head steady c node h (Twice n) said told = told
+none-of-head steady c node h (Differs n) said told = told
+none-of-head steady c node h (OtherRun n) said told = told
+none-of-head steady c node h (NotSent n l) said told = said
+none-of-head steady c node h (NoSuchEvent n l) said told = said
+none-of-head steady c node h (OtherAnswers n) said told = said
 
 none-of-count : (c : Config) (count : ℕ) (why : Unjoined) → SaysOfCount c count why → SaysNoParts why → ⊥
 none-of-count c count (Refused fault) said told = told
@@ -36,9 +36,9 @@ none-of-count c count (NotSent n l) said told = said
 none-of-count c count (NoSuchEvent n l) said told = said
 none-of-count c count (OtherAnswers n) said told = said
 
-pub none-of-heads : (c : Config) (heads : List LogHead) (why : Unjoined) → SaysOfHeads c heads why → SaysNoParts why → ⊥
-none-of-heads c heads why (inl one) told = none-of-head c one.0 one.1 why one.3 told
-none-of-heads c heads why (inr count) told = none-of-count c (length heads) why count told
+pub none-of-heads : (steady : Bool) (c : Config) (heads : List LogHead) (why : Unjoined) → SaysOfHeads steady c heads why → SaysNoParts why → ⊥
+none-of-heads steady c heads why (inl one) told = none-of-head steady c one.0 one.1 why one.3 told
+none-of-heads steady c heads why (inr count) told = none-of-count c (length heads) why count told
 
 pub none-of-sums : (sum : ℕ) (named : List (Option ℕ)) (why : Unjoined) → SaysOfSums sum named why → SaysNoParts why → ⊥
 none-of-sums sum named (Refused fault) said told = told

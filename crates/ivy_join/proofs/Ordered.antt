@@ -13,10 +13,11 @@ use Rattle.ivy_moves.specs.stated.Explained.{IsExplainedBy, GoesOn}
 use Rattle.ivy_moves.specs.stated.Nodes.{Node}
 use Rattle.ivy_moves.specs.stated.Worlds.{World, Leads}
 use Rattle.ivy_moves.proofs.Moments.{explained_whole}
+use Rattle.ivy_host.specs.declared.opening.Opening.{Opening}
 use Rattle.ivy_host.specs.stated.Hosts.{Host, host_rules, answered_by}
 use Rattle.ivy_memory.specs.stated.Memories.{in_progress}
 use Rattle.ivy_host.specs.stated.Managers.{Managed, managed_ops}
-use Rattle.ivy_host.specs.stated.Openings.{opening}
+use Rattle.ivy_host.specs.stated.Openings.{managed_start, opening}
 use Rattle.ivy_site.specs.SiteView.{SiteView}
 use Rattle.ivy_world.specs.WorldSites.{programs_of}
 use Rattle.ivy_join.specs.ReplaySites.{events_at, ArePlayed}
@@ -56,13 +57,14 @@ tells-all entries history told many =
     let none : told.more ≡ [] = nil_from_length told.more (omega (arith, long, all, as_many, many)) in
     told.are ∙ ap (λ l. answers_in entries ++ l) none ∙ append-nil (answers_in entries)
 
-module _ (c : Config) (logs : List (List LogEntry)) (sites : List SiteView) (j : AreOwnJoined c logs sites)
+module _ (c : Config) (o : Opening) (logs : List (List LogEntry)) (sites : List SiteView)
+    (j : AreOwnJoined c o logs sites)
     (all : AreAllTold logs sites) where
   whole : (order : List Record)
       × IsExplainedBy (host_rules managed_ops) c answered_by j.joined.end order
   whole =
       let reached = j.joined.keeps.reached in
-      explained_end c (opening managed_ops c (programs_by logs)) j.joined.end [] reached.0
+      explained_end c (opening (managed_start o) c (programs_by logs)) j.joined.end [] reached.0
       (j.joined.keeps.explained reached.0 reached.1) reached.1
 
   each : (i : ℕ) (entries : List LogEntry) → slice_get logs i ≡ Some entries
@@ -76,14 +78,14 @@ module _ (c : Config) (logs : List (List LogEntry)) (sites : List SiteView) (j :
       let at = there_is sites i l in
       let s : SiteView = at.0 in
       let told : Tells entries s.node.core.history =
-      subst (λ o. IsTold o (Some s)) log (subst (IsTold (slice_get logs i)) at.1 (j.told i)) in
+      subst (λ l. IsTold l (Some s)) log (subst (IsTold (slice_get logs i)) at.1 (j.told i)) in
       let done = all i entries s log at.1 in
       let owed = whole.1.explained.parts i (answered_by s.node.core)
       (slice_get-map (λ (n : Node (Host Managed)). answered_by n.core) j.joined.end.nodes i
       ∙ ap (option_map (λ (n : Node (Host Managed)). answered_by n.core)) (j.joined.nodes i s at.1)) in
       let empty : owed.0 ≡ [] =
       owed_none owed.0
-      (subst (λ o. IsOwed (in_progress o s.node.core.memory.along) owed.0) done.0 owed.2) in
+      (subst (λ l. IsOwed (in_progress l s.node.core.memory.along) owed.0) done.0 owed.2) in
       ap answers
       (owed.1 ∙ ap (λ r. s.node.core.history ++ r) empty ∙ append-nil s.node.core.history)
       ∙ tells-all entries s.node.core.history told done.1
@@ -92,14 +94,14 @@ module _ (c : Config) (logs : List (List LogEntry)) (sites : List SiteView) (j :
   own-answered = record { order = whole.0; legal = whole.1.explained.legal; each = each }
 
 -- logs that were made again, and compared with what that gave
-module _ {X : Type 0} (f : X → List LogEntry) (c : Config) (logs : List X) (sites : List SiteView)
-    (sent : List (List ℕ)) (played : ArePlayed c sites sent)
+module _ {X : Type 0} (f : X → List LogEntry) (c : Config) (o : Opening) (logs : List X) (sites : List SiteView)
+    (sent : List (List ℕ)) (played : ArePlayed c o sites sent)
     (called : programs_of sites ≡ programs_by (map f logs)) (count : length logs ≡ length sites)
     (listed : (i : ℕ) → events_at sites i ≡ part_in (map (λ x. marks (events_in (f x))) logs) i)
     (told : AreTold (map f logs) sites) where
-  pub own-joined : AreOwnJoined c (map f logs) sites
+  pub own-joined : AreOwnJoined c o (map f logs) sites
   own-joined = record {
-    joined = joined c (programs_by (map f logs)) sites sent
+    joined = joined c o (programs_by (map f logs)) sites sent
         (map (λ entries. marks (events_in entries)) (map f logs)) played called
         (length-map (map f logs) _ ∙ length-map logs f ∙ count)
         (λ i. listed i

@@ -14,9 +14,10 @@ use Rattle.ivy_moves.specs.stated.Worlds.{World, is_named, made_by, moved, GoesO
 use Rattle.ivy_moves.proofs.Parts.{move-gone, runs_are_their_parts}
 use Rattle.ivy_moves.proofs.Places.{guarded}
 use Rattle.ivy_program.specs.stated.Programs.{Program}
+use Rattle.ivy_host.specs.declared.opening.Opening.{Opening}
 use Rattle.ivy_host.specs.stated.Hosts.{host_rules}
 use Rattle.ivy_host.specs.stated.Managers.{managed_ops}
-use Rattle.ivy_host.specs.stated.Openings.{first_node, opening}
+use Rattle.ivy_host.specs.stated.Openings.{first_node, managed_start, opening}
 use Rattle.ivy_host.proofs.WellBehaved.{first_length}
 use Rattle.ivy_join.specs.Exact.{AreToOthers, IsNoPart}
 use Rattle.ivy_join.specs.Joined.{part_in, AreNoParts}
@@ -144,18 +145,18 @@ module _ {C : Type 0} (rules : Core C) (c : Config) where
       subst (AreToOthers (length w.nodes) j) (sym (run.are j)) (parts-others run.moves w end run.leads j)
 
 -- one node whose list is no part is enough
-pub no-parts : (c : Config) (programs : List Program) (lists : List (List Mark)) (i : ℕ)
-    → length programs ≡ c.nodes → i < length programs → IsNoPart c programs i (part_in lists i)
-    → AreNoParts c programs lists
-no-parts c programs lists i each below never end run =
+pub no-parts : (c : Config) (k : Opening) (programs : List Program) (lists : List (List Mark)) (i : ℕ)
+    → length programs ≡ c.nodes → i < length programs → IsNoPart c k programs i (part_in lists i)
+    → AreNoParts c k programs lists
+no-parts c k programs lists i each below never end run =
     let at = there_is programs i below in
-    let begins = opening managed_ops c programs in
-    let first : slice_get begins.nodes i ≡ Some (first_node managed_ops c i at.0) =
-    first_there c 0 i programs i at.0 (omega arith) at.1 in
+    let begins = opening (managed_start k) c programs in
+    let first : slice_get begins.nodes i ≡ Some (first_node (managed_start k) c i at.0) =
+    first_there k c 0 i programs i at.0 (omega arith) at.1 in
     let made = (runs_are_their_parts (host_rules managed_ops) c begins end (part_in lists) run).each i
-    (first_node managed_ops c i at.0) first in
+    (first_node (managed_start k) c i at.0) first in
     let others : AreToOthers (length begins.nodes) i (part_in lists i) =
     run-others (host_rules managed_ops) c begins end (part_in lists) i run in
     never at.0 at.1
-    (subst (λ n. AreToOthers n i (part_in lists i)) (first_length managed_ops c 0 programs ∙ each) others)
+    (subst (λ n. AreToOthers n i (part_in lists i)) (first_length (managed_start k) c 0 programs ∙ each) others)
     made.0 made.1

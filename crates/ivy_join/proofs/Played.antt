@@ -15,9 +15,10 @@ use Rattle.ivy_moves.proofs.GoingOn.{only_at, parts_go_on}
 use Rattle.ivy_moves.proofs.Parts.{runs_are_their_parts}
 use Rattle.ivy_moves.proofs.Places.{set-cases, set-there, set-elsewhere}
 use Rattle.ivy_moves.proofs.Splitting.{all-split, same-effect, part_sent, can-more, can-append}
+use Rattle.ivy_host.specs.declared.opening.Opening.{Opening}
 use Rattle.ivy_host.specs.stated.Hosts.{Host, host_rules}
 use Rattle.ivy_host.specs.stated.Managers.{Managed, managed_ops}
-use Rattle.ivy_host.specs.stated.Openings.{first_node, first_nodes, opening}
+use Rattle.ivy_host.specs.stated.Openings.{first_node, first_nodes, managed_start, opening}
 use Rattle.ivy_host.proofs.WellBehaved.{first_length}
 use Rattle.ivy_site.specs.SiteView.{SiteView}
 use Rattle.ivy_site.specs.Sites.{IsMadeByEvents}
@@ -106,26 +107,26 @@ module _ {C : Type 0} (rules : Core C) (c : Config) (opening : World C) where
 
 -- the nodes of the programs as they begin
 
-pub first_there : (c : Config) (me k : ℕ) (programs : List Program) (i : ℕ) (program : Program)
+pub first_there : (o : Opening) (c : Config) (me k : ℕ) (programs : List Program) (i : ℕ) (program : Program)
     → me + i ≡ k → slice_get programs i ≡ Some program
-    → slice_get (first_nodes managed_ops c me programs) i
-    ≡ Some (first_node managed_ops c k program)
-first_there c me k [] i program at is = absurd (none-some program is)
-first_there c me k (p ∷ ps) zero program at is =
+    → slice_get (first_nodes (managed_start o) c me programs) i
+    ≡ Some (first_node (managed_start o) c k program)
+first_there o c me k [] i program at is = absurd (none-some program is)
+first_there o c me k (p ∷ ps) zero program at is =
     let same : me ≡ k = omega (arith, at) in
-    ap (λ j. Some (first_node managed_ops c j p)) same
-    ∙ ap (λ q. Some (first_node managed_ops c k q)) (same_Some p program is)
-first_there c me k (p ∷ ps) (suc i) program at is =
-    first_there c (me + 1) k ps i program (omega (arith, at)) is
+    ap (λ j. Some (first_node (managed_start o) c j p)) same
+    ∙ ap (λ q. Some (first_node (managed_start o) c k q)) (same_Some p program is)
+first_there o c me k (p ∷ ps) (suc i) program at is =
+    first_there o c (me + 1) k ps i program (omega (arith, at)) is
 
 -- one of the sites goes on
 
-module _ (c : Config) (sites : List SiteView) (sent more : List (List ℕ)) (i : ℕ)
-    (old mid new : SiteView) (played : ArePlayed c sites sent) (there : slice_get sites i ≡ Some old)
+module _ (c : Config) (o : Opening) (sites : List SiteView) (sent more : List (List ℕ)) (i : ℕ)
+    (old mid new : SiteView) (played : ArePlayed c o sites sent) (there : slice_get sites i ≡ Some old)
     (on : GoesOnBy sent old mid) (made : IsMadeByEvents mid) (made' : IsMadeByEvents new)
     (same : record new { waiting = [] } ≡ record mid { waiting = [] })
     (kept : (b : List ℕ) → Contains sent b → Contains more b) (added : AddsSent mid sent more) where
-  was : IsNode c sent i old
+  was : IsNode c o sent i old
   was = played.each i old there
 
   abbrev after : List SiteView
@@ -137,11 +138,17 @@ module _ (c : Config) (sites : List SiteView) (sent more : List (List ℕ)) (i :
   me : mid.me ≡ i
   me = on.me ∙ was.me
 
+  opened : mid.opened ≡ o
+  opened = on.opened ∙ was.opened
+
   program : program_in mid ≡ program_in old
   program = on.program
 
   new-config : new.config ≡ c
   new-config = ap (λ (s : SiteView). s.config) same ∙ config
+
+  new-opened : new.opened ≡ o
+  new-opened = ap (λ (s : SiteView). s.opened) same ∙ opened
 
   new-me : new.me ≡ i
   new-me = ap (λ (s : SiteView). s.me) same ∙ me
@@ -154,14 +161,14 @@ module _ (c : Config) (sites : List SiteView) (sent more : List (List ℕ)) (i :
       same_map program_in sites i old new there (ap program_in same ∙ program)
 
   abbrev begins : World (Host Managed)
-  begins = opening managed_ops c (programs_of sites)
+  begins = opening (managed_start o) c (programs_of sites)
 
   abbrev first : Node (Host Managed)
-  first = first_node managed_ops c i (program_in mid)
+  first = first_node (managed_start o) c i (program_in mid)
 
   first_is : slice_get begins.nodes i ≡ Some first
   first_is =
-      first_there c 0 i (programs_of sites) i (program_in mid) (omega arith)
+      first_there o c 0 i (programs_of sites) i (program_in mid) (omega arith)
       (slice_get-map program_in sites i ∙ ap (option_map program_in) there
       ∙ ap Some (sym program))
 
@@ -171,15 +178,17 @@ module _ (c : Config) (sites : List SiteView) (sent more : List (List ℕ)) (i :
   -- the events of the site happen, as those of node i
   happens : (e : Effect (Host Managed))
       → AllHappen (host_rules managed_ops) mid.config
-      (first_node managed_ops mid.config mid.me (program_in mid)) mid.events e
+      (first_node (managed_start mid.opened) mid.config mid.me (program_in mid)) mid.events e
       → AllHappen (host_rules managed_ops) c first (events_at sites i ++ on.more) e
   happens e h =
       subst (λ l. AllHappen (host_rules managed_ops) c first l e)
       (on.events ∙ ap (λ l. l ++ on.more) (sym own))
       (subst (λ k. AllHappen (host_rules managed_ops) k
-      (first_node managed_ops k i (program_in mid)) mid.events e) config
+      (first_node (managed_start o) k i (program_in mid)) mid.events e) config
       (subst (λ j. AllHappen (host_rules managed_ops) mid.config
-      (first_node managed_ops mid.config j (program_in mid)) mid.events e) me h))
+      (first_node (managed_start o) mid.config j (program_in mid)) mid.events e) me
+      (subst (λ k. AllHappen (host_rules managed_ops) mid.config
+      (first_node (managed_start k) mid.config mid.me (program_in mid)) mid.events e) opened h)))
 
   goes_on : OneGoesOn (host_rules managed_ops) c begins (events_at sites) played.end i on.more
   goes_on = record {
@@ -191,7 +200,7 @@ module _ (c : Config) (sites : List SiteView) (sent more : List (List ℕ)) (i :
         (subst (λ k. AllCanBeMade sent k i on.more)
         (ap (λ (k : Config). k.nodes) was.config ∙ sym played.count
         ∙ sym (length-map sites program_in)
-        ∙ sym (first_length managed_ops c 0 (programs_of sites)))
+        ∙ sym (first_length (managed_start o) c 0 (programs_of sites)))
         (subst (λ j. AllCanBeMade sent old.config.nodes j on.more) was.me on.can));
   }
 
@@ -211,10 +220,10 @@ module _ (c : Config) (sites : List SiteView) (sent more : List (List ℕ)) (i :
         ∙ append-nil (events_at sites j) ∙ sym (ap listed (set-elsewhere sites i j new apart))
   ]
 
-  run : AreParts (host_rules managed_ops) c (opening managed_ops c (programs_of after))
+  run : AreParts (host_rules managed_ops) c (opening (managed_start o) c (programs_of after))
       (events_at after) went.further
   run =
-      subst (λ ps. AreParts (host_rules managed_ops) c (opening managed_ops c ps)
+      subst (λ ps. AreParts (host_rules managed_ops) c (opening (managed_start o) c ps)
       (events_at after) went.further) (sym programs-same)
       (subst (λ l. AreParts (host_rules managed_ops) c begins l went.further)
       (λ k j. lists j k) went.run)
@@ -241,26 +250,28 @@ module _ (c : Config) (sites : List SiteView) (sent more : List (List ℕ)) (i :
       (subst (λ (k : Config). AllCanBeMade sent k.nodes i on.more) was.config
       (subst (λ j. AllCanBeMade sent old.config.nodes j on.more) was.me on.can))))
 
-  node_each : (j : ℕ) (s : SiteView) → slice_get after j ≡ Some s → IsNode c more j s
+  node_each : (j : ℕ) (s : SiteView) → slice_get after j ≡ Some s → IsNode c o more j s
   node_each j s at =
       ⊎_elim
-      (λ p. subst (IsNode c more j) (sym p.1)
-      (subst (λ x. IsNode c more x new) (sym p.0)
+      (λ p. subst (IsNode c o more j) (sym p.1)
+      (subst (λ x. IsNode c o more x new) (sym p.0)
       (record {
         config = new-config;
         me = new-me;
+        opened = new-opened;
         made = made';
         took = took-here;
       })))
       (λ q. let old-one = played.each j s q in record {
         config = old-one.config;
         me = old-one.me;
+        opened = old-one.opened;
         made = old-one.made;
         took = can-more sent more c.nodes j s.events kept old-one.took;
       })
       (set-cases sites i j new s at)
 
-  pub played_on : ArePlayed c after more
+  pub played_on : ArePlayed c o after more
   played_on = record {
     limits = played.limits;
     count = length-set sites i new ∙ played.count;
@@ -271,12 +282,12 @@ module _ (c : Config) (sites : List SiteView) (sent more : List (List ℕ)) (i :
   }
 
 -- each string that was given to a node is one of these
-pub took-old : (c : Config) (sent : List (List ℕ)) (i : ℕ) (s : SiteView) → IsNode c sent i s
+pub took-old : (c : Config) (o : Opening) (sent : List (List ℕ)) (i : ℕ) (s : SiteView) → IsNode c o sent i s
     → AllCanBeMade sent s.config.nodes s.me s.events
-took-old c sent i s own =
+took-old c o sent i s own =
     subst (λ (k : Config). AllCanBeMade sent k.nodes s.me s.events) (sym own.config)
     (subst (λ j. AllCanBeMade sent c.nodes j s.events) (sym own.me) own.took)
 
-pub limits-old : (c : Config) (sent : List (List ℕ)) (i : ℕ) (s : SiteView) → IsConfig c
-    → IsNode c sent i s → IsConfig s.config
-limits-old c sent i s limits own = subst IsConfig (sym own.config) limits
+pub limits-old : (c : Config) (o : Opening) (sent : List (List ℕ)) (i : ℕ) (s : SiteView) → IsConfig c
+    → IsNode c o sent i s → IsConfig s.config
+limits-old c o sent i s limits own = subst IsConfig (sym own.config) limits

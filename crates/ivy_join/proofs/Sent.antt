@@ -13,7 +13,7 @@ use Rattle.ivy_moves.proofs.Places.{set-cases, set-elsewhere, set-there}
 use Rattle.ivy_moves.proofs.Splitting.{all-split, none-in, same-effect}
 use Rattle.ivy_host.specs.stated.Hosts.{Host, host_rules}
 use Rattle.ivy_host.specs.stated.Managers.{Managed, managed_ops}
-use Rattle.ivy_host.specs.stated.Openings.{first_node}
+use Rattle.ivy_host.specs.stated.Openings.{first_node, managed_start}
 use Rattle.ivy_site.specs.SiteView.{SiteView}
 use Rattle.ivy_site.specs.Sites.{IsMadeByEvents}
 use Rattle.ivy_join.specs.Exact.{HasSent, HaveSent, IsMadeAt, IsNeverAt, Makes, NeverHappen, SaysMade}
@@ -52,7 +52,7 @@ module _ (old mid new : SiteView) (sent sent' : List (List ℕ)) (ms : List Mark
     (kept : (b : List ℕ) → Contains sent b → Contains sent' b)
     (taken : (b : List ℕ) → Contains mid.waiting b → Contains sent' b) (none : new.waiting ≡ []) where
   abbrev first : Node (Host Managed)
-  first = first_node managed_ops old.config old.me (program_in old)
+  first = first_node (managed_start old.opened) old.config old.me (program_in old)
 
   -- what its events sent before, or now
   sent-mid : (b : List ℕ) → Sends mid b → Contains sent' b
@@ -60,11 +60,14 @@ module _ (old mid new : SiteView) (sent sent' : List (List ℕ)) (ms : List Mark
       let all : AllHappen (host_rules managed_ops) old.config first (old.events ++ ms) effect =
       subst (λ l. AllHappen (host_rules managed_ops) old.config first l effect) listed-more
       (subst (λ p. AllHappen (host_rules managed_ops) old.config
-      (first_node managed_ops old.config old.me p) mid.events effect) on.program
+      (first_node (managed_start old.opened) old.config old.me p) mid.events effect) on.program
       (subst (λ i. AllHappen (host_rules managed_ops) old.config
-      (first_node managed_ops old.config i (program_in mid)) mid.events effect) on.me
+      (first_node (managed_start old.opened) old.config i (program_in mid)) mid.events effect) on.me
       (subst (λ (k : Config). AllHappen (host_rules managed_ops) k
-      (first_node managed_ops k mid.me (program_in mid)) mid.events effect) on.config happen))) in
+      (first_node (managed_start old.opened) k mid.me (program_in mid)) mid.events effect) on.config
+      (subst (λ k. AllHappen (host_rules managed_ops) mid.config
+      (first_node (managed_start k) mid.config mid.me (program_in mid)) mid.events effect) on.opened
+      happen)))) in
       let split = all-split (host_rules managed_ops) old.config first old.events ms effect all in
       let before : split.first ≡ was.effect =
       same-effect (host_rules managed_ops) old.config first old.events split.first was.effect split.happen

@@ -13,9 +13,10 @@ use Rattle.ivy_moves.specs.Parts.{AllHappen}
 use Rattle.ivy_moves.specs.stated.Worlds.{early_of}
 use Rattle.ivy_moves.proofs.Splitting.{all-split, none-in, same-effect}
 use Rattle.ivy_program.specs.stated.Programs.{Program}
+use Rattle.ivy_host.specs.declared.opening.Opening.{Opening}
 use Rattle.ivy_host.specs.stated.Hosts.{Host, host_rules}
 use Rattle.ivy_host.specs.stated.Managers.{Managed, managed_ops}
-use Rattle.ivy_host.specs.stated.Openings.{first_node, opening}
+use Rattle.ivy_host.specs.stated.Openings.{first_node, managed_start, opening}
 use Rattle.ivy_host.proofs.WellBehaved.{first_length}
 use Rattle.ivy_site.specs.SiteView.{SiteView}
 use Rattle.ivy_world.specs.WorldSites.{programs_of}
@@ -29,14 +30,17 @@ use Rattle.ivy_join.proofs.Played.{first_there}
 use Rattle.ivy_join.proofs.Within.{all_made, AreBlocked}
 
 -- the events of a site, as those of node i
-site-happens : (c : Config) (sent : List (List ℕ)) (i : ℕ) (s : SiteView) → (own : IsNode c sent i s)
-    → AllHappen (host_rules managed_ops) c (first_node managed_ops c i (program_in s)) s.events
+site-happens : (c : Config) (o : Opening) (sent : List (List ℕ)) (i : ℕ) (s : SiteView) → (own : IsNode c o sent i s)
+    → AllHappen (host_rules managed_ops) c (first_node (managed_start o) c i (program_in s)) s.events
     own.made.effect
-site-happens c sent i s own =
-    subst (λ k. AllHappen (host_rules managed_ops) k (first_node managed_ops k i (program_in s)) s.events
+site-happens c o sent i s own =
+    subst (λ k. AllHappen (host_rules managed_ops) k (first_node (managed_start o) k i (program_in s)) s.events
     own.made.effect) own.config
     (subst (λ j. AllHappen (host_rules managed_ops) s.config
-    (first_node managed_ops s.config j (program_in s)) s.events own.made.effect) own.me own.made.happen)
+    (first_node (managed_start o) s.config j (program_in s)) s.events own.made.effect) own.me
+    (subst (λ k. AllHappen (host_rules managed_ops) s.config
+    (first_node (managed_start k) s.config s.me (program_in s)) s.events own.made.effect) own.opened
+    own.made.happen))
 
 -- where it is none of a call, the event of an entry can't be made
 pub never-by : (node : ℕ) (entry : LogEntry) (sites : List SiteView) → call_in entry ≡ []
@@ -49,31 +53,31 @@ never-by node (Asked call) sites none never s at =
 never-by node (Answered answer) sites none never s at = absurd never
 
 -- an entry whose event can't follow those of the first ones of a log
-pub never-part : (c : Config) (sent : List (List ℕ)) (sites : List SiteView) (i : ℕ) (s : SiteView)
-    (log : List LogEntry) (m : ℕ) (entry : LogEntry) → ArePlayed c sites sent → slice_get sites i ≡ Some s
+pub never-part : (c : Config) (o : Opening) (sent : List (List ℕ)) (sites : List SiteView) (i : ℕ) (s : SiteView)
+    (log : List LogEntry) (m : ℕ) (entry : LogEntry) → ArePlayed c o sites sent → slice_get sites i ≡ Some s
     → IsMadeTo log m (events_at sites i) → m < length log → entry ≡ get_or log m entry
     → NeverHappen s.config s.me s.node (marks (event_in entry))
-    → IsNoPart c (programs_of sites) i (marks (events_in log))
-never-part c sent sites i s log m entry played there to below is never program at others effect happen =
+    → IsNoPart c o (programs_of sites) i (marks (events_in log))
+never-part c o sent sites i s log m entry played there to below is never program at others effect happen =
     let own = played.each i s there in
     let mine : program ≡ program_in s =
     same_Some program (program_in s)
     (sym at ∙ slice_get-map program_in sites i ∙ ap (option_map program_in) there) in
-    let first : Node (Host Managed) = first_node managed_ops c i (program_in s) in
+    let first : Node (Host Managed) = first_node (managed_start o) c i (program_in s) in
     let rest : List Mark = marks (events_in (drop (m + 1) log)) in
     let parts : marks (events_in log) ≡ s.events ++ (marks (event_in entry) ++ rest) =
     marks-cut log m ∙ ap (λ l. l ++ marks (events_in (drop m log))) (sym to.are ∙ ap listed there)
     ∙ ap (λ l. s.events ++ marks (events_in l)) (drop_at log m entry below is)
     ∙ ap (λ l. s.events ++ l) (marks-append (event_in entry) (events_in (drop (m + 1) log))) in
-    let all : AllHappen (host_rules managed_ops) c (first_node managed_ops c i (program_in s))
+    let all : AllHappen (host_rules managed_ops) c (first_node (managed_start o) c i (program_in s))
     (s.events ++ (marks (event_in entry) ++ marks (events_in (drop (m + 1) log)))) effect =
-    subst (λ l. AllHappen (host_rules managed_ops) c (first_node managed_ops c i (program_in s)) l effect)
+    subst (λ l. AllHappen (host_rules managed_ops) c (first_node (managed_start o) c i (program_in s)) l effect)
     parts
-    (subst (λ p. AllHappen (host_rules managed_ops) c (first_node managed_ops c i p) (marks (events_in log)) effect) mine
+    (subst (λ p. AllHappen (host_rules managed_ops) c (first_node (managed_start o) c i p) (marks (events_in log)) effect) mine
     happen) in
     let split = all-split (host_rules managed_ops) c first s.events (marks (event_in entry) ++ rest) effect all in
     let before = same-effect (host_rules managed_ops) c first s.events split.first own.made.effect split.happen
-    (site-happens c sent i s own) in
+    (site-happens c o sent i s own) in
     let node : split.first.after ≡ s.node =
     ap (λ (e : Effect (Host Managed)). e.after) before ∙ sym own.made.node in
     let then = all-split (host_rules managed_ops) c s.node (marks (event_in entry)) rest split.rest
@@ -109,13 +113,13 @@ stuck-some sent (Did (Pulsed to) ∷ rest) stuck some none = stuck tt
 stuck-some sent (Asked call ∷ rest) stuck some none = stuck tt
 stuck-some sent (Answered answer ∷ rest) stuck some none = stuck tt
 
-none_early : (c : Config) (programs : List Program) (j : ℕ) → early_of (opening managed_ops c programs) j ≡ []
-none_early c [] j = refl
-none_early c (p ∷ ps) zero = refl
-none_early c (p ∷ ps) (suc j) = none_early c ps j
+none_early : (o : Opening) (c : Config) (programs : List Program) (j : ℕ) → early_of (opening (managed_start o) c programs) j ≡ []
+none_early o c [] j = refl
+none_early o c (p ∷ ps) zero = refl
+none_early o c (p ∷ ps) (suc j) = none_early o c ps j
 
-module _ {X : Type 0} (f : X → List LogEntry) (c : Config) (sites : List SiteView) (sent : List (List ℕ))
-    (logs : List X) (made : List ℕ) (played : ArePlayed c sites sent) (have : HaveSent sent sites)
+module _ {X : Type 0} (f : X → List LogEntry) (c : Config) (o : Opening) (sites : List SiteView) (sent : List (List ℕ))
+    (logs : List X) (made : List ℕ) (played : ArePlayed c o sites sent) (have : HaveSent sent sites)
     (each : length logs ≡ length sites) (count : length made ≡ length sites)
     (to : AreMadeTo (map f logs) made sites) (stuck : AreStuck sent (map f logs) made) where
   abbrev lists : List (List Mark)
@@ -169,40 +173,40 @@ module _ {X : Type 0} (f : X → List LogEntry) (c : Config) (sites : List SiteV
       stuck-blocked sent (drop m (f x)) (stuck i (f x) m (log-at i x log) was)
 
   happened : (i : ℕ) (n : Node (Host Managed))
-      → slice_get (opening managed_ops c (programs_of sites)).nodes i ≡ Some n
+      → slice_get (opening (managed_start o) c (programs_of sites)).nodes i ≡ Some n
       → (e : Effect (Host Managed)) × AllHappen (host_rules managed_ops) c n (events_at sites i) e
       × ((b : List ℕ) → Contains e.sent b → Contains sent b)
   happened i n at =
-      let l = slice_get_within (opening managed_ops c (programs_of sites)).nodes i n at in
-      let many = first_length managed_ops c 0 (programs_of sites) in
+      let l = slice_get_within (opening (managed_start o) c (programs_of sites)).nodes i n at in
+      let many = first_length (managed_start o) c 0 (programs_of sites) in
       let size = length-map sites program_in in
       let found = there_is sites i (omega (arith, l, many, size)) in
       let s : SiteView = found.0 in
       let there : slice_get sites i ≡ Some found.0 = found.1 in
       let own = played.each i found.0 there in
-      let is : first_node managed_ops c i (program_in found.0) ≡ n =
-      same_Some (first_node managed_ops c i (program_in found.0)) n
-      (sym (first_there c 0 i (programs_of sites) i (program_in found.0) (omega arith)
+      let is : first_node (managed_start o) c i (program_in found.0) ≡ n =
+      same_Some (first_node (managed_start o) c i (program_in found.0)) n
+      (sym (first_there o c 0 i (programs_of sites) i (program_in found.0) (omega arith)
       (slice_get-map program_in sites i ∙ ap (option_map program_in) there)) ∙ at) in
       let all : AllHappen (host_rules managed_ops) c n (events_at sites i) own.made.effect =
       subst (λ l. AllHappen (host_rules managed_ops) c n l own.made.effect) (sym (ap listed there))
       (subst (λ k. AllHappen (host_rules managed_ops) c k found.0.events own.made.effect) is
-      (site-happens c sent i found.0 own)) in (
+      (site-happens c o sent i found.0 own)) in (
         own.made.effect,
         all,
         λ b from. (have i found.0 there).all b (own.made.effect, own.made.happen, from),
       )
 
-  pub stuck-no-parts : IsOneLeft (map f logs) made → AreNoParts c (programs_of sites) lists
+  pub stuck-no-parts : IsOneLeft (map f logs) made → AreNoParts c o (programs_of sites) lists
   unfolding rest_of
   stuck-no-parts left end run =
       let i = left.node in
       let nothing : rest_at left.node ≡ [] =
-      all_made (host_rules managed_ops) c (opening managed_ops c (programs_of sites)) sent (events_at sites)
+      all_made (host_rules managed_ops) c (opening (managed_start o) c (programs_of sites)) sent (events_at sites)
       (part_in lists) rest_at whole
       (λ j. stop-at j (slice_get logs j) (slice_get made j) refl refl) happened end
       (λ b from. absurd (none-in b from))
-      (λ j b from. absurd (none-in b (subst (λ l. Contains l b) (none_early c (programs_of sites) j) from)))
+      (λ j b from. absurd (none-in b (subst (λ l. Contains l b) (none_early o c (programs_of sites) j) from)))
       run left.node in
       let own = found-log logs left.node left.log left.there in
       let x : X = own.0 in

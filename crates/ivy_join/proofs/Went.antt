@@ -9,6 +9,7 @@ use Rattle.ivy_moves.specs.Marks.{marks}
 use Rattle.ivy_program.specs.stated.Programs.{Program}
 use Rattle.ivy_site.specs.SiteView.{SiteView}
 use Rattle.ivy_world.specs.WorldSites.{programs_of}
+use Rattle.ivy_host.specs.declared.opening.Opening.{Opening}
 use Rattle.ivy_join.specs.Exact.{HaveSent, IsMadeAt, IsMadeTo, IsNeverBy, IsNoPart, IsStuck, IsWaiting, PlaysTo}
 use Rattle.ivy_join.specs.Calls.{PlaysOn}
 use Rattle.ivy_join.specs.ReplaySites.{events_at, program_in, ArePlayed}
@@ -66,17 +67,17 @@ module _ (node : ℕ) (log : List LogEntry) (first place : ℕ) (old cur : List 
   }
 
   -- it can't be made
-  pub plays-never : (c : Config) (programs : List Program) (entry : LogEntry) → ArePlayed c cur sent
+  pub plays-never : (c : Config) (o : Opening) (programs : List Program) (entry : LogEntry) → ArePlayed c o cur sent
       → PlaysOn node log first place programs (programs_of cur) → length cur ≡ length programs
       → node < length cur → place < length log → entry ≡ get_or log place entry → IsNeverBy node entry cur
-      → calls_in log ≡ [] → IsNoPart c programs node (marks (events_in log))
-  plays-never c programs entry played on count inside below is never none =
+      → calls_in log ≡ [] → IsNoPart c o programs node (marks (events_in log))
+  plays-never c o programs entry played on count inside below is never none =
       let at = there_is cur node inside in
       let same : programs_of cur ≡ programs =
       plays-none node log first place programs (programs_of cur) none
       (length-map cur program_in ∙ count) on in
-      subst (λ ps. IsNoPart c ps node (marks (events_in log))) same
-      (never-part c sent cur node at.0 log place entry played at.1 here below is
+      subst (λ ps. IsNoPart c o ps node (marks (events_in log))) same
+      (never-part c o sent cur node at.0 log place entry played at.1 here below is
       (never-by node entry cur (none-here log place entry none below is) never at.0 at.1))
 
   -- it is made

@@ -11,7 +11,8 @@ use Rattle.ivy_moves.specs.Parts.{AllHappen}
 use Rattle.ivy_program.specs.stated.Programs.{Program}
 use Rattle.ivy_host.specs.stated.Hosts.{Host, host_rules}
 use Rattle.ivy_host.specs.stated.Managers.{Managed, managed_ops}
-use Rattle.ivy_host.specs.stated.Openings.{first_node}
+use Rattle.ivy_host.specs.declared.opening.Opening.{Opening}
+use Rattle.ivy_host.specs.stated.Openings.{first_node, managed_start}
 use Rattle.ivy_site.specs.SiteView.{SiteView}
 use Rattle.ivy_join.specs.declared.replay_log.Outcome.{Outcome}
 use Rattle.ivy_join.specs.declared.replay_log.Outcome.TheVariants.{Made, Waits, Never}
@@ -148,6 +149,6 @@ pub record IsOneLeft (logs : List (List LogEntry)) (made : List ℕ) : Type 0 wh
   pub left : made_of < length log
 
 -- node i of these programs can't make these events, whatever the other nodes do
-abbrev pub IsNoPart : Config → List Program → ℕ → List Mark → Type 0
-IsNoPart c programs i events = (program : Program) → slice_get programs i ≡ Some program
-    → NeverHappen c i (first_node managed_ops c i program) events
+abbrev pub IsNoPart : Config → Opening → List Program → ℕ → List Mark → Type 0
+IsNoPart c o programs i events = (program : Program) → slice_get programs i ≡ Some program
+    → NeverHappen c i (first_node (managed_start o) c i program) events

@@ -3,6 +3,7 @@ use Rattle.std.specs.Prelude.{◌≡◌, ◌≤◌, ℕ, List, ◌++◌, length,
 use Rattle.ivy_model.specs.declared.Config.{Config}
 use Rattle.ivy_model.specs.declared.Record.{Record}
 use Rattle.ivy_model.specs.stated.Legal.{Legal}
+use Rattle.ivy_host.specs.declared.opening.Opening.{Opening}
 use Rattle.ivy_calls.specs.declared.Answer.{Answer}
 use Rattle.ivy_calls.specs.Answers.{answers, answers_of}
 use Rattle.ivy_logs.specs.Entries.{LogEntry, answers_in, calls_in, events_in}
@@ -40,8 +41,8 @@ AreTold logs sites = (i : ℕ) → IsTold (slice_get logs i) (slice_get sites i)
 -- the events of the logs, one a node, are the parts of one run of the programs that the calls in the logs
 -- are, under this configuration; what is promised of every run holds at its end; the sites are its nodes
 -- there; and each was answered what its log says
-pub record AreOwnJoined (c : Config) (logs : List (List LogEntry)) (sites : List SiteView) : Type 0 where
-  pub joined : AreJoined c (programs_by logs) (map (λ entries. marks (events_in entries)) logs) sites
+pub record AreOwnJoined (c : Config) (o : Opening) (logs : List (List LogEntry)) (sites : List SiteView) : Type 0 where
+  pub joined : AreJoined c o (programs_by logs) (map (λ entries. marks (events_in entries)) logs) sites
   pub told : AreTold logs sites
 
 -- no node has a call in progress, and each has in its log all that it was answered

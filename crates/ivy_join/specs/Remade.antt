@@ -23,6 +23,7 @@ CanTake sent (Answered answer) = Unit {0}
 pub record GoesOnByEntries (sent : List (List ℕ)) (entries : List LogEntry) (old new : SiteView) : Type 0 where
   pub me : new.me ≡ old.me
   pub config : new.config ≡ old.config
+  pub opened : new.opened ≡ old.opened
   pub program : program_in new ≡ handed (one_by_one (calls_in entries)) (program_in old)
   pub answered : AddsRecords old.node.core.history new.node.core.history
   pub events : new.events ≡ old.events ++ marks (events_in entries)
@@ -51,6 +52,7 @@ HasAnswer count (Answered answer) history = IsAnsweredLast count answer history
 pub record IsMadeByLog (log : List LogEntry) (old new : SiteView) : Type 0 where
   pub me : new.me ≡ old.me
   pub config : new.config ≡ old.config
+  pub opened : new.opened ≡ old.opened
   pub program : program_in new ≡ handed (one_by_one (calls_in log)) (program_in old)
   pub events : new.events ≡ marks (events_in log)
   pub told : StandFirst (answers_in log) new.node.core.history

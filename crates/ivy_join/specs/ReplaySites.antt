@@ -11,17 +11,18 @@ use Rattle.ivy_moves.specs.Parts.{AllHappen, AllCanBeMade, AreParts}
 use Rattle.ivy_moves.specs.stated.Worlds.{World}
 use Rattle.ivy_host.specs.stated.Hosts.{Host, host_rules}
 use Rattle.ivy_host.specs.stated.Managers.{Managed, managed_ops}
-use Rattle.ivy_host.specs.stated.Openings.{first_node, opening}
+use Rattle.ivy_host.specs.declared.opening.Opening.{Opening}
+use Rattle.ivy_host.specs.stated.Openings.{first_node, managed_start, opening}
 use Rattle.ivy_site.specs.SiteView.{SiteView}
 use Rattle.ivy_moves.specs.declared.keep.Keep.{Keep}
-use Rattle.ivy_site.specs.Sites.{first_keeping, IsMadeByEvents}
+use Rattle.ivy_site.specs.Sites.{first_opened, IsMadeByEvents}
 use Rattle.ivy_world.specs.WorldSites.{programs_of}
 use Rattle.ivy_program.specs.stated.Programs.{Program}
 
--- the sites of the programs as they begin, of which each keeps these lists
-abbrev pub kept_from : Keep → Config → ℕ → List Program → List SiteView
-kept_from keep c me [] = []
-kept_from keep c me (p ∷ ps) = first_keeping keep c me p ∷ kept_from keep c (me + 1) ps
+-- the sites of the programs as they begin so, of which each keeps these lists
+abbrev pub kept_from : Opening → Keep → Config → ℕ → List Program → List SiteView
+kept_from o keep c me [] = []
+kept_from o keep c me (p ∷ ps) = first_opened o keep c me p ∷ kept_from o keep c (me + 1) ps
 
 -- the program of a site
 abbrev pub program_in : SiteView → Program
@@ -60,6 +61,7 @@ pub record GoesOnBy (sent : List (List ℕ)) (old new : SiteView) : Type 0 where
   pub config : new.config ≡ old.config
   pub program : program_in new ≡ program_in old
   pub keep : new.keep ≡ old.keep
+  pub opened : new.opened ≡ old.opened
   pub answered : AddsRecords old.node.core.history new.node.core.history
   pub more : List Mark
   pub events : new.events ≡ old.events ++ more
@@ -80,18 +82,19 @@ AddsOne bytes old new = (new ≡ old) ⊎ (new ≡ old ++ bytes ∷ [])
 abbrev pub Sends : SiteView → List ℕ → Type 0
 Sends s bytes = (effect : Effect (Host Managed))
     × AllHappen (host_rules managed_ops) s.config
-    (first_node managed_ops s.config s.me (program_in s)) s.events effect
+    (first_node (managed_start s.opened) s.config s.me (program_in s)) s.events effect
     × Contains effect.sent bytes
 
 -- each of the strings after is one of those before, or the site's events send it
 abbrev pub AddsSent : SiteView → List (List ℕ) → List (List ℕ) → Type 0
 AddsSent s old new = (bytes : List ℕ) → Contains new bytes → Contains old bytes ⊎ Sends s bytes
 
-module _ (c : Config) where
+module _ (c : Config) (o : Opening) where
   -- the site is this node, and what its events make of it; each string that it was given is one of these
   pub record IsNode (sent : List (List ℕ)) (i : ℕ) (s : SiteView) : Type 0 where
     pub config : s.config ≡ c
     pub me : s.me ≡ i
+    pub opened : s.opened ≡ o
     pub made : IsMadeByEvents s
     pub took : AllCanBeMade sent c.nodes i s.events
 
@@ -102,6 +105,6 @@ module _ (c : Config) where
     pub count : length sites ≡ c.nodes
     pub each : (i : ℕ) (s : SiteView) → slice_get sites i ≡ Some s → IsNode sent i s
     pub end : World (Host Managed)
-    pub run : AreParts (host_rules managed_ops) c (opening managed_ops c (programs_of sites))
+    pub run : AreParts (host_rules managed_ops) c (opening (managed_start o) c (programs_of sites))
         (events_at sites) end
     pub all_sent : (bytes : List ℕ) → Contains sent bytes → Contains end.sent bytes

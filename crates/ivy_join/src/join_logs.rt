@@ -1,29 +1,30 @@
 //! Whether logs are the parts of one run, of given programs or of the own code whose calls they have, and what they
 //! come to.
-ghost use Rattle.std.specs.Prelude.{◌≡◌, ◌++◌, ◌≤◌, ◌<◌, ◌↔◌, length, map, take, IfOk, IfErr, IfSome, OnOk, IsTrue, slice_get};
+ghost use Rattle.std.specs.Prelude.{◌≡◌, ◌++◌, ◌≤◌, ◌<◌, ◌↔◌, false, length, map, take, IfOk, IfErr, IfSome, OnOk, IsTrue, slice_get};
 ghost use Rattle.std.specs.List.{All};
 ghost use Rattle.ivy_model.specs.stated.Config.{IsConfig};
 ghost use Rattle.ivy_program.specs.Programs.{IsWritten};
 ghost use Rattle.ivy_program.specs.InstructionSteps.{HasEnded};
 ghost use Rattle.ivy_moves.specs.Marks.{marks};
+ghost use Rattle.ivy_host.specs.declared.opening.Opening.TheVariants.{Configured};
 ghost use Rattle.ivy_world.specs.HandedWorlds.{own_code};
 ghost use Rattle.ivy_world.specs.WorldSites.{IsMemory};
 ghost use Rattle.ivy_calls.specs.Answers.{answers};
 ghost use Rattle.ivy_logs.specs.Entries.{answer_in, events_in};
-ghost use Rattle.ivy_logs.specs.Sums.{sum_of_run};
+ghost use Rattle.ivy_logs.specs.Sums.{sum_of_run, sum_opened};
 ghost use Rattle.ivy_join.specs.Calls.{HaveNoCalls};
 ghost use Rattle.ivy_join.specs.ReplaySites.{kept_from};
-ghost use Rattle.ivy_join.specs.Joined.{AreHeads, AreJoined, AreNoParts, NamesSum, SaysNoParts, SaysOfCount, SaysOfHead, SaysOfHeads, SaysOfSums};
+ghost use Rattle.ivy_join.specs.Joined.{opening_by, AreHeads, AreJoined, AreNoParts, NamesSum, SaysNoParts, SaysOfCount, SaysOfHead, SaysOfHeads, SaysOfSums};
 ghost use Rattle.ivy_join.specs.OwnJoined.{AreAllTold, AreAnswered, AreOwnJoined, AreTold, Tells};
 
 use crate::failure::Unjoined;
 use crate::replay_log::play;
 use crate::strings::Strings;
-use ivy_logs::{Log, LogEntry, LogHead, sum_of_run};
+use ivy_logs::{Log, LogEntry, LogHead, sum_opened};
 use ivy_model::{Call, Config, Fault, Record};
 use ivy_moves::Keep;
 use ivy_program::Program;
-use ivy_site::Site;
+use ivy_site::{Opening, Site};
 use ivy_wire::Bytes;
 use std::alloc::Allocator;
 use std::marker::Model;
@@ -102,15 +103,27 @@ impl<A: Allocator + Copy> Joined<A> {
     }
 }
 
-/// The sites of the programs, in order, which keep no lists [1].
+/// How nodes began: with steady hints, or with the manager of their configuration.
+pub fn opening_by(steady: bool) -> Opening
+    ensures { result ≡ opening_by steady }
+{
+    if steady {
+        Opening::Steady
+    } else {
+        Opening::Configured
+    }
+}
+
+/// The sites of the programs, in order, which begin so and keep no lists [1].
 fn first_sites<A: Allocator + Copy>(
     alloc: A,
     config: &Config,
+    opening: Opening,
     programs: Vec<Program<A>, A>,
 ) -> Result<Vec<Site<A>, A>, Fault>
     requires limits { IsConfig config.now }
     requires each { length programs.items ≡ config.now.nodes }
-    ensures first { IfOk result (λ sites. sites.items ≡ kept_from Keep.Nothing config.now 0 programs.items) }
+    ensures first { IfOk result (λ sites. sites.items ≡ kept_from opening Keep.Nothing config.now 0 programs.items) }
     ensures written { OnOk result (All IsWritten programs.items) }
     ensures memory { IfErr result IsMemory }
 {
@@ -119,21 +132,25 @@ fn first_sites<A: Allocator + Copy>(
     for program in programs {
         // for the proof: it is written down, so that its node makes no call of its own.
         let _ = program.instructions();
-        sites.push(Site::keeping(alloc, config, me, program, Keep::Nothing)?)?;
+        sites.push(Site::opened(alloc, config, me, opening, program, Keep::Nothing)?)?;
         me += 1;
     }
     Ok(sites)
 }
 
-/// The sites of own code, as many as there are nodes, which keep what they are answered [1].
-fn open_sites<A: Allocator + Copy>(alloc: A, config: &Config) -> Result<Vec<Site<A>, A>, Fault>
+/// The sites of own code, as many as there are nodes, which begin so and keep what they are answered [1].
+fn open_sites<A: Allocator + Copy>(
+    alloc: A,
+    config: &Config,
+    opening: Opening,
+) -> Result<Vec<Site<A>, A>, Fault>
     requires limits { IsConfig config.now }
-    ensures first { IfOk result (λ sites. sites.items ≡ kept_from Keep.History config.now 0 (own_code config.now.nodes)) }
+    ensures first { IfOk result (λ sites. sites.items ≡ kept_from opening Keep.History config.now 0 (own_code config.now.nodes)) }
     ensures memory { IfErr result IsMemory }
 {
     let mut sites = Vec::with_capacity(alloc, usize::from(config.nodes))?;
     for me in 0..config.nodes {
-        sites.push(Site::open_keeping(alloc, config, me, Keep::History)?)?;
+        sites.push(Site::open_by(alloc, config, me, opening, Keep::History)?)?;
     }
     Ok(sites)
 }
@@ -145,10 +162,10 @@ fn is_same(a: &Config, b: &Config) -> bool
     a.nodes == b.nodes && a.pages == b.pages && a.page_size == b.page_size && a.manager == b.manager
 }
 
-/// Whether a log is the one of this node, and names this configuration.
-fn check_head(config: &Config, node: u64, head: &LogHead) -> Result<(), Unjoined>
-    ensures same { OnOk result (head.now ≡ record { me = node; config = config.now }) }
-    ensures why { IfErr result (SaysOfHead config.now node head.now) }
+/// Whether a log is the one of this node, and names this configuration and this manager.
+fn check_head(steady: bool, config: &Config, node: u64, head: &LogHead) -> Result<(), Unjoined>
+    ensures same { OnOk result (head.now ≡ record { me = node; config = config.now; steady = steady }) }
+    ensures why { IfErr result (SaysOfHead steady config.now node head.now) }
 {
     let me = u64::from(head.me);
     if me > node {
@@ -157,7 +174,7 @@ fn check_head(config: &Config, node: u64, head: &LogHead) -> Result<(), Unjoined
     if me < node {
         return Err(Unjoined::Twice(me));
     }
-    if !is_same(&head.config, config) {
+    if head.steady != steady || !is_same(&head.config, config) {
         return Err(Unjoined::Differs(node));
     }
     Ok(())
@@ -177,15 +194,29 @@ fn check_count(config: &Config, count: u64) -> Result<(), Unjoined>
     Ok(())
 }
 
-/// Whether each log is the one of the node of its place, and names this configuration. The error says which is not.
+/// Whether each log is the one of the node of its place, and names this configuration, with whose manager nodes begin.
+/// The error says which is not.
 pub fn check_heads<A: Allocator>(config: &Config, logs: &[Log<A>]) -> Result<(), Unjoined>
-    ensures each { OnOk result (AreHeads config.now 0 (map (λ l. l.head) logs.now)) }
+    ensures each { OnOk result (AreHeads false config.now 0 (map (λ l. l.head) logs.now)) }
     ensures count { OnOk result (length logs.now ≡ config.now.nodes) }
-    ensures why { IfErr result (SaysOfHeads config.now (map (λ l. l.head) logs.now)) }
+    ensures why { IfErr result (SaysOfHeads false config.now (map (λ l. l.head) logs.now)) }
+{
+    check_all_heads(false, config, logs)
+}
+
+/// Whether each log is the one of the node of its place, and names this configuration, and steady hints or not.
+fn check_all_heads<A: Allocator>(
+    steady: bool,
+    config: &Config,
+    logs: &[Log<A>],
+) -> Result<(), Unjoined>
+    ensures each { OnOk result (AreHeads steady config.now 0 (map (λ l. l.head) logs.now)) }
+    ensures count { OnOk result (length logs.now ≡ config.now.nodes) }
+    ensures why { IfErr result (SaysOfHeads steady config.now (map (λ l. l.head) logs.now)) }
 {
     let mut node = 0u64;
     for log in logs {
-        check_head(config, node, &log.head)?;
+        check_head(steady, config, node, &log.head)?;
         node += 1;
     }
     check_count(config, node)
@@ -272,28 +303,47 @@ fn check_answers<A: Allocator + Copy>(sites: &[Site<A>], logs: &[Log<A>]) -> Res
 /// [`Unjoined::NotSent`] and [`Unjoined::NoSuchEvent`] say of logs without calls, as all logs of programs are, that they are
 /// the parts of no run of these programs under it.
 /// The other errors say nothing of that: memory ran out, the configuration does not suit, the logs are not those of its
-/// nodes, or one of them names the sum of another run.
+/// nodes, or one of them names the sum of another run. A log whose nodes began with steady hints names another
+/// configuration.
 pub fn join<A: Allocator + Copy>(
     alloc: A,
     config: Config,
     programs: Vec<Program<A>, A>,
     logs: &[Log<A>],
 ) -> Result<Joined<A>, Unjoined>
-    ensures heads { OnOk result (AreHeads config 0 (map (λ l. l.head) logs.now)) }
-    ensures joined { IfOk result (λ joined. AreJoined config programs.items (map (λ l. marks (events_in l.entries.items)) logs.now) joined) }
+    ensures heads { OnOk result (AreHeads false config 0 (map (λ l. l.head) logs.now)) }
+    ensures joined { IfOk result (λ joined. AreJoined config Configured programs.items (map (λ l. marks (events_in l.entries.items)) logs.now) joined) }
     ensures summed { OnOk result (All (NamesSum (sum_of_run config programs.items)) (map (λ l. l.sum) logs.now)) }
-    ensures refused { IfErr result (λ why. SaysNoParts why → HaveNoCalls (map (λ l. l.entries.items) logs.now) → AreNoParts config programs.items (map (λ l. marks (events_in l.entries.items)) logs.now)) }
-    ensures named { IfErr result (λ why. SaysNoParts why → AreHeads config 0 (map (λ l. l.head) logs.now)) }
+    ensures refused { IfErr result (λ why. SaysNoParts why → HaveNoCalls (map (λ l. l.entries.items) logs.now) → AreNoParts config Configured programs.items (map (λ l. marks (events_in l.entries.items)) logs.now)) }
+    ensures named { IfErr result (λ why. SaysNoParts why → AreHeads false config 0 (map (λ l. l.head) logs.now)) }
+{
+    join_opened(alloc, false, config, programs, logs)
+}
+
+/// The same, of nodes that began with steady hints, or with the manager of their configuration.
+pub fn join_opened<A: Allocator + Copy>(
+    alloc: A,
+    steady: bool,
+    config: Config,
+    programs: Vec<Program<A>, A>,
+    logs: &[Log<A>],
+) -> Result<Joined<A>, Unjoined>
+    ensures heads { OnOk result (AreHeads steady config 0 (map (λ l. l.head) logs.now)) }
+    ensures joined { IfOk result (λ joined. AreJoined config (opening_by steady) programs.items (map (λ l. marks (events_in l.entries.items)) logs.now) joined) }
+    ensures summed { OnOk result (All (NamesSum (sum_opened steady config programs.items)) (map (λ l. l.sum) logs.now)) }
+    ensures refused { IfErr result (λ why. SaysNoParts why → HaveNoCalls (map (λ l. l.entries.items) logs.now) → AreNoParts config (opening_by steady) programs.items (map (λ l. marks (events_in l.entries.items)) logs.now)) }
+    ensures named { IfErr result (λ why. SaysNoParts why → AreHeads steady config 0 (map (λ l. l.head) logs.now)) }
 {
     config.check()?;
     if programs.len() != usize::from(config.nodes) {
         return Err(Unjoined::Refused(Fault::BadConfig));
     }
-    check_heads(&config, logs)?;
-    check_sums(sum_of_run(&config, &programs), logs)?;
-    let mut sites = first_sites(alloc, &config, programs)?;
+    check_all_heads(steady, &config, logs)?;
+    check_sums(sum_opened(steady, &config, &programs), logs)?;
+    let opening = opening_by(steady);
+    let mut sites = first_sites(alloc, &config, opening, programs)?;
     let mut sent = Strings::new(alloc);
-    play(alloc, &config, &mut sites, &mut sent, logs)?;
+    play(alloc, &config, opening, &mut sites, &mut sent, logs)?;
     Ok(Joined::new(sites))
 }
 
@@ -302,21 +352,36 @@ pub fn join<A: Allocator + Copy>(
 /// Where it answers, the logs are the parts of one run of the programs that the calls in them are, whatever wire the nodes
 /// had: what `World::run` promises of every run holds of what happened, and each node was answered in it what its log says.
 /// Where no call is in progress at its end, and no log lacks its last answer, one flat memory could have given the answers
-/// in the logs.
+/// in the logs. A log whose nodes began with steady hints names another configuration.
 pub fn join_own<A: Allocator + Copy>(
     alloc: A,
     config: Config,
     logs: &[Log<A>],
 ) -> Result<Joined<A>, Unjoined>
-    ensures heads { OnOk result (AreHeads config 0 (map (λ l. l.head) logs.now)) }
-    ensures joined { IfOk result (AreOwnJoined config (map (λ l. l.entries.items) logs.now)) }
+    ensures heads { OnOk result (AreHeads false config 0 (map (λ l. l.head) logs.now)) }
+    ensures joined { IfOk result (AreOwnJoined config Configured (map (λ l. l.entries.items) logs.now)) }
+    ensures answered { IfOk result (λ joined. AreAllTold (map (λ l. l.entries.items) logs.now) joined → AreAnswered config (map (λ l. l.entries.items) logs.now)) }
+{
+    join_own_opened(alloc, false, config, logs)
+}
+
+/// The same, of nodes that began with steady hints, or with the manager of their configuration.
+pub fn join_own_opened<A: Allocator + Copy>(
+    alloc: A,
+    steady: bool,
+    config: Config,
+    logs: &[Log<A>],
+) -> Result<Joined<A>, Unjoined>
+    ensures heads { OnOk result (AreHeads steady config 0 (map (λ l. l.head) logs.now)) }
+    ensures joined { IfOk result (AreOwnJoined config (opening_by steady) (map (λ l. l.entries.items) logs.now)) }
     ensures answered { IfOk result (λ joined. AreAllTold (map (λ l. l.entries.items) logs.now) joined → AreAnswered config (map (λ l. l.entries.items) logs.now)) }
 {
     config.check_wide()?;
-    check_heads(&config, logs)?;
-    let mut sites = open_sites(alloc, &config)?;
+    check_all_heads(steady, &config, logs)?;
+    let opening = opening_by(steady);
+    let mut sites = open_sites(alloc, &config, opening)?;
     let mut sent = Strings::new(alloc);
-    play(alloc, &config, &mut sites, &mut sent, logs)?;
+    play(alloc, &config, opening, &mut sites, &mut sent, logs)?;
     check_answers(&sites, logs)?;
     Ok(Joined::new(sites))
 }

@@ -13,6 +13,8 @@ mod restart;
 mod strings;
 
 pub use failure::Unjoined;
-pub use join_logs::{Joined, check_heads, join, join_own};
+pub use join_logs::{
+    Joined, check_heads, join, join_opened, join_own, join_own_opened, opening_by,
+};
 pub use replay_log::make;
 pub use restart::{NotPlayed, replay};

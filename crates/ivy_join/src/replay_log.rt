@@ -4,6 +4,7 @@ ghost use Rattle.ivy_model.specs.declared.Config.{Config};
 ghost use Rattle.ivy_model.specs.stated.Legal.{HasWidth};
 ghost use Rattle.ivy_model.specs.stated.Config.{IsConfig};
 ghost use Rattle.ivy_program.specs.OwnCode.{IsFree};
+ghost use Rattle.ivy_host.specs.declared.opening.Opening.{Opening};
 ghost use Rattle.ivy_moves.specs.Marks.{marks, Delivery, Pulse, marks_of, turns};
 ghost use Rattle.ivy_site.specs.Handed.{site_handed};
 ghost use Rattle.ivy_world.specs.WorldSites.{programs_of};
@@ -20,7 +21,7 @@ use ivy_link::Verdict;
 use ivy_logs::{Log, LogEntry};
 use ivy_model::{Call, CallKind, Config, Fault};
 use ivy_moves::Event;
-use ivy_site::{Site, Turn};
+use ivy_site::{Opening, Site, Turn};
 use ivy_wire::Bytes;
 use std::alloc::{AllocError, Allocator};
 
@@ -133,15 +134,16 @@ fn may_make<A: Allocator + Copy>(sent: &Strings<A>, event: &Event<Bytes<A>>) -> 
 /// Makes an event at a node, and what it sends is sent [1]. It says whether the event happens there.
 fn step<A: Allocator + Copy>(
     config: &Config,
+    opening: Opening,
     sites: &mut Vec<Site<A>, A>,
     sent: &mut Strings<A>,
     node: usize,
     event: &Event<Bytes<A>>,
 ) -> Result<bool, Fault>
-    requires played { ArePlayed config.now sites.old.items sent.old }
+    requires played { ArePlayed config.now opening sites.old.items sent.old }
     requires node { node < length sites.old.items }
     requires there { CanBeTaken sent.old event.now }
-    ensures played { OnOk result (ArePlayed config.now sites.new.items sent.new) }
+    ensures played { OnOk result (ArePlayed config.now opening sites.new.items sent.new) }
     ensures programs { OnOk result (programs_of sites.new.items ≡ programs_of sites.old.items) }
     ensures count { length sites.new.items ≡ length sites.old.items }
     ensures exact { IfOk result (λ happens. HaveSent sent.old sites.old.items → MatchBool happens (IsMadeAt node (marks_of event.now) sites.old.items sites.new.items sent.new) (IsNeverAt node (marks_of event.now) sites.old.items)) }
@@ -159,14 +161,15 @@ fn step<A: Allocator + Copy>(
 /// Goes on with the next event of a node's log.
 fn play_event<A: Allocator + Copy>(
     config: &Config,
+    opening: Opening,
     sites: &mut Vec<Site<A>, A>,
     sent: &mut Strings<A>,
     node: usize,
     event: &Event<Bytes<A>>,
 ) -> Result<Outcome, Fault>
-    requires played { ArePlayed config.now sites.old.items sent.old }
+    requires played { ArePlayed config.now opening sites.old.items sent.old }
     requires node { node < length sites.old.items }
-    ensures played { OnOk result (ArePlayed config.now sites.new.items sent.new) }
+    ensures played { OnOk result (ArePlayed config.now opening sites.new.items sent.new) }
     ensures programs { OnOk result (programs_of sites.new.items ≡ programs_of sites.old.items) }
     ensures count { length sites.new.items ≡ length sites.old.items }
     ensures exact { IfOk result (λ outcome. HaveSent sent.old sites.old.items → CameTo node (Did event.now) sites.old.items sites.new.items sent.old sent.new outcome) }
@@ -174,7 +177,7 @@ fn play_event<A: Allocator + Copy>(
     if !may_make(sent, event) {
         return Ok(Outcome::Waits);
     }
-    if step(config, sites, sent, node, event)? {
+    if step(config, opening, sites, sent, node, event)? {
         Ok(Outcome::Made)
     } else {
         Ok(Outcome::Never)
@@ -222,9 +225,9 @@ fn play_call<A: Allocator + Copy>(
     call: Call,
 ) -> Result<Outcome, Fault>
     requires node { node < length sites.old.items }
-    ensures played { OnOk result ((c : Config) (sent : List (List ℕ)) → ArePlayed c sites.old.items sent → ArePlayed c sites.new.items sent) }
+    ensures played { OnOk result ((c : Config) (o : Opening) (sent : List (List ℕ)) → ArePlayed c o sites.old.items sent → ArePlayed c o sites.new.items sent) }
     ensures called { IfOk result (HasCalledBy node (Asked call) (programs_of sites.old.items) (programs_of sites.new.items)) }
-    ensures exact { IfOk result (λ outcome. (c : Config) (sent : List (List ℕ)) → ArePlayed c sites.old.items sent → HaveSent sent sites.old.items → CameTo node (Asked call) sites.old.items sites.new.items sent sent outcome) }
+    ensures exact { IfOk result (λ outcome. (c : Config) (o : Opening) (sent : List (List ℕ)) → ArePlayed c o sites.old.items sent → HaveSent sent sites.old.items → CameTo node (Asked call) sites.old.items sites.new.items sent sent outcome) }
     ensures count { length sites.new.items ≡ length sites.old.items }
 {
     if !may_ask(sites, node, call) {
@@ -237,20 +240,21 @@ fn play_call<A: Allocator + Copy>(
 /// Goes on with the next entry of a node's log.
 pub(crate) fn play_entry<A: Allocator + Copy>(
     config: &Config,
+    opening: Opening,
     sites: &mut Vec<Site<A>, A>,
     sent: &mut Strings<A>,
     node: usize,
     entry: &LogEntry<Bytes<A>>,
 ) -> Result<Outcome, Fault>
-    requires played { ArePlayed config.now sites.old.items sent.old }
+    requires played { ArePlayed config.now opening sites.old.items sent.old }
     requires node { node < length sites.old.items }
-    ensures played { OnOk result (ArePlayed config.now sites.new.items sent.new) }
+    ensures played { OnOk result (ArePlayed config.now opening sites.new.items sent.new) }
     ensures called { IfOk result (HasCalledBy node entry.now (programs_of sites.old.items) (programs_of sites.new.items)) }
     ensures exact { IfOk result (λ outcome. HaveSent sent.old sites.old.items → CameTo node entry.now sites.old.items sites.new.items sent.old sent.new outcome) }
     ensures count { length sites.new.items ≡ length sites.old.items }
 {
     match entry {
-        LogEntry::Did(event) => play_event(config, sites, sent, node, event),
+        LogEntry::Did(event) => play_event(config, opening, sites, sent, node, event),
         LogEntry::Asked(call) => play_call(sites, node, *call),
         // What was answered is compared once all was made.
         LogEntry::Answered(_) => Ok(Outcome::Made),
@@ -266,26 +270,27 @@ fn line_of<A: Allocator>(log: &Log<A>, place: usize) -> u64 {
 /// it went on at all.
 fn play_log<A: Allocator + Copy>(
     config: &Config,
+    opening: Opening,
     sites: &mut Vec<Site<A>, A>,
     sent: &mut Strings<A>,
     node: usize,
     log: &Log<A>,
     made: &mut usize,
 ) -> Result<bool, Unjoined>
-    requires played { ArePlayed config.now sites.old.items sent.old }
+    requires played { ArePlayed config.now opening sites.old.items sent.old }
     requires node { node < length sites.old.items }
     requires sent { HaveSent sent.old sites.old.items }
     requires here { IsMadeTo log.now.entries.items made.old (events_at sites.old.items node) }
-    ensures played { OnOk result (ArePlayed config.now sites.new.items sent.new) }
+    ensures played { OnOk result (ArePlayed config.now opening sites.new.items sent.new) }
     ensures called { OnOk result (PlaysOn node log.now.entries.items made.old made.new (programs_of sites.old.items) (programs_of sites.new.items)) }
     ensures count { length sites.new.items ≡ length sites.old.items }
     ensures exact { IfOk result (λ went. PlaysTo node log.now.entries.items made.old made.new sites.old.items sites.new.items sent.old sent.new went) }
-    ensures refused { IfErr result (λ why. SaysNoParts why → calls_in log.now.entries.items ≡ [] → IsNoPart config.now (programs_of sites.old.items) node (marks (events_in log.now.entries.items))) }
+    ensures refused { IfErr result (λ why. SaysNoParts why → calls_in log.now.entries.items ≡ [] → IsNoPart config.now opening (programs_of sites.old.items) node (marks (events_in log.now.entries.items))) }
 {
     let began = *made;
     for place in began..log.entries.len() {
         let entry = &log.entries[place];
-        match play_entry(config, sites, sent, node, entry)? {
+        match play_entry(config, opening, sites, sent, node, entry)? {
             Outcome::Made => *made = place + 1,
             Outcome::Waits => return Ok(*made != began),
             Outcome::Never => {
@@ -303,25 +308,34 @@ fn play_log<A: Allocator + Copy>(
 /// Goes on with each log once [1]. It says whether one of them went on.
 fn play_round<A: Allocator + Copy>(
     config: &Config,
+    opening: Opening,
     sites: &mut Vec<Site<A>, A>,
     sent: &mut Strings<A>,
     logs: &[Log<A>],
     made: &mut [usize],
 ) -> Result<bool, Unjoined>
-    requires played { ArePlayed config.now sites.old.items sent.old }
+    requires played { ArePlayed config.now opening sites.old.items sent.old }
     requires logs { length logs.now ≡ length sites.old.items }
     requires made { length made.old ≡ length sites.old.items }
     requires sent { HaveSent sent.old sites.old.items }
     requires each { AreMadeTo (map (λ l. l.entries.items) logs.now) made.old sites.old.items }
-    ensures played { OnOk result (ArePlayed config.now sites.new.items sent.new) }
+    ensures played { OnOk result (ArePlayed config.now opening sites.new.items sent.new) }
     ensures called { OnOk result (HaveCalled (map (λ l. l.entries.items) logs.now) made.old made.new (programs_of sites.old.items) (programs_of sites.new.items)) }
     ensures count { length sites.new.items ≡ length sites.old.items }
     ensures exact { IfOk result (λ went. PlaysAll (map (λ l. l.entries.items) logs.now) made.old made.new sites.new.items sent.new went) }
-    ensures refused { IfErr result (λ why. SaysNoParts why → HaveNoCalls (map (λ l. l.entries.items) logs.now) → AreNoParts config.now (programs_of sites.old.items) (map (λ l. marks (events_in l.entries.items)) logs.now)) }
+    ensures refused { IfErr result (λ why. SaysNoParts why → HaveNoCalls (map (λ l. l.entries.items) logs.now) → AreNoParts config.now opening (programs_of sites.old.items) (map (λ l. marks (events_in l.entries.items)) logs.now)) }
 {
     let mut went = false;
     for node in 0..logs.len() {
-        if play_log(config, sites, sent, node, &logs[node], &mut made[node])? {
+        if play_log(
+            config,
+            opening,
+            sites,
+            sent,
+            node,
+            &logs[node],
+            &mut made[node],
+        )? {
             went = true;
         }
     }
@@ -353,21 +367,22 @@ fn check_ends<A: Allocator>(logs: &[Log<A>], made: &[usize]) -> Result<(), Unjoi
 pub(crate) fn play<A: Allocator + Copy>(
     alloc: A,
     config: &Config,
+    opening: Opening,
     sites: &mut Vec<Site<A>, A>,
     sent: &mut Strings<A>,
     logs: &[Log<A>],
 ) -> Result<(), Unjoined>
-    requires played { ArePlayed config.now sites.old.items sent.old }
+    requires played { ArePlayed config.now opening sites.old.items sent.old }
     requires logs { length logs.now ≡ length sites.old.items }
     requires sent { HaveSent sent.old sites.old.items }
     requires none { (i : ℕ) → events_at sites.old.items i ≡ [] }
-    ensures played { OnOk result (ArePlayed config.now sites.new.items sent.new) }
+    ensures played { OnOk result (ArePlayed config.now opening sites.new.items sent.new) }
     ensures called { OnOk result (programs_of sites.new.items ≡ with_calls (map (λ l. l.entries.items) logs.now) (programs_of sites.old.items)) }
     ensures count { length sites.new.items ≡ length sites.old.items }
     ensures lists { OnOk result ((i : ℕ) → events_at sites.new.items i ≡ part_in (map (λ l. marks (events_in l.entries.items)) logs.now) i) }
-    ensures refused { IfErr result (λ why. SaysNoParts why → HaveNoCalls (map (λ l. l.entries.items) logs.now) → AreNoParts config.now (programs_of sites.old.items) (map (λ l. marks (events_in l.entries.items)) logs.now)) }
+    ensures refused { IfErr result (λ why. SaysNoParts why → HaveNoCalls (map (λ l. l.entries.items) logs.now) → AreNoParts config.now opening (programs_of sites.old.items) (map (λ l. marks (events_in l.entries.items)) logs.now)) }
 {
     let mut made = vec![in alloc; 0usize; logs.len()]?;
-    while play_round(config, sites, sent, logs, &mut made)? {}
+    while play_round(config, opening, sites, sent, logs, &mut made)? {}
     check_ends(logs, &made)
 }

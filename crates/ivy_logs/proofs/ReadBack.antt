@@ -1,5 +1,5 @@
 -- What is written of a log is read as that log.
-use Rattle.std.proofs.Common.{◌≡◌, ◌∙◌, ℕ, ◌<◌, ◌^◌, List, [], ◌∷◌, ◌++◌, All, length, map, codes, decimal, refl, sym, ap, subst, arith, append_assoc, inl, inr, Ok, IfSome, Option, Some, None}
+use Rattle.std.proofs.Common.{◌≡◌, ◌∙◌, ℕ, Bool, true, false, ◌<◌, ◌^◌, List, [], ◌∷◌, ◌++◌, All, length, map, codes, decimal, refl, sym, ap, subst, arith, append_assoc, inl, inr, Ok, IfSome, Option, Some, None}
 use Rattle.std.specs.List.{AllZip}
 use Rattle.std.specs.Str.Lines.{lines}
 use Rattle.std.proofs.lemmas.Fmt.{decimal_is_IsNumeral, decimal_nonempty, length-decimal-le}
@@ -24,7 +24,7 @@ use Rattle.ivy_logs.specs.declared.log.LogKind.{LogKind}
 use Rattle.ivy_logs.specs.declared.log.LogKind.TheVariants.{OfProgram, OfOwnCode}
 use Rattle.ivy_logs.specs.Entries.{HasSum, LogEntry, SpellsEntry, SpellsIn, SpellsLog, entry_line, entry_lines}
 use Rattle.ivy_logs.specs.Printed.{first_line, sum_end}
-use Rattle.ivy_logs.specs.Spelled.{HasWholeLines, SpellsFirst, SpellsSum, is_end, kind_word, log_word}
+use Rattle.ivy_logs.specs.Spelled.{HasWholeLines, SpellsFirst, SpellsSum, is_end, log_word, manager_word}
 use Rattle.ivy_logs.specs.ReadBack.{FitsEntry, FitsHead, FitsIn, IsWide, IsWideReply, LogsReadBack, numbers_of}
 use Rattle.ivy_logs.proofs.Frames.{digits_large, number_large}
 use Rattle.ivy_logs.proofs.Written.{IsWord, Line, after-end, before-end, joined_text, joined-whole, line_text, line_words, lines_text, literal, no-end, spaced, worded-joined, words-spaced}
@@ -310,9 +310,10 @@ module _ (kind : LogKind) where
     words = worded-joined l ls;
   }
 
-manager-word : (k : Kind) → IsWord (kind_word k)
-manager-word Fixed = literal (codes "fixed") refl (omega arith)
-manager-word Dynamic = literal (codes "dynamic") refl (omega arith)
+manager-word : (steady : Bool) (k : Kind) → IsWord (manager_word steady k)
+manager-word true k = literal (codes "steady") refl (omega arith)
+manager-word false Fixed = literal (codes "fixed") refl (omega arith)
+manager-word false Dynamic = literal (codes "dynamic") refl (omega arith)
 
 kind-word : (k : LogKind) → IsWord (log_word k)
 kind-word OfProgram = literal (codes "log") refl (omega arith)
@@ -349,7 +350,7 @@ last-words word (Some sum) = refl
 -- the first line
 module _ (kind : LogKind) (h : LogHead) (sum : Option ℕ) (fits : FitsHead kind h sum) where
   abbrev manager : List ℕ
-  manager = kind_word h.config.manager
+  manager = manager_word h.steady h.config.manager
 
   abbrev said : List (List ℕ)
   said =
@@ -372,7 +373,7 @@ module _ (kind : LogKind) (h : LogHead) (sum : Option ℕ) (fits : FitsHead kind
         (is-number h.config.pages fits.pages)
         (All-cons IsWord (decimal h.config.page_size) (manager ∷ sum_words sum)
         (is-number h.config.page_size fits.page_size)
-        (All-cons IsWord manager (sum_words sum) (manager-word h.config.manager) (sum-are sum fits.wide))))));
+        (All-cons IsWord manager (sum_words sum) (manager-word h.steady h.config.manager) (sum-are sum fits.wide))))));
   }
 
   -- the numbers, and what stands behind them
@@ -417,7 +418,7 @@ module _ (kind : LogKind) (h : LogHead) (sum : Option ℕ) (fits : FitsHead kind
             number-word h.config.nodes fits.nodes,
             number-word h.config.pages fits.pages,
             number-word h.config.page_size fits.page_size,
-            refl,
+            (refl, fits.named),
           ),
           sum-spelled sum fits.wide,
         ),

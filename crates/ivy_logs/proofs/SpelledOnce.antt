@@ -1,5 +1,5 @@
 -- A text is that of one log at most.
-use Rattle.std.proofs.Common.{◌≡◌, ◌≢◌, ◌∙◌, ℕ, ◌+◌, ◌*◌, ◌<◌, ◌==◌, ◌⊎◌, inl, inr, List, [], ◌∷◌, ◌++◌, length, drop, get_or, slice_index, codes, refl, sym, ap, subst, arith, if◌then◌else◌, Option}
+use Rattle.std.proofs.Common.{◌≡◌, ◌≢◌, ◌∙◌, ℕ, ◌+◌, ◌*◌, ◌<◌, ◌==◌, ◌⊎◌, inl, inr, Bool, true, false, List, [], ◌∷◌, ◌++◌, length, drop, get_or, slice_index, codes, refl, sym, ap, subst, arith, if◌then◌else◌, Option}
 use Rattle.std.specs.List.{AllZip, after_first, before_first}
 use Rattle.std.specs.Str.{NoCharPasses}
 use Rattle.std.specs.Str.Lines.{lines}
@@ -24,7 +24,7 @@ use Rattle.ivy_logs.specs.declared.log.LogHead.{LogHead}
 use Rattle.ivy_logs.specs.declared.log.LogKind.{LogKind}
 use Rattle.ivy_logs.specs.declared.log.LogKind.TheVariants.{OfProgram, OfOwnCode}
 use Rattle.ivy_logs.specs.Entries.{LogEntry, Numbered, SpellsAnswered, SpellsEntry, SpellsIn}
-use Rattle.ivy_logs.specs.Spelled.{HasWholeLines, IsHexOf, SpellsConfig, SpellsEvent, SpellsHead, SpellsNode, is_end, kind_word, log_word}
+use Rattle.ivy_logs.specs.Spelled.{HasWholeLines, IsHexOf, IsManagerWord, SpellsConfig, SpellsEvent, SpellsHead, SpellsNode, is_end, kind_word, log_word}
 use Rattle.ivy_logs.specs.ReadBack.{LogsSpellOne, numbers_of}
 use Rattle.ivy_logs.proofs.ReadBack.{keyword_of}
 
@@ -311,14 +311,32 @@ kind-once word Dynamic Fixed a b =
     differ (codes "dynamic") (codes "fixed") 0 100 102 (sym a ∙ b) refl refl
     (λ s. omega (arith, s))
 
-config-once : (w x y z : List ℕ) (b c : Config) → SpellsConfig w x y z b → SpellsConfig w x y z c → b ≡ c
-config-once w x y z b c s t =
+steady-apart : (word : List ℕ) (k : Kind) → word ≡ codes "steady" → word ≡ kind_word k → ⊥
+steady-apart word Fixed a b =
+    differ (codes "steady") (codes "fixed") 0 115 102 (sym a ∙ b) refl refl (λ s. omega (arith, s))
+steady-apart word Dynamic a b =
+    differ (codes "steady") (codes "dynamic") 0 115 100 (sym a ∙ b) refl refl
+    (λ s. omega (arith, s))
+
+manager-once : (word : List ℕ) (s t : Bool) (k l : Kind) → IsManagerWord word s k
+    → IsManagerWord word t l → (s ≡ t) × (k ≡ l)
+manager-once word false false k l a b = (refl, kind-once word k l a.0 b.0)
+manager-once word true true k l a b = (refl, a.1 ∙ sym b.1)
+manager-once word true false k l a b = absurd (steady-apart word l a.0 b.0)
+manager-once word false true k l a b = absurd (steady-apart word k b.0 a.0)
+
+config-once : (w x y z : List ℕ) (d e : Bool) (b c : Config) → SpellsConfig w x y z d b
+    → SpellsConfig w x y z e c → (d ≡ e) × (b ≡ c)
+config-once w x y z d e b c s t =
     let made : ℕ → ℕ → ℕ → Kind → Config = λ n p s k.
     record { nodes = n; pages = p; page_size = s; manager = k } in
-    ap (λ n. made n b.pages b.page_size b.manager) (number-once w b.nodes c.nodes s.0 t.0)
-    ∙ ap (λ p. made c.nodes p b.page_size b.manager) (number-once x b.pages c.pages s.1 t.1)
-    ∙ ap (λ s. made c.nodes c.pages s b.manager) (number-once y b.page_size c.page_size s.2 t.2)
-    ∙ ap (λ k. made c.nodes c.pages c.page_size k) (kind-once z b.manager c.manager s.3 t.3)
+    let named = manager-once z d e b.manager c.manager s.3 t.3 in (
+      named.0,
+      ap (λ n. made n b.pages b.page_size b.manager) (number-once w b.nodes c.nodes s.0 t.0)
+          ∙ ap (λ p. made c.nodes p b.page_size b.manager) (number-once x b.pages c.pages s.1 t.1)
+          ∙ ap (λ s. made c.nodes c.pages s b.manager) (number-once y b.page_size c.page_size s.2 t.2)
+          ∙ ap (λ k. made c.nodes c.pages c.page_size k) named.1,
+    )
 
 -- what a first line says, and its sum
 record First : Type 0 where
@@ -336,9 +354,11 @@ node-once (v ∷ w ∷ []) f f' a b = absurd a
 node-once (v ∷ w ∷ x ∷ []) f f' a b = absurd a
 node-once (v ∷ w ∷ x ∷ y ∷ []) f f' a b = absurd a
 node-once (v ∷ w ∷ x ∷ y ∷ z ∷ rest) f f' a b =
-    let made : ℕ → Config → LogHead = λ i c. record { me = i; config = c } in
-    ap (λ i. made i f.head.config) (number-once v f.head.me f'.head.me a.0 b.0)
-    ∙ ap (λ c. made f'.head.me c) (config-once w x y z f.head.config f'.head.config a.1 b.1)
+    let made : ℕ → Config → Bool → LogHead = λ i c s. record { me = i; config = c; steady = s } in
+    let same = config-once w x y z f.head.steady f'.head.steady f.head.config f'.head.config a.1 b.1 in
+    ap (λ i. made i f.head.config f.head.steady) (number-once v f.head.me f'.head.me a.0 b.0)
+    ∙ ap (λ c. made f'.head.me c f.head.steady) same.1
+    ∙ ap (λ s. made f'.head.me f'.head.config s) same.0
 
 -- what stands after a word, of which the head is told
 head-after : (keyword : List ℕ) (P : First → List (List ℕ) → Type 0)

@@ -8,7 +8,7 @@ use Rattle.ivy_logs.specs.declared.sum_line.SumLine.{SumLine}
 use Rattle.ivy_logs.specs.declared.log.LogHead.{LogHead}
 use Rattle.ivy_logs.specs.declared.log.LogKind.{LogKind}
 use Rattle.ivy_logs.specs.declared.log.LogKind.TheVariants.{OfProgram}
-use Rattle.ivy_logs.specs.Spelled.{kind_word, log_word}
+use Rattle.ivy_logs.specs.Spelled.{log_word, manager_word}
 
 -- the line of a frame for a node
 abbrev pub frame_line : ℕ → List ℕ → List ℕ
@@ -27,7 +27,7 @@ sum_end (Some sum) = then_number sum ++ 10 ∷ []
 abbrev pub node_text : LogHead → List ℕ
 node_text h =
     then_number h.me ++ then_number h.config.nodes ++ then_number h.config.pages ++ then_number h.config.page_size
-    ++ codes " " ++ kind_word h.config.manager
+    ++ codes " " ++ manager_word h.steady h.config.manager
 
 -- the first line of a log, which names this sum, or none
 abbrev pub first_line : LogKind → LogHead → Option ℕ → List ℕ

@@ -13,7 +13,7 @@ use Rattle.ivy_logs.specs.declared.log.LogKind.TheVariants.{OfProgram, OfOwnCode
 use Rattle.ivy_logs.specs.declared.log.LogEntry.TheVariants.{Did, Asked, Answered}
 use Rattle.ivy_logs.specs.Entries.{HasSum, LogEntry, SpellsLog, entry_lines}
 use Rattle.ivy_logs.specs.Printed.{first_line}
-use Rattle.ivy_logs.specs.Spelled.{MayHaveSum}
+use Rattle.ivy_logs.specs.Spelled.{MayHaveSum, named_kind}
 
 -- a number of 64 bits
 abbrev pub IsWide : ℕ → Type 0
@@ -64,6 +64,7 @@ pub record FitsHead (kind : LogKind) (h : LogHead) (sum : Option ℕ) : Type 0 w
   pub nodes : IsWide h.config.nodes
   pub pages : IsWide h.config.pages
   pub page_size : IsWide h.config.page_size
+  pub named : h.config.manager ≡ named_kind h.steady h.config.manager
   pub wide : IfSome sum IsWide
   pub may : MayHaveSum kind sum
 

@@ -1,5 +1,5 @@
 -- What the lines of frames and of logs say.
-use Rattle.std.specs.Prelude.{◌≡◌, ◌⊎◌, ◌==◌, ℕ, Bool, List, [], ◌∷◌, ◌++◌, codes, Ok, Option, Some, None}
+use Rattle.std.specs.Prelude.{◌≡◌, ◌⊎◌, ◌==◌, ℕ, Bool, true, false, List, [], ◌∷◌, ◌++◌, codes, Ok, Option, Some, None}
 use Rattle.std.specs.List.{AllZip}
 use Rattle.std.specs.Str.{NoCharPasses}
 use Rattle.hex.specs.Hex.{decode_of}
@@ -39,21 +39,39 @@ abbrev pub kind_word : Kind → List ℕ
 kind_word Fixed = codes "fixed"
 kind_word Dynamic = codes "dynamic"
 
+-- the word of the manager with which nodes begin: steady hints, or the manager of this kind that
+-- their configuration names
+abbrev pub manager_word : Bool → Kind → List ℕ
+manager_word false kind = kind_word kind
+manager_word true kind = codes "steady"
+
+-- the kind that the configuration of these nodes names, where it names this one: with steady hints
+-- the dynamic one
+abbrev pub named_kind : Bool → Kind → Kind
+named_kind false kind = kind
+named_kind true kind = Dynamic
+
+-- the word names the manager of nodes with such a configuration
+abbrev pub IsManagerWord : List ℕ → Bool → Kind → Type 0
+IsManagerWord word steady kind =
+    (word ≡ manager_word steady kind) × (kind ≡ named_kind steady kind)
+
 -- the word of a sum, or none
 abbrev pub SpellsSum : List (List ℕ) → Option ℕ → Type 0
 SpellsSum [] None = Unit {0}
 SpellsSum (word ∷ []) (Some sum) = IsNumberWord word sum
 SpellsSum _ sum = ⊥
 
--- the words of a configuration
-abbrev pub SpellsConfig : List ℕ → List ℕ → List ℕ → List ℕ → Config → Type 0
-SpellsConfig nodes pages page_size manager c = IsNumberWord nodes c.nodes × IsNumberWord pages c.pages
-    × IsNumberWord page_size c.page_size × (manager ≡ kind_word c.manager)
+-- the words of a configuration, and of the manager with which its nodes begin
+abbrev pub SpellsConfig : List ℕ → List ℕ → List ℕ → List ℕ → Bool → Config → Type 0
+SpellsConfig nodes pages page_size manager steady c = IsNumberWord nodes c.nodes
+    × IsNumberWord pages c.pages × IsNumberWord page_size c.page_size
+    × IsManagerWord manager steady c.manager
 
 -- the words of a node's number and of a configuration, and of a sum where there is one
 abbrev pub SpellsNode : List (List ℕ) → LogHead → Option ℕ → Type 0
 SpellsNode (me ∷ nodes ∷ pages ∷ page_size ∷ manager ∷ rest) h sum = IsNumberWord me h.me
-    × SpellsConfig nodes pages page_size manager h.config × SpellsSum rest sum
+    × SpellsConfig nodes pages page_size manager h.steady h.config × SpellsSum rest sum
 SpellsNode _ h sum = ⊥
 
 -- the word of a log's first line that says whose log it is

@@ -1,5 +1,5 @@
 -- The sum of a run: what tells one program and configuration from another.
-use Rattle.std.specs.Prelude.{ℕ, ◌+◌, ◌*◌, ◌%◌, ◌^◌, List, [], ◌∷◌, length, bit_xor}
+use Rattle.std.specs.Prelude.{ℕ, ◌+◌, ◌*◌, ◌%◌, ◌^◌, Bool, true, false, List, [], ◌∷◌, length, bit_xor}
 use Rattle.std.specs.List.{fold}
 use Rattle.ivy_model.specs.declared.Config.{Config}
 use Rattle.ivy_model.specs.declared.Kind.{Kind}
@@ -29,9 +29,15 @@ operation_number Add = 0
 operation_number Sub = 1
 operation_number Mul = 2
 
--- the numbers of a configuration
-abbrev pub config_numbers : Config → List ℕ
-config_numbers c = c.nodes ∷ c.pages ∷ c.page_size ∷ kind_number c.manager ∷ []
+-- the number of the manager with which nodes begin, under a configuration that names this kind
+abbrev pub manager_number : Bool → Kind → ℕ
+manager_number false kind = kind_number kind
+manager_number true kind = 2
+
+-- the numbers of a configuration, whose nodes begin with steady hints or with its manager
+abbrev pub config_numbers : Bool → Config → List ℕ
+config_numbers steady c =
+    c.nodes ∷ c.pages ∷ c.page_size ∷ manager_number steady c.manager ∷ []
 
 -- the numbers of an instruction: which one it is, and then what it names
 abbrev pub instruction_numbers : Instruction → List ℕ
@@ -65,7 +71,13 @@ abbrev pub with_program : ℕ → Program → ℕ
 with_program sum p =
     fold with_instruction (sum_with sum (length (instructions_of p))) (instructions_of p)
 
--- the sum of a configuration and its programs, which has 16 digits
+-- the sum of a configuration and its programs, which has 16 digits; whether the nodes begin with
+-- steady hints is part of it
+abbrev pub sum_opened : Bool → Config → List Program → ℕ
+sum_opened steady c programs = 10 ^ 15
+    + fold with_program (sum_on 0xcbf2_9ce4_8422_2325 (config_numbers steady c)) programs
+    % (9 * 10 ^ 15)
+
+-- so it is where they begin with the manager of the configuration
 abbrev pub sum_of_run : Config → List Program → ℕ
-sum_of_run c programs = 10 ^ 15
-    + fold with_program (sum_on 0xcbf2_9ce4_8422_2325 (config_numbers c)) programs % (9 * 10 ^ 15)
+sum_of_run = sum_opened false

@@ -1,7 +1,7 @@
 //! The lines of a node in a process: frames in hexadecimal digits, and its log.
 //!
 //! A frame's line is `TO HEX`: the node that it is for, and its string of bytes. A log is a line `ivy log I N P S
-//! fixed` or `dynamic` of node I, where it is told with the sum of its run behind it, and then the node's events:
+//! fixed`, `dynamic` or `steady` of node I, where it is told with the sum of its run behind it, and then the node's events:
 //! `turns N`, `took HEX` and `pulse J`. Every line ends in LF. What stands behind a log's last LF is no line yet: the
 //! node was killed while it wrote. By a line `TO sum I SUM` node I tells another one that sum.
 //!
@@ -29,6 +29,6 @@ pub use log::{Log, LogEntry, LogHead, LogKind, bytes_of, count_answers, parse_lo
 pub use print::{
     push_entry, push_event, push_frame, push_head, push_head_of_run, push_log, push_log_of_run,
 };
-pub use sum::sum_of_run;
+pub use sum::{sum_of_run, sum_opened};
 pub use sum_line::{SumLine, parse_sum_line, push_sum_line};
 pub use write::push_digits;

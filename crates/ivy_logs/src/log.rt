@@ -1,5 +1,5 @@
 //! Logs, as they are read: what a node in a process of its own did, one entry a line.
-ghost use Rattle.std.specs.Prelude.{◌≡◌, ◌*◌, ◌≤◌, ◌<◌, ◌^◌, ℕ, Option, List, [], ◌∷◌, codes, MatchBool, MatchOption, Ok, IsErr, length, IfOk, IfErr, IfNone, IfSome, IsOkUnless, map};
+ghost use Rattle.std.specs.Prelude.{◌≡◌, ◌*◌, ◌≤◌, ◌<◌, ◌^◌, ℕ, Bool, Option, List, [], ◌∷◌, codes, MatchBool, MatchOption, Ok, IsErr, length, IfOk, IfErr, IfNone, IfSome, IsOkUnless, map};
 ghost use Rattle.std.specs.List.{AllZip};
 ghost use Rattle.std.specs.Str.Lines.{lines};
 ghost use Rattle.ivy_model.specs.declared.Kind.{Kind};
@@ -15,7 +15,7 @@ ghost use Rattle.ivy_texts.specs.Spelled.{worded, BeginsWith};
 ghost use Rattle.ivy_logs.specs.Entries.{HasSum, answers_in, SpellsAnswered, SpellsDid, SpellsEntry, SpellsIn, SpellsLog};
 ghost use Rattle.ivy_logs.specs.Faults.{IsFaultAmong, IsFaultOfLog, IsHead, IsByte, IsEntry, IsEvent, IsNoCall, IsReply, SpellsNone};
 ghost use Rattle.ivy_logs.specs.declared.log.LogHead.{LogHead};
-ghost use Rattle.ivy_logs.specs.Spelled.{kind_word, log_word, HasWholeLines, MayHaveSum, SpellsConfig, SpellsFirst, SpellsHead, SpellsNode, SpellsEvent};
+ghost use Rattle.ivy_logs.specs.Spelled.{log_word, IsManagerWord, HasWholeLines, MayHaveSum, SpellsConfig, SpellsFirst, SpellsHead, SpellsNode, SpellsEvent};
 ghost use Rattle.ivy_logs.specs.Entries as entries;
 ghost use Rattle.ivy_logs.specs.Digits.{IsHalf};
 ghost use Rattle.hex.specs.Hex.{decode_of, decode_pairs};
@@ -59,6 +59,15 @@ pub struct LogHead {
     pub me: u8,
     /// What all nodes agreed on, which may be out of its limits.
     pub config: Config,
+    /// Whether the nodes began with steady hints. Then the configuration names the dynamic manager.
+    pub steady: bool,
+}
+
+/// The manager that a word names.
+#[derive(Clone, Copy)]
+struct Named {
+    kind: Kind,
+    steady: bool,
 }
 
 /// A log as its text gives it.
@@ -338,30 +347,42 @@ fn parse_size(word: &str) -> Option<u32>
 }
 
 /// How the owner of a page is found, by its word.
-fn parse_kind(word: &str) -> Option<Kind>
-    ensures kind { IfSome result (λ kind. word.now ≡ kind_word kind) }
-    ensures none { IfNone result ((kind : Kind) → ¬ (word.now ≡ kind_word kind)) }
+fn parse_manager(word: &str) -> Option<Named>
+    ensures named { IfSome result (λ n. IsManagerWord word.now n.steady n.kind) }
+    ensures none { IfNone result ((steady : Bool) (kind : Kind) → ¬ IsManagerWord word.now steady kind) }
 {
     match word {
-        "fixed" => Some(Kind::Fixed),
-        "dynamic" => Some(Kind::Dynamic),
+        "fixed" => Some(Named {
+            kind: Kind::Fixed,
+            steady: false,
+        }),
+        "dynamic" => Some(Named {
+            kind: Kind::Dynamic,
+            steady: false,
+        }),
+        "steady" => Some(Named {
+            kind: Kind::Dynamic,
+            steady: true,
+        }),
         _ => None,
     }
 }
 
 /// What these words say, of a node's number and of a configuration.
 fn node_of(me: &str, nodes: &str, pages: &str, page_size: &str, manager: &str) -> Option<LogHead>
-    ensures spelled { IfSome result (λ h. IsNumberWord me.now h.me × SpellsConfig nodes.now pages.now page_size.now manager.now h.config) }
-    ensures none { IfNone result ((h : LogHead) → IsHead h → ¬ (IsNumberWord me.now h.me × SpellsConfig nodes.now pages.now page_size.now manager.now h.config)) }
+    ensures spelled { IfSome result (λ h. IsNumberWord me.now h.me × SpellsConfig nodes.now pages.now page_size.now manager.now h.steady h.config) }
+    ensures none { IfNone result ((h : LogHead) → IsHead h → ¬ (IsNumberWord me.now h.me × SpellsConfig nodes.now pages.now page_size.now manager.now h.steady h.config)) }
 {
+    let manager = parse_manager(manager)?;
     Some(LogHead {
         me: parse_byte(me)?,
         config: Config {
             nodes: parse_byte(nodes)?,
             pages: parse_size(pages)?,
             page_size: parse_size(page_size)?,
-            manager: parse_kind(manager)?,
+            manager: manager.kind,
         },
+        steady: manager.steady,
     })
 }
 

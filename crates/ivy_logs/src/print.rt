@@ -1,8 +1,8 @@
 //! What is written of frames and of logs.
 ghost use Rattle.std.specs.Prelude.{◌≡◌, ◌++◌, OnOk, flat_map, string_bytes};
 ghost use Rattle.ivy_logs.specs.Entries.{entry_line};
+ghost use Rattle.ivy_logs.specs.Spelled.{manager_word};
 ghost use Rattle.ivy_logs.specs.Printed.{event_line, first_line, frame_line, head_line, head_line_of_run, log_text, log_text_of_run, node_text, sum_end};
-ghost use Rattle.ivy_logs.specs.Spelled.{kind_word};
 
 use crate::log::{LogEntry, LogHead, LogKind};
 use crate::push_digits;
@@ -27,13 +27,14 @@ pub fn push_frame<A: Allocator + Copy>(
     text.push('\n')
 }
 
-/// The word of a kind of manager.
-fn manager_word(kind: Kind) -> &'static str
-    ensures { result.now ≡ kind_word kind }
+/// The word of the manager with which nodes begin, under a configuration that names this kind.
+fn manager_word(steady: bool, kind: Kind) -> &'static str
+    ensures { result.now ≡ manager_word steady kind }
 {
-    match kind {
-        Kind::Fixed => "fixed",
-        Kind::Dynamic => "dynamic",
+    match (steady, kind) {
+        (true, _) => "steady",
+        (false, Kind::Fixed) => "fixed",
+        (false, Kind::Dynamic) => "dynamic",
     }
 }
 
@@ -47,7 +48,7 @@ fn push_node<A: Allocator>(text: &mut String<A>, head: &LogHead) -> Result<(), A
     );
     let pages = Decimal(u64::from(head.config.pages));
     let page_size = Decimal(u64::from(head.config.page_size));
-    let manager = manager_word(head.config.manager);
+    let manager = manager_word(head.steady, head.config.manager);
     write!(text, " {me} {nodes} {pages} {page_size} {manager}")
 }
 

@@ -1,6 +1,6 @@
 //! The sum of a run, by which its logs and its nodes know each other.
 ghost use Rattle.std.specs.Prelude.{◌≡◌};
-ghost use Rattle.ivy_logs.specs.Sums.{config_numbers, operation_number, sum_of_run, sum_on, with_instruction, with_program};
+ghost use Rattle.ivy_logs.specs.Sums.{config_numbers, manager_number, operation_number, sum_of_run, sum_on, sum_opened, with_instruction, with_program};
 ghost use Rattle.ivy_program.specs.stated.Instructions.{bytes_in};
 
 use ivy_model::{Config, Kind};
@@ -119,10 +119,29 @@ fn add_program<A: Allocator + Copy>(sum: u64, program: &Program<A>) -> u64
 pub fn sum_of_run<A: Allocator + Copy>(config: &Config, programs: &[Program<A>]) -> u64
     ensures { result ≡ sum_of_run config.now programs.now }
 {
-    let manager = match config.manager {
-        Kind::Fixed => 0,
-        Kind::Dynamic => 1,
-    };
+    sum_opened(false, config, programs)
+}
+
+/// The number of the manager with which nodes begin, under a configuration that names this kind.
+fn manager_number(steady: bool, kind: Kind) -> u64
+    ensures { result ≡ manager_number steady kind }
+{
+    match (steady, kind) {
+        (true, _) => 2,
+        (false, Kind::Fixed) => 0,
+        (false, Kind::Dynamic) => 1,
+    }
+}
+
+/// The same, of nodes that begin with steady hints, or with the manager of the configuration. It takes no memory.
+pub fn sum_opened<A: Allocator + Copy>(
+    steady: bool,
+    config: &Config,
+    programs: &[Program<A>],
+) -> u64
+    ensures { result ≡ sum_opened steady config.now programs.now }
+{
+    let manager = manager_number(steady, config.manager);
     let nodes = u64::from(config.nodes);
     let pages = u64::from(config.pages);
     let page_size = u64::from(config.page_size);

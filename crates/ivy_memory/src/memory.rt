@@ -1,6 +1,6 @@
 //! The memory of one node, as its program sees it: one call in progress, over the node's coherence, and what a call
 //! asks of it.
-ghost use Rattle.std.specs.Prelude.{◌≡◌, ◌≢◌, ◌<◌, ◌≤◌, ◌↔◌, ◌⊎◌, ◌*◌, ℕ, [], ◌/◌, ◌%◌, false, None, IsSome, is_none, IfNone, IfSome, IfOk, IfErr, OnOk, OnErr, IsOkUnless, IsErrOf, length};
+ghost use Rattle.std.specs.Prelude.{◌≡◌, ◌≢◌, ◌<◌, ◌≤◌, ◌↔◌, ◌⊎◌, ◌*◌, ℕ, [], ◌/◌, ◌%◌, true, false, None, IsSome, is_none, IfNone, IfSome, IfOk, IfErr, OnOk, OnErr, IsOkUnless, IsErrOf, length};
 ghost use Rattle.ivy_model.specs.declared.Row.{Row};
 ghost use Rattle.ivy_model.specs.declared.Row.TheVariants.{Loads, Stores};
 ghost use Rattle.ivy_model.specs.stated.Config.{IsConfig};
@@ -8,6 +8,7 @@ ghost use Rattle.ivy_model.specs.stated.Legal.{HasKindWidth, HasWidth, IsWidth};
 ghost use Rattle.ivy_model.specs.Rows.{numbers_in, row};
 ghost use Rattle.ivy_model.specs.Wants.{RanOut};
 ghost use Rattle.ivy_model.specs.stated.Serves.{access_refusal};
+ghost use Rattle.ivy_pagetable.specs.Manager.{IsNew};
 ghost use Rattle.ivy_wire.specs.Lent.{owned_message};
 ghost use Rattle.ivy_wire.specs.stated.Spelling.{FitsMessage};
 ghost use Rattle.ivy_wire.specs.Posts.{IsPostOf, HasRefused};
@@ -16,7 +17,7 @@ ghost use Rattle.ivy_coherence.specs.EventLimits.{most_posted};
 ghost use Rattle.ivy_memory.specs.Asking.{CallHasToAsk, CallMayMakePage, IsCallWant, IsMessageWant, MayBeRefused};
 ghost use Rattle.ivy_memory.specs.stated.Asking.{count_asked, asked_kind, asked_of, word_unless};
 ghost use Rattle.ivy_memory.specs.AtOnce.{AnswerAtOnce, IsRowAt, IsStored, is_row_at_hand, row_at_hand};
-ghost use Rattle.ivy_memory.specs.stated.Memories.{first_memory, reply_of, reply_at, call_begun, polled, memory_handled, memory_told, taken_out};
+ghost use Rattle.ivy_memory.specs.stated.Memories.{memory_over, new_memory, first_memory, reply_of, reply_at, call_begun, polled, memory_handled, memory_told, taken_out};
 ghost use Rattle.ivy_memory.specs.Memories.{MayFailAgain};
 
 use crate::rest::Rest;
@@ -77,8 +78,37 @@ impl<M: Manager, A: Allocator + Copy> Memory<M, A> {
         ensures first { IfOk result (λ m. m ≡ first_memory M.ops config.now me) }
         ensures memory { IsOkUnless result Fault.Memory }
     {
+        let coherence = Coherence::new(alloc, config, me, manager)?;
+        Memory::over(alloc, config, me, coherence)
+    }
+
+    /// The same, with any new manager, but requests are sent on while a copy is awaited, and not put off [1].
+    pub fn sending_on(alloc: A, config: &Config, me: u8, manager: M) -> Result<Self, Fault>
+    where
+        M: Drop,
+        requires limits { IsConfig config.now }
+        requires here { me < config.now.nodes }
+        requires fresh { IsNew M.ops config.now me manager }
+        ensures first { IfOk result (λ m. m ≡ new_memory true config.now me manager) }
+        ensures memory { IsOkUnless result Fault.Memory }
+    {
+        let coherence = Coherence::sending_on(alloc, config, me, manager)?;
+        Memory::over(alloc, config, me, coherence)
+    }
+
+    /// Over a coherence that no word was asked of yet.
+    fn over(alloc: A, config: &Config, me: u8, coherence: Coherence<M, A>) -> Result<Self, Fault>
+    where
+        M: Drop,
+        requires config { coherence.config ≡ config.now }
+        requires me { coherence.me ≡ me }
+        requires idle { coherence.locked ≡ None }
+        requires done { coherence.done ≡ None }
+        ensures over { IfOk result (λ m. m ≡ memory_over coherence) }
+        ensures memory { IsOkUnless result Fault.Memory }
+    {
         Ok(Memory {
-            coherence: Coherence::new(alloc, config, me, manager)?,
+            coherence,
             asked: None,
             along: Rest::new(alloc, config.page_size)?,
             number: 0,

@@ -19,6 +19,7 @@ impl<M: Manager, A: Allocator> Memory<M, A> {
     pub fn sound(&self)
         ensures { IsSoundMemory M.ops self.now }
     {
+        // for the proof: what holds of every value of this type.
         let _ = &self.number;
     }
 

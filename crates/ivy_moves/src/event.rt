@@ -6,8 +6,8 @@ ghost use Rattle.ivy_moves.specs.Marks.{Turn, Delivery, Pulse, marks, turns};
 
 use crate::note::note_turn;
 use crate::same::{are_same, copy_events, retold};
-use crate::story::Story;
-use ivy_model::{Record, Row};
+use crate::story::{Answered, Delivered, Happening, InRow, Pulsed, Turned};
+use ivy_model::{Record, Row, Story};
 use ivy_wire::Bytes;
 use std::alloc::{AllocError, Allocator};
 use std::marker::Model;
@@ -30,7 +30,7 @@ pub enum Event<B> {
 #[derive_where(Debug)]
 pub struct Events<A: Allocator> {
     #[derive_where(skip)]
-    story: Story,
+    story: Story<Happening>,
     is_kept: bool,
     entries: Vec<Event<Bytes<A>>, A>,
 }
@@ -43,9 +43,9 @@ impl<A: Allocator> Model for Events<A> {
 
     ghost Value = { Listed };
 
-    ghost view = { λ e. record { marks = e.story.events; kept = e.is_kept; has_room = has_place e.is_kept (vec_len e.entries) (vec_capacity e.entries) } };
+    ghost view = { λ e. record { marks = e.story.told; kept = e.is_kept; has_room = has_place e.is_kept (vec_len e.entries) (vec_capacity e.entries) } };
 
-    ghost invariant = { λ e. marks e.entries.items ≡ read_of e.is_kept e.story.events };
+    ghost invariant = { λ e. marks e.entries.items ≡ read_of e.is_kept e.story.told };
 }
 
 impl<A: Allocator> Events<A> {
@@ -103,7 +103,7 @@ impl<A: Allocator> Events<A> {
         ensures marks { self.new.marks ≡ self.old.marks ++ Turn ∷ [] }
         ensures kept { self.new.kept ≡ self.old.kept }
     {
-        self.story.push_turns(1);
+        self.story.append::<u64, Turned>(&1);
         if self.is_kept {
             note_turn(&mut self.entries);
         }
@@ -116,7 +116,7 @@ impl<A: Allocator> Events<A> {
         ensures marks { self.new.marks ≡ self.old.marks ++ turns count }
         ensures kept { self.new.kept ≡ self.old.kept }
     {
-        self.story.push_turns(count);
+        self.story.append::<u64, Turned>(&count);
     }
 
     /// Lists one more delivery, of a whole string, in the place that [`Events::reserve`] made.
@@ -126,7 +126,7 @@ impl<A: Allocator> Events<A> {
         ensures marks { self.new.marks ≡ self.old.marks ++ Delivery bytes ∷ [] }
         ensures kept { self.new.kept ≡ self.old.kept }
     {
-        self.story.push_delivery(bytes.bytes());
+        self.story.append::<&[u8], Delivered>(&bytes.bytes());
         if self.is_kept {
             self.entries.push_reserved(Event::Delivered(bytes));
         }
@@ -138,7 +138,7 @@ impl<A: Allocator> Events<A> {
         ensures marks { self.new.marks ≡ self.old.marks ++ Delivery bytes.now ∷ [] }
         ensures kept { self.new.kept ≡ self.old.kept }
     {
-        self.story.push_delivery(bytes);
+        self.story.append::<&[u8], Delivered>(&bytes);
     }
 
     /// Lists one more pulse, to a node by its number, in the place that [`Events::reserve`] made.
@@ -148,7 +148,7 @@ impl<A: Allocator> Events<A> {
         ensures marks { self.new.marks ≡ self.old.marks ++ Pulse to ∷ [] }
         ensures kept { self.new.kept ≡ self.old.kept }
     {
-        self.story.push_pulse(to);
+        self.story.append::<u8, Pulsed>(&to);
         if self.is_kept {
             self.entries.push_reserved(Event::Pulsed(to));
         }
@@ -184,7 +184,7 @@ impl<A: Allocator + Copy> Events<A> {
 #[derive(Drop)]
 pub struct History<A: Allocator> {
     count: u64,
-    story: Story,
+    story: Story<Record>,
     is_kept: bool,
     last: Option<Record>,
     records: Vec<Record, A>,
@@ -197,9 +197,9 @@ impl<A: Allocator> Model for History<A> {
 
     ghost Value = { HistoryState };
 
-    ghost view = { λ h. record { records = h.story.records; kept = h.is_kept; has_room = has_count h.count (has_place h.is_kept (vec_len h.records) (vec_capacity h.records)) } };
+    ghost view = { λ h. record { records = h.story.told; kept = h.is_kept; has_room = has_count h.count (has_place h.is_kept (vec_len h.records) (vec_capacity h.records)) } };
 
-    ghost invariant = { λ h. (h.count ≡ length h.story.records) × (h.last ≡ last_of h.story.records) × (h.records.items ≡ read_of h.is_kept h.story.records) };
+    ghost invariant = { λ h. (h.count ≡ length h.story.told) × (h.last ≡ last_of h.story.told) × (h.records.items ≡ read_of h.is_kept h.story.told) };
 }
 
 impl<A: Allocator> History<A> {
@@ -271,7 +271,7 @@ impl<A: Allocator> History<A> {
         ensures records { self.new.records ≡ self.old.records ++ one ∷ [] }
         ensures kept { self.new.kept ≡ self.old.kept }
     {
-        self.story.push_record(&one);
+        self.story.push(&one);
         self.count += 1;
         self.last = Some(one);
         if self.is_kept {
@@ -298,7 +298,14 @@ impl<A: Allocator> History<A> {
         ensures records { self.new.records ≡ self.old.records ++ row kind node addr (numbers_in words bytes.now) }
         ensures kept { self.new.kept ≡ self.old.kept }
     {
-        self.story.push_row(kind, node, addr, words, bytes);
+        let row = InRow {
+            kind,
+            node,
+            addr,
+            words,
+            bytes,
+        };
+        self.story.append::<InRow<'_>, Answered>(&row);
         self.count += words as u64;
         if let Some(last) = kind.last(node, addr, words, bytes) {
             self.last = Some(last);

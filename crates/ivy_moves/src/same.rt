@@ -3,7 +3,8 @@ ghost use Rattle.std.specs.Prelude.{◌≡◌, ◌++◌, IsTrue, IfOk};
 ghost use Rattle.ivy_moves.specs.Marks.{marks, marks_of};
 
 use crate::event::Event;
-use crate::story::Story;
+use crate::story::{Delivered, Happening, Pulsed, Turned};
+use ivy_model::Story;
 use ivy_wire::Bytes;
 use std::alloc::{AllocError, Allocator};
 
@@ -35,8 +36,8 @@ pub(crate) fn copy_events<A: Allocator + Copy>(
 }
 
 /// The story of these entries.
-pub(crate) fn retold<A: Allocator>(events: &[Event<Bytes<A>>]) -> Story
-    ensures { result.events ≡ marks events.now }
+pub(crate) fn retold<A: Allocator>(events: &[Event<Bytes<A>>]) -> Story<Happening>
+    ensures { result.told ≡ marks events.now }
 {
     let mut story = Story::new();
     for event in events {
@@ -46,13 +47,13 @@ pub(crate) fn retold<A: Allocator>(events: &[Event<Bytes<A>>]) -> Story
 }
 
 /// One entry more.
-fn tell<A: Allocator>(story: &mut Story, event: &Event<Bytes<A>>)
-    ensures more { story.new.events ≡ story.old.events ++ marks_of event.now }
+fn tell<A: Allocator>(story: &mut Story<Happening>, event: &Event<Bytes<A>>)
+    ensures more { story.new.told ≡ story.old.told ++ marks_of event.now }
 {
     match event {
-        Event::Turns(n) => story.push_turns(*n),
-        Event::Delivered(bytes) => story.push_delivery(bytes.bytes()),
-        Event::Pulsed(to) => story.push_pulse(*to),
+        Event::Turns(n) => story.append::<u64, Turned>(n),
+        Event::Delivered(bytes) => story.append::<&[u8], Delivered>(&bytes.bytes()),
+        Event::Pulsed(to) => story.append::<u8, Pulsed>(to),
     }
 }
 

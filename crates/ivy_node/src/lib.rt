@@ -14,7 +14,7 @@ pub use ivy_ether::{Event, Events};
 pub use ivy_world::{Program, Site, Turn, Verdict, parse};
 
 // a world: nodes, and all strings that they sent
-pub use ivy_world::{Move, Rest, World};
+pub use ivy_world::{Move, Opening, Rest, World};
 
 // a session: seated nodes, and what is reported of their turns
 pub use ivy_session::{Gate, Limits, OpenGate, Report, Role, Seated, Session, WireTurn};
@@ -26,13 +26,16 @@ pub use ivy_calls::{
 };
 
 // own code in a session of threads, and what all of its nodes gave
-pub use ivy_own::{OwnFault, OwnReport, run_with, run_with_keeping};
+pub use ivy_own::{OwnFault, OwnReport, run_with, run_with_keeping, run_with_opening};
 
 // the same, which ends where it stands still, and says so
-pub use ivy_watching::{OwnStandstill, Watched, run_watching};
+pub use ivy_watching::{OwnStandstill, Watched, run_watching, run_watching_opening};
 
 // own code under drawn schedules
-pub use ivy_play::{Check, PlayReport, Seeds, play_all, play_drawn, play_listed, shortest};
+pub use ivy_play::{
+    Check, PlayReport, Seeds, play_all, play_all_opening, play_drawn, play_drawn_opening,
+    play_listed, play_with_opening, shortest,
+};
 
 // the crates that these stand in, for what else they have
 pub use ivy_calls;

@@ -20,7 +20,7 @@ fn behind(option: &CommandOption) -> &'static str {
     match option.value {
         Value::Nothing => "",
         Value::Number { .. } | Value::Power { .. } => "N",
-        Value::Manager => "fixed|dynamic",
+        Value::Manager => "fixed|dynamic|steady",
         Value::Word(name) => name,
     }
 }
@@ -28,7 +28,7 @@ fn behind(option: &CommandOption) -> &'static str {
 /// Prints an option, what stands behind it, what it is, and what stands for a missing one.
 fn print_option<W: Write>(option: &CommandOption, out: &mut W) -> io::Result<()> {
     let behind = behind(option);
-    write!(out, "  {:<11} {behind:<14} {}", option.name, option.about)?;
+    write!(out, "  {:<11} {behind:<20} {}", option.name, option.about)?;
     match option.value {
         Value::Number {
             missing: Some(number),

@@ -93,6 +93,7 @@ impl<'a> Misuse<'a> {
         let mut nearest = Nearest::new(word);
         nearest.offer("fixed");
         nearest.offer("dynamic");
+        nearest.offer("steady");
         Misuse::UnknownManager {
             word,
             near: nearest.name(),
@@ -121,7 +122,7 @@ impl<'a> Misuse<'a> {
             Misuse::UnknownManager { word, .. } => {
                 write!(
                     f,
-                    "a manager is `fixed` or `dynamic`, and not `{}`",
+                    "a manager is `fixed`, `dynamic` or `steady`, and not `{}`",
                     Shown(word)
                 )
             }

@@ -19,7 +19,7 @@ pub(crate) struct Reader<'a> {
 /// The manager that a word names, as a word.
 fn manager_word(word: &str) -> Result<&str, Misuse<'_>> {
     match word {
-        "fixed" | "dynamic" => Ok(word),
+        "fixed" | "dynamic" | "steady" => Ok(word),
         _ => Err(Misuse::unknown_manager(word)),
     }
 }

@@ -38,11 +38,16 @@ pub const MANAGER: CommandOption = CommandOption {
 };
 
 impl Given<'_> {
-    /// How the owner of a page is found.
+    /// How the owner of a page is found, as a configuration names it: steady hints are dynamic there.
     pub fn manager(&self) -> Kind {
         match self.word("--manager") {
             Some("fixed") => Kind::Fixed,
             _ => Kind::Dynamic,
         }
+    }
+
+    /// Whether nodes begin with steady hints, in place of the manager that their configuration names.
+    pub fn is_steady(&self) -> bool {
+        self.word("--manager") == Some("steady")
     }
 }

@@ -28,7 +28,7 @@ pub enum Value {
         missing: Option<u64>,
         bounds: Bounds,
     },
-    /// `fixed` or `dynamic`. A missing option stands for `dynamic`.
+    /// `fixed`, `dynamic` or `steady`. A missing option stands for `dynamic`.
     Manager,
     /// Any word. Help calls it this.
     Word(&'static str),

@@ -19,7 +19,7 @@ use Rattle.ivy_host.specs.stated.Managers.{Managed, managed_ops}
 use Rattle.ivy_site.specs.SiteView.{SiteView}
 use Rattle.ivy_site.specs.Handed.{site_handed}
 use Rattle.ivy_site.specs.Calls.{BeginsCall}
-use Rattle.ivy_site.specs.Sites.{AfterTurn, SiteTurns, first_keeping}
+use Rattle.ivy_site.specs.Sites.{AfterTurn, SiteTurns, first_opened}
 use Rattle.ivy_site.specs.declared.turn.Turn as turn
 use Rattle.ivy_site.specs.declared.turn.Turn.TheVariants.{Idle, Moved, Ended}
 use Rattle.ivy_seating.specs.Turns.{KeepsAnswers}
@@ -184,9 +184,9 @@ turned_owned call (Some reply) old new half half' o t grows =
     more_owned (came call (Some reply)) old new half half' o t grows
 
 -- a node with own code that has made no call
-pub first_owned : (keep : _) (c : _) (me : ℕ) (s : SiteView) (half : Listed Answer)
-    → s ≡ first_keeping keep c me (Called []) → half ≡ listed me [] → IsOwned s half
-first_owned keep c me s half first new =
+pub first_owned : (opened : _) (keep : _) (c : _) (me : ℕ) (s : SiteView) (half : Listed Answer)
+    → s ≡ first_opened opened keep c me (Called []) → half ≡ listed me [] → IsOwned s half
+first_owned opened keep c me s half first new =
     subst (λ (x : SiteView). IsOwned x half) (sym first)
     (record {
       number = ap (λ (l : Listed Answer). l.number) new;

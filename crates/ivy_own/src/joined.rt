@@ -68,6 +68,7 @@ pub(crate) fn join_all<J: Naming, W: Work, R: Threads, A: Allocator + Copy>(
     ensures all { vec_len result ≡ vec_len handles.entry }
     ensures given { (i : ℕ) (r : _) → slice_get result.items i ≡ Some r → MatchResult r (λ ended. HasEnded (W.done work.now) i ended.mine ended.out) (StopsFor (W.gives_up work.now) i) }
 {
+    // for the proof: the clauses name the work.
     let _ = work;
     let mut all = all;
     for handle in handles {
@@ -87,6 +88,7 @@ pub fn first_given_up<J: Naming, W: Work>(
     ensures named { IfSome result (IsNamedIn all.now) }
     ensures stop { IfSome result (IsOwnStop (length all.now) (W.gives_up work.now)) }
 {
+    // for the proof: the clauses name the work.
     let _ = work;
     let mut node = 0u8;
     for given in all {
@@ -114,6 +116,7 @@ pub fn take_ended<J: Naming, W: Work, A: Allocator + Copy>(
     ensures done { IfOk result (λ ended. (i : ℕ) (e : _) → slice_get ended.items i ≡ Some e → HasEnded (W.done work.now) i e.mine e.out) }
     ensures stop { IfErr result IsStop }
 {
+    // for the proof: the clauses name the work.
     let _ = work;
     let mut taken = Vec::new(alloc);
     for given in all {

@@ -33,10 +33,10 @@ mod workers;
 
 pub use fault::OwnFault;
 pub use ivy_calls::{Answer, SharedMemory, Work};
-pub use ivy_session::{Gate, Keep, Limits, OpenGate, Report, Role};
+pub use ivy_session::{Gate, Keep, Limits, OpenGate, Opening, Report, Role};
 pub(crate) use known::{Tells, View};
 pub use report::OwnReport;
-pub use session::{collect, run_with, run_with_keeping};
+pub use session::{collect, run_with, run_with_keeping, run_with_opening};
 
 // what watched sessions have in common with these
 pub use joined::{Ended, GivenUp, first_given_up, take_ended};

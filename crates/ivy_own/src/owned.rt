@@ -99,6 +99,7 @@ fn turn_once<S: Setup, A: Allocator + Copy>(
     ensures done { MatchResult result (λ reply. TurnsOwn call reply seated.old.site seated.new.site) (λ _. seated.new ≡ seated.old) }
     ensures stop { IfErr result IsStop }
 {
+    // for the proof: the clauses name it.
     let _ = call;
     let before = seated.records();
     seated.program_turn()?;
@@ -230,6 +231,7 @@ fn call_row_at<S: Setup, J: Naming, A: Allocator + Copy>(
     ensures ether { seated.new.ether ≡ seated.old.ether }
     ensures owned { IsOwned seated.new.site half.now }
 {
+    // for the proof: the clauses name it.
     let _ = half;
     if seated.site().me() != me || seated.site().keep() != Keep::Nothing {
         return false;

@@ -5,7 +5,7 @@ ghost use Rattle.ivy_calls.specs.Answers.{answers};
 ghost use Rattle.ivy_own.specs.Known.{listed};
 ghost use Rattle.ivy_model.specs.declared.Config.{Config};
 ghost use Rattle.ivy_program.specs.stated.Programs.{Called};
-ghost use Rattle.ivy_site.specs.Sites.{first_keeping};
+ghost use Rattle.ivy_site.specs.Sites.{first_opened};
 ghost use Rattle.ivy_ether.specs.Rule.{times};
 ghost use Rattle.ivy_ether.specs.Views.{beginner, with_issued};
 ghost use Rattle.ivy_ether.specs.EtherViews.{IsNewcomer};
@@ -44,6 +44,7 @@ fn seat_one<'e, S: Setup, A: Allocator + Copy, R: Wait, G>(
     node: u8,
 ) -> Result<Seated<'e, S, A>, Fault>
     requires config { plan.now.config ≡ S.config }
+    requires opened { plan.now.opening ≡ S.opened }
     requires limits { IsConfig plan.now.config }
     requires programs { S.programs ≡ all_open S.config }
     requires starter { (starter.old.ether ≡ ether.now) × (starter.old.known.starts ≡ true) }
@@ -53,7 +54,7 @@ fn seat_one<'e, S: Setup, A: Allocator + Copy, R: Wait, G>(
     ensures starter { starter.new.ether ≡ starter.old.ether }
     ensures issued { IfOk result (λ _. starter.new.known ≡ with_issued starter.old.known node) }
     ensures ether { IfOk result (λ seated. seated.ether ≡ ether.now) }
-    ensures site { IfOk result (λ seated. seated.site ≡ first_keeping plan.now.keep plan.now.config node (Called [])) }
+    ensures site { IfOk result (λ seated. seated.site ≡ first_opened S.opened plan.now.keep plan.now.config node (Called [])) }
     ensures stop { IfErr result IsStop }
 {
     let mut pass = pass;
@@ -66,7 +67,7 @@ fn seat_one<'e, S: Setup, A: Allocator + Copy, R: Wait, G>(
     if found != node {
         return Err(Fault::TurnLimit);
     }
-    let site = Site::open_keeping(plan.alloc, &plan.config, node, plan.keep)?;
+    let site = Site::open_by(plan.alloc, &plan.config, node, plan.opening, plan.keep)?;
     Ok(Seated::new(ether, site, pass))
 }
 
@@ -80,10 +81,11 @@ fn place_one<'e, S: Setup, H: Home, J: Naming, A: Allocator + Copy>(
 ) -> (Owned<'e, S, H, J, A>, Half<Answer, J>)
     requires home { seated.ether ≡ H.ether }
     requires lists { lists.old ≡ node }
-    requires site { (config : Config) × (seated.site ≡ first_keeping keep config node (Called [])) }
+    requires site { (config : Config) × (seated.site ≡ first_opened S.opened keep config node (Called [])) }
     ensures mine { result.1 ≡ listed node [] }
     ensures next { lists.new ≡ node + 1 }
 {
+    // for the proof: the clauses name it.
     let _ = keep;
     let (half, mine) = tie.begin(lists);
     (Owned::new(seated, half), mine)
@@ -100,6 +102,7 @@ pub fn place_all<'e, S: Setup, H: Home, J: Naming, A: Allocator + Copy, R: Wait,
 ) -> Result<Places<'e, S, H, J, A>, Fault>
     requires home { ether.now ≡ H.ether }
     requires config { plan.now.config ≡ S.config }
+    requires opened { plan.now.opening ≡ S.opened }
     requires limits { IsConfig plan.now.config }
     requires programs { S.programs ≡ all_open S.config }
     requires lists { lists.old ≡ 0 }
@@ -153,11 +156,12 @@ pub(crate) fn close_all<S: Setup, H: Home, J: Naming, A: Allocator + Copy, R, G,
     requires done { (i : ℕ) (e : _) → slice_get worked.all.items i ≡ Some e → HasEnded (W.done work.now) i e.mine e.out }
     ensures starter { starter.new.ether ≡ starter.old.ether }
     ensures all { IfOk result (λ r. (vec_len r.0 ≡ vec_len worked.entry.all) × (vec_len r.1 ≡ vec_len worked.entry.all)) }
-    ensures told { IfOk result (λ r. AreTold S.config S.programs starter.new.known (map report_of r.0.items)) }
+    ensures told { IfOk result (λ r. AreTold S.config S.opened S.programs starter.new.known (map report_of r.0.items)) }
     ensures keep { IfOk result (λ r. AllKeep plan.now.keep (map report_of r.0.items)) }
     ensures done { IfOk result (λ r. AreClosed (W.done work.now) (map report_of r.0.items) r.1.items) }
     ensures stop { IfErr result IsStop }
 {
+    // for the proof: the clauses name the work.
     let _ = work;
     let WorkedPlaces { seats, all } = worked;
     let mut seats = seats.into_iter();

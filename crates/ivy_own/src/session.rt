@@ -18,7 +18,7 @@ use crate::report::OwnReport;
 use crate::workers::run_crew;
 use crate::{Half, Naming, Opened, Tie};
 use ivy_calls::{Answer, Work};
-use ivy_ether::{Ether, Pass, Setup, Wired};
+use ivy_ether::{Ether, Opening, Pass, Setup, Wired};
 use ivy_model::{Config, Fault};
 use ivy_seating::{Home, Keep, Plan, Report};
 use ivy_workers::{Crew, Gate, Limits, Shared};
@@ -84,7 +84,7 @@ pub fn collect<S: Setup, H: Home, J: Naming, A: Allocator + Copy, R, G, W: Work>
     requires starter { starter.ether ≡ ether.now }
     requires nodes { vec_len worked.all ≡ S.config.nodes }
     requires done { (i : ℕ) (e : _) → slice_get worked.all.items i ≡ Some e → HasEnded (W.done work.now) i e.mine e.out }
-    ensures report { IfOk result (λ report. IsOwnReport S.config (W.done work.now) report.nodes report.outs.items) }
+    ensures report { IfOk result (λ report. IsOwnReport S.config S.opened (W.done work.now) report.nodes report.outs.items) }
     ensures keep { IfOk result (λ report. AllKeep plan.now.keep report.nodes) }
     ensures stop { IfErr result IsStop }
 {
@@ -113,6 +113,7 @@ where
     G: Gate,
     W: Work + Sync,
     requires config { plan.now.config ≡ S.config }
+    requires opened { plan.now.opening ≡ S.opened }
     requires limits { IsConfig plan.now.config }
     requires programs { S.programs ≡ all_open S.config }
     requires home { ether.now ≡ H.ether }
@@ -120,7 +121,7 @@ where
     requires starter { (starter.ether ≡ ether.now) × (starter.known ≡ beginner) }
     requires passes { All (IsNewcomer ether.now) passes.items }
     requires enough { vec_len passes ≡ plan.now.config.nodes }
-    ensures report { IfOk result (λ report. IsOwnReport S.config (W.done work.now) report.nodes report.outs.items) }
+    ensures report { IfOk result (λ report. IsOwnReport S.config S.opened (W.done work.now) report.nodes report.outs.items) }
     ensures keep { IfOk result (λ report. AllKeep plan.now.keep report.nodes) }
     ensures fault { IfErr result (IsOwnStop S.config.nodes (W.gives_up work.now)) }
 {
@@ -159,13 +160,14 @@ where
     G: Gate,
     W: Work + Sync,
     requires config { plan.now.config ≡ S.config }
+    requires opened { plan.now.opening ≡ S.opened }
     requires limits { IsConfig plan.now.config }
     requires programs { S.programs ≡ all_open S.config }
     requires home { ether.now ≡ H.ether }
     requires starter { (starter.ether ≡ ether.now) × (starter.known ≡ beginner) }
     requires passes { All (IsNewcomer ether.now) passes.items }
     requires enough { vec_len passes ≡ plan.now.config.nodes }
-    ensures report { IfOk result (λ report. IsOwnReport S.config (W.done work.now) report.nodes report.outs.items) }
+    ensures report { IfOk result (λ report. IsOwnReport S.config S.opened (W.done work.now) report.nodes report.outs.items) }
     ensures keep { IfOk result (λ report. AllKeep plan.now.keep report.nodes) }
     ensures fault { IfErr result (IsOwnStop S.config.nodes (W.gives_up work.now)) }
 {
@@ -175,7 +177,7 @@ where
     play_tied::<S, H, Brand, A, R, G, W>(plan, ether, opened, starter, passes, work)
 }
 
-/// Lays the ether, and runs the works of the nodes there [1, 17, 21].
+/// Lays the ether, and runs the works of the nodes there, which begin so [1, 17, 21].
 fn play<S, A, R, G, W>(
     plan: &Plan<'_, '_, A, R, G>,
     work: &W,
@@ -187,10 +189,11 @@ where
     G: Gate,
     W: Work + Sync,
     requires config { plan.now.config ≡ S.config }
+    requires opened { plan.now.opening ≡ S.opened }
     requires limits { IsConfig plan.now.config }
     requires programs { S.programs ≡ all_open S.config }
     requires capacity { 0 < plan.now.limits.capacity }
-    ensures report { IfOk result (λ report. IsOwnReport S.config (W.done work.now) report.nodes report.outs.items) }
+    ensures report { IfOk result (λ report. IsOwnReport S.config S.opened (W.done work.now) report.nodes report.outs.items) }
     ensures keep { IfOk result (λ report. AllKeep plan.now.keep report.nodes) }
     ensures fault { IfErr result (IsOwnStop S.config.nodes (W.gives_up work.now)) }
 {
@@ -223,7 +226,7 @@ where
     R: Threads + Wait + Sync,
     G: Gate,
     W: Work + Sync,
-    ensures report { IfOk result (λ report. IsOwnReport config (W.done work.now) report.nodes report.outs.items) }
+    ensures report { IfOk result (λ report. IsOwnReport config Opening.Configured (W.done work.now) report.nodes report.outs.items) }
     ensures bad { IsErrOf result (OwnFault.Session Fault.BadConfig) ↔ ¬ (IsConfig config × AreLimits limits) }
     ensures keep { IfOk result (λ report. AllKeep Keep.Nothing report.nodes) }
     ensures fault { IfErr result (IsOwnFault config.nodes (W.gives_up work.now)) }
@@ -246,7 +249,40 @@ where
     R: Threads + Wait + Sync,
     G: Gate,
     W: Work + Sync,
-    ensures report { IfOk result (λ report. IsOwnReport config (W.done work.now) report.nodes report.outs.items) }
+    ensures report { IfOk result (λ report. IsOwnReport config Opening.Configured (W.done work.now) report.nodes report.outs.items) }
+    ensures bad { IsErrOf result (OwnFault.Session Fault.BadConfig) ↔ ¬ (IsConfig config × AreLimits limits) }
+    ensures keep { IfOk result (λ report. AllKeep keep report.nodes) }
+    ensures fault { IfErr result (IsOwnFault config.nodes (W.gives_up work.now)) }
+{
+    run_with_opening(
+        rt,
+        alloc,
+        config,
+        work,
+        limits,
+        gate,
+        keep,
+        Opening::Configured,
+    )
+}
+
+/// The same, of nodes that begin so: by the manager that the configuration names, or by steady hints [1, 2, 17, 21].
+pub fn run_with_opening<A, R, G, W>(
+    rt: &R,
+    alloc: A,
+    config: Config,
+    work: &W,
+    limits: Limits,
+    gate: &G,
+    keep: Keep,
+    opening: Opening,
+) -> Result<OwnReport<W::Out, A>, OwnFault>
+where
+    A: Allocator + Copy + Send + Sync,
+    R: Threads + Wait + Sync,
+    G: Gate,
+    W: Work + Sync,
+    ensures report { IfOk result (λ report. IsOwnReport config opening (W.done work.now) report.nodes report.outs.items) }
     ensures bad { IsErrOf result (OwnFault.Session Fault.BadConfig) ↔ ¬ (IsConfig config × AreLimits limits) }
     ensures keep { IfOk result (λ report. AllKeep keep report.nodes) }
     ensures fault { IfErr result (IsOwnFault config.nodes (W.gives_up work.now)) }
@@ -258,6 +294,7 @@ where
         rt,
         alloc,
         config,
+        opening,
         limits,
         gate,
         keep,

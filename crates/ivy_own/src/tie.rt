@@ -131,6 +131,7 @@ impl<T, J: Naming, A: Allocator> Tie<T, J, A> {
         ensures one { one.new ≡ listed one.old.number (one.old.list ++ E.more) }
         ensures other { other.new ≡ listed other.old.number (other.old.list ++ E.more) }
     {
+        // for the proof: the clauses name it.
         let _ = value;
         let moved = self.cell.shared.split_seat::<Off>(&mut other.pass);
         self.cell.shared.join_seat::<Both>(&mut one.pass, moved);

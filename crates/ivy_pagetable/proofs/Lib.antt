@@ -4,3 +4,4 @@ pub mod Bits
 pub mod Regions
 pub mod RowsCarried
 pub mod WideTables
+pub mod LockedEntries

@@ -6,7 +6,7 @@ use Rattle.ivy_pagetable.specs.declared.entry.Entry.TheVariants as entry
 use Rattle.ivy_pagetable.specs.declared.word.Word.{Word}
 use Rattle.ivy_pagetable.specs.stated.Accesses.{suffices}
 use Rattle.ivy_pagetable.specs.stated.NodeSets.{Nodes}
-use Rattle.ivy_pagetable.specs.stated.Entries.{copying, nothing, sharing}
+use Rattle.ivy_pagetable.specs.stated.Entries.{copying, sharing}
 
 -- idle, and not the owner
 abbrev pub is_plain : Entry → Bool
@@ -37,4 +37,5 @@ with_reader (entry.AwaitAcks s) node = entry.AwaitAcks s
 
 -- a copy was asked for; nothing is put off yet
 abbrev pub awaiting_read : Word → ℕ → Entry
-awaiting_read word call = entry.AwaitRead (record { word = word; call = call; put_off = [] })
+awaiting_read word call =
+    entry.AwaitRead (record { word = word; call = call; put_off = []; sent_on = false })

@@ -5,6 +5,7 @@ pub mod Entries
 pub mod WordRows
 pub mod Lent
 pub mod Pages
+pub mod LockedEntries
 pub mod WideTables
 pub mod Either
 pub mod Manager

@@ -42,6 +42,14 @@ pub record IsRouted {S : Type 0} (ops : Ops S) (s : S) (p : ℕ) : Type 0 where
   pub me : ops.me s < ops.nodes s
   pub hop : ops.next_hop s p < ops.nodes s
 
+-- A new manager of node i: the next hop of each page is a node, and this node at node 0 alone.
+pub record IsNew {S : Type 0} (ops : Ops S) (c : Config) (i : ℕ) (s : S) : Type 0 where
+  pub me : ops.me s ≡ i
+  pub size : ops.size s ≡ c.pages
+  pub nodes : ops.nodes s ≡ c.nodes
+  pub hop : (p : ℕ) → p < c.pages → ops.next_hop s p < c.nodes
+  pub own : (p : ℕ) → p < c.pages → ops.next_hop s p ≡ i → i ≡ 0
+
 -- what is asked of every manager
 pub record Laws {S : Type 0} (ops : Ops S) : Type 0 where
   -- at first, the next hop is a node, and this node at node 0 alone

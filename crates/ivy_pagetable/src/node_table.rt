@@ -1,5 +1,5 @@
 //! The page table of a node of any configuration, and the one of up to 256 pages.
-ghost use Rattle.std.specs.Prelude.{◌≡◌, ◌+◌, ◌*◌, ◌%◌, ℕ, ◌<◌, ◌≤◌, ◌⊎◌, true, false, All, length, drop, replicate, if◌then◌else◌, IsTrue, IsFalse, IsSome, IfSome, IfNone, IfOk, OnOk, OnErr, IsOkUnless};
+ghost use Rattle.std.specs.Prelude.{◌≡◌, ◌+◌, ◌*◌, ◌%◌, ◌<◌, ◌≤◌, ◌⊎◌, true, false, All, length, drop, replicate, if◌then◌else◌, IsTrue, IsFalse, IsSome, IfSome, IfNone, IfOk, OnOk, OnErr, IsOkUnless};
 ghost use Rattle.std.specs.List.{concat};
 ghost use Rattle.ivy_model.specs.declared.Row.TheVariants.{Loads, Stores};
 ghost use Rattle.ivy_model.specs.Rows.{numbers_in};
@@ -10,6 +10,7 @@ ghost use Rattle.ivy_pagetable.specs.stated.Entries.{can_put_off, with_put_off, 
 ghost use Rattle.ivy_pagetable.specs.Entries.{suffices_at};
 ghost use Rattle.ivy_pagetable.specs.Either.{MayBeUnmade};
 ghost use Rattle.ivy_pagetable.specs.Lent.{lent_entry};
+ghost use Rattle.ivy_pagetable.specs.LockedEntries.{locked_beside, most_locked};
 ghost use Rattle.ivy_pagetable.specs.stated.Tables.{first_entry, entry_at, page_at, with_entry, with_page, first_table};
 ghost use Rattle.ivy_pagetable.specs.WordRows.{row_len, AreCarried, with_row};
 ghost use Rattle.ivy_pagetable.specs.stated.Words.{IsWord, carried_out, needs_write, width_of, offset_of, number_at};
@@ -100,10 +101,10 @@ impl<A: Allocator> NodeTable<A> {
         }
     }
 
-    /// Replaces the entry of the page. A word waits at no other one, if at this.
+    /// Replaces the entry of the page. Fewer than 8 others are locked, where this is.
     pub fn set_entry(&mut self, page: u32, entry: Entry)
         requires page { page < length self.old.entries }
-        requires alone { is_locked entry ≡ true → (p : ℕ) → is_locked (entry_at self.old p) ≡ true → p ≡ page }
+        requires room { is_locked entry ≡ true → locked_beside self.old page < most_locked }
         ensures { self.new ≡ with_entry self.old page entry }
     {
         match &mut self.table {

@@ -1,4 +1,4 @@
-ghost use Rattle.std.specs.Prelude.{◌≡◌, ◌<◌, ◌≤◌, [], ◌∷◌, ◌++◌, length, nat_le, nat_lt, if◌then◌else◌};
+ghost use Rattle.std.specs.Prelude.{◌≡◌, ◌<◌, ◌≤◌, true, false, [], ◌∷◌, ◌++◌, length, nat_le, nat_lt, if◌then◌else◌};
 ghost use Rattle.ivy_pagetable.specs.stated.Entries.{with_one_put_off};
 ghost use Rattle.ivy_pagetable.specs.stated.EntryLimits.{most_put_off};
 
@@ -11,13 +11,14 @@ use std::marker::Model;
 /// The messages put off at one entry, at most this many.
 const MOST_PUT_OFF: usize = MOST_NODES as usize;
 
-/// A word that waits for its page, the number of its call, and the messages that were put off
-/// until then, at most 32.
+/// A word that waits for its page, the number of its call, the messages that were put off until then, at most 32, and
+/// whether a request was sent on meanwhile.
 #[derive(Drop)]
 pub struct Waiting {
     word: Word,
     call: u64,
     put_off: ArrayVec<PutOff, MOST_PUT_OFF>,
+    sent_on: bool,
 }
 
 impl Model for Waiting {
@@ -26,20 +27,31 @@ impl Model for Waiting {
 
     ghost Value = { WaitingState };
 
-    ghost view = { λ s. record { word = s.word; call = s.call; put_off = s.put_off.items } };
+    ghost view = { λ s. record {
+      word = s.word;
+      call = s.call;
+      put_off = s.put_off.items;
+      sent_on = s.sent_on;
+    } };
 
-    ghost invariant = { λ s. FitsPutOff (record { word = s.word; call = s.call; put_off = s.put_off.items }) };
+    ghost invariant = { λ s. FitsPutOff (record {
+      word = s.word;
+      call = s.call;
+      put_off = s.put_off.items;
+      sent_on = s.sent_on;
+    }) };
 }
 
 impl Waiting {
     /// The word of this call, and nothing put off.
     pub fn new(word: Word, call: u64) -> Waiting
-        ensures { result ≡ record { word = word; call = call; put_off = [] } }
+        ensures { result ≡ record { word = word; call = call; put_off = []; sent_on = false } }
     {
         Waiting {
             word,
             call,
             put_off: ArrayVec::new(),
+            sent_on: false,
         }
     }
 
@@ -92,7 +104,21 @@ impl Waiting {
         self.call
     }
 
-    /// The same word, call and messages.
+    /// Whether a request was sent on while the word waited.
+    pub fn sent_on(&self) -> bool
+        ensures { result ≡ self.now.sent_on }
+    {
+        self.sent_on
+    }
+
+    /// From now on, a request was sent on while the word waited.
+    pub fn send_on(&mut self)
+        ensures { self.new ≡ record self.old { sent_on = true } }
+    {
+        self.sent_on = true;
+    }
+
+    /// The same word, call, messages and mark.
     pub fn copied(&self) -> Waiting
         ensures { result ≡ self.now }
     {
@@ -102,6 +128,16 @@ impl Waiting {
             word: self.word,
             call: self.call,
             put_off,
+            sent_on: self.sent_on,
         }
+    }
+
+    /// The same, for the word of a call that joins. The number stays that under which the page was asked for.
+    pub fn with_word(&self, word: Word) -> Waiting
+        ensures { result ≡ record self.now { word = word } }
+    {
+        let mut waiting = self.copied();
+        waiting.word = word;
+        waiting
     }
 }

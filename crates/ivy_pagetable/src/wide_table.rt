@@ -1,13 +1,15 @@
 //! The page table of a node that has many pages and uses few.
-ghost use Rattle.std.specs.Prelude.{◌≡◌, ◌+◌, ℕ, ◌<◌, ◌≤◌, true, [], All, length, map, replicate, if◌then◌else◌, ◌↔◌, IsTrue, IsFalse, IfOk, OnOk, OnErr, IsOkUnless};
+ghost use Rattle.std.specs.Prelude.{◌≡◌, ◌+◌, ◌<◌, ◌≤◌, true, [], All, length, map, replicate, if◌then◌else◌, IsTrue, IsFalse, IfSome, IfNone, IfOk, OnOk, OnErr, IsOkUnless};
 ghost use Rattle.ivy_model.specs.stated.Config.{IsConfig};
 ghost use Rattle.ivy_model.specs.stated.Serves.{overwrite};
 ghost use Rattle.ivy_pagetable.specs.stated.Entries.{can_put_off, with_put_off, is_locked};
 ghost use Rattle.ivy_pagetable.specs.Lent.{lent_entry};
+ghost use Rattle.ivy_pagetable.specs.LockedEntries.{locked_beside, most_locked};
 ghost use Rattle.ivy_pagetable.specs.stated.Tables.{first_entry, entry_at, page_at, IsBlank, with_entry, with_page, first_table};
-ghost use Rattle.ivy_pagetable.specs.WideTables.{WaitsAt, can_put_off_at, put_off_at};
+ghost use Rattle.ivy_pagetable.specs.WideTables.{StandsAt, StandsNowhere};
 ghost use Rattle.ivy_pagetable.specs.stated.Words.{IsWord, carried_out, needs_write, width_of, offset_of, number_at};
 
+use crate::access::Access;
 use crate::entry::Entry;
 use crate::idle::Idle;
 use crate::lent::LentEntry;
@@ -15,26 +17,45 @@ use crate::node_table::first_idle;
 use crate::page::Page;
 use crate::put_off::PutOff;
 use crate::word::{Out, Word};
+use arrayvec::ArrayVec;
 use ivy_model::{Config, Fault};
 use std::alloc::{AllocError, Allocator};
 use std::marker::Model;
 use std::mem::swap;
 
-/// The entry at which a word waits.
+/// Locked entries, at most this many.
+const MOST_LOCKED: usize = 8;
+
+/// A locked entry, and its page.
 #[derive(Drop)]
 struct Locked {
     page: u32,
     entry: Entry,
 }
 
+impl Default for Locked {
+    ghost use Rattle.std.specs.Prelude.{◌≡◌};
+    ghost use Rattle.ivy_pagetable.specs.stated.Entries.{nothing};
+
+    ghost is_default = { λ locked. locked ≡ record { page = 0; entry = nothing } };
+
+    /// An idle entry of page 0, which only fills places that hold no locked one.
+    fn default() -> Locked {
+        Locked {
+            page: 0,
+            entry: Entry::Idle(Idle::plain(Access::Nil)),
+        }
+    }
+}
+
 /// A page table whose idle entries are small, and whose pages are made when they are first written. A
-/// page that was never written is zeros, which all such pages share. A word waits at one entry at most.
+/// page that was never written is zeros, which all such pages share. At most 8 entries are locked.
 #[derive(Drop)]
 pub struct WideTable<A: Allocator> {
     page_size: u32,
-    /// The entry of each page, but of the one at which a word waits.
+    /// The entry of each page, but of those that are locked, which have no access here.
     idle: Vec<Idle, A>,
-    locked: Option<Locked>,
+    locked: ArrayVec<Locked, MOST_LOCKED>,
     /// The bytes of each page that was written; the others have none.
     pages: Vec<Page<A>, A>,
     zeros: Page<A>,
@@ -52,9 +73,9 @@ impl<A: Allocator> Model for WideTable<A> {
 
     ghost coded = { Prim.hlevel (codes, nodes_code) };
 
-    ghost view = { λ t. record { page_size = t.page_size; entries = entries_in t.idle.items t.locked; pages = map (shown_page t.page_size) t.pages.items } };
+    ghost view = { λ t. record { page_size = t.page_size; entries = entries_in t.idle.items t.locked.items; pages = map (shown_page t.page_size) t.pages.items } };
 
-    ghost invariant = { λ t. IsWideTable t.page_size t.idle.items t.locked t.pages.items t.zeros };
+    ghost invariant = { λ t. IsWideTable t.page_size t.idle.items t.locked.items t.pages.items t.zeros };
 }
 
 fn first_idles<A: Allocator>(alloc: A, pages: u32, me: u8) -> Result<Vec<Idle, A>, AllocError>
@@ -77,31 +98,12 @@ fn no_pages<A: Allocator + Copy>(alloc: A, pages: u32) -> Result<Vec<Page<A>, A>
     Ok(all)
 }
 
-/// Whether a word waits for the page.
-fn waits_at(locked: &Option<Locked>, page: u32) -> bool
-    ensures { IsTrue result ↔ WaitsAt locked.now page }
+/// Which of these is the entry of the page, if one is.
+fn place_of(locked: &[Locked], page: u32) -> Option<usize>
+    ensures found { IfSome result (StandsAt page locked.now) }
+    ensures missing { IfNone result (StandsNowhere page locked.now) }
 {
-    match locked {
-        Some(locked) => locked.page == page,
-        None => false,
-    }
-}
-
-/// Puts a message off at a locked entry, where that is the one of the page and there is room, and says
-/// whether it did.
-fn put_off_at(locked: Locked, page: u32, message: PutOff) -> (Locked, bool)
-    ensures done { result.1 ≡ can_put_off_at locked page }
-    ensures kept { result.0 ≡ put_off_at locked page message }
-{
-    let Locked {
-        page: at,
-        mut entry,
-    } = locked;
-    if at != page {
-        return (Locked { page: at, entry }, false);
-    }
-    let done = entry.put_off(message);
-    (Locked { page: at, entry }, done)
+    locked.iter().position(|locked| locked.page == page)
 }
 
 impl<A: Allocator + Copy> WideTable<A> {
@@ -118,7 +120,7 @@ impl<A: Allocator + Copy> WideTable<A> {
         Ok(WideTable {
             page_size: config.page_size,
             idle,
-            locked: None,
+            locked: ArrayVec::new(),
             pages,
             zeros,
         })
@@ -131,9 +133,13 @@ impl<A: Allocator> WideTable<A> {
         requires { page < length self.now.entries }
         ensures { lent_entry result ≡ entry_at self.now page }
     {
-        match &self.locked {
-            Some(locked) if locked.page == page => locked.entry.lent(),
-            _ => LentEntry::Idle(&self.idle[page as usize]),
+        let idle = &self.idle[page as usize];
+        if idle.access().reads() {
+            return LentEntry::Idle(idle);
+        }
+        match place_of(&self.locked, page) {
+            Some(place) => self.locked[place].entry.lent(),
+            None => LentEntry::Idle(idle),
         }
     }
 
@@ -151,20 +157,19 @@ impl<A: Allocator> WideTable<A> {
         }
     }
 
-    /// Replaces the entry of the page. A word waits at no other one, if at this.
+    /// Replaces the entry of the page. Fewer than 8 others are locked, where this is.
     pub fn set_entry(&mut self, page: u32, entry: Entry)
         requires page { page < length self.old.entries }
-        requires alone { is_locked entry ≡ true → (p : ℕ) → is_locked (entry_at self.old p) ≡ true → p ≡ page }
+        requires room { is_locked entry ≡ true → locked_beside self.old page < most_locked }
         ensures { self.new ≡ with_entry self.old page entry }
     {
+        self.locked.retain(|locked| locked.page != page);
         match entry {
-            Entry::Idle(idle) => {
-                self.idle[page as usize] = idle;
-                if waits_at(&self.locked, page) {
-                    self.locked = None;
-                }
+            Entry::Idle(idle) => self.idle[page as usize] = idle,
+            entry => {
+                self.idle[page as usize] = Idle::plain(Access::Nil);
+                self.locked.push(Locked { page, entry });
             }
-            entry => self.locked = Some(Locked { page, entry }),
         }
     }
 
@@ -175,12 +180,10 @@ impl<A: Allocator> WideTable<A> {
         ensures done { result ≡ can_put_off (entry_at self.old page) }
         ensures kept { self.new ≡ if can_put_off (entry_at self.old page) then with_entry self.old page (with_put_off (entry_at self.old page) message) else self.old }
     {
-        let Some(locked) = self.locked.take() else {
+        let Some(place) = place_of(&self.locked, page) else {
             return false;
         };
-        let (locked, done) = put_off_at(locked, page, message);
-        self.locked = Some(locked);
-        done
+        self.locked[place].entry.put_off(message)
     }
 
     /// The page has these bytes from now on, as many as a page has. What the spare page has then, nobody

@@ -1,8 +1,8 @@
-ghost use Rattle.std.specs.Prelude.{◌≡◌, ◌+◌, ◌^◌, ◌<◌, ◌≤◌, false, length, All, if◌then◌else◌, ◌==◌};
+ghost use Rattle.std.specs.Prelude.{◌≡◌, ◌+◌, ◌^◌, ◌<◌, ◌≤◌, ℕ, List, false, length, All, if◌then◌else◌, ◌==◌};
 ghost use Rattle.byteorder.specs.Endian.{big_bytes};
 ghost use Rattle.ivy_model.specs.stated.Legal.{IsWidth};
 ghost use Rattle.ivy_model.specs.stated.Serves.{overwrite};
-ghost use Rattle.ivy_pagetable.specs.stated.Words.{IsWord, needs_write, width_of, offset_of, word_with, number_at, access_outcome, advanced, awaited, outcome_of, carried_out};
+ghost use Rattle.ivy_pagetable.specs.stated.Words.{IsWord, needs_write, width_of, offset_of, word_with, number_at, access_outcome, advanced, awaited, outcome_of, carried_out, fetch_word};
 
 use byteorder::{BigEndian, ByteOrder};
 use ivy_model::{Act, Reply};
@@ -106,6 +106,27 @@ impl Word {
                 offset,
                 value,
             },
+        }
+    }
+
+    /// The word of a fetch, which asks for a page to read or to write: one of its kind that changes nothing.
+    pub fn of_fetch(write: bool) -> Word
+        ensures word { result ≡ fetch_word write }
+        ensures lies { (size : ℕ) → 1 ≤ size → IsWord size result }
+        ensures writes { needs_write result ≡ write }
+        ensures unchanged { (bytes : List ℕ) → 1 ≤ length bytes → All (λ b. b < 256) bytes → (carried_out result bytes).bytes ≡ bytes }
+    {
+        if write {
+            Word::FetchAdd {
+                width: 1,
+                offset: 0,
+                value: 0,
+            }
+        } else {
+            Word::Load {
+                width: 1,
+                offset: 0,
+            }
         }
     }
 

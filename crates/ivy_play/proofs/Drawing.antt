@@ -28,7 +28,13 @@ drop_past moves i (Some move) none h = absurd (none move refl)
 
 -- no move was made since
 stayed : (moves : List Move) (r : Run) → HasGoneOn (record { moves = moves; run = r }) moves r
-stayed moves r = record { steps = []; made = append-nil moves; plays = refl; config = refl }
+stayed moves r = record {
+  steps = [];
+  made = append-nil moves;
+  plays = refl;
+  config = refl;
+  opened = refl;
+}
 
 module _ (c : Config) (old new : List Move) (before after : Run) (on : LeadsOn old before new after) where
   -- what was given at a moment was so also where the world has gone on

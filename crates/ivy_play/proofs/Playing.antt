@@ -9,6 +9,7 @@ use Rattle.ivy_model.specs.Rows.{calls_of, numbers_in, row}
 use Rattle.ivy_moves.specs.declared.Move.{Move}
 use Rattle.ivy_moves.specs.declared.Move.TheVariants.{Turn}
 use Rattle.ivy_moves.specs.stated.Worlds.{Moves}
+use Rattle.ivy_host.specs.declared.opening.Opening.{Opening}
 use Rattle.ivy_host.specs.stated.Hosts.{host_rules}
 use Rattle.ivy_host.specs.stated.Managers.{managed_ops}
 use Rattle.proof_worlds.specs.stated.RunState.{Run}
@@ -18,7 +19,7 @@ use Rattle.ivy_world.specs.HandedWorlds.{BeginsBlock, BeginsTogether, run_handed
 use Rattle.ivy_world.specs.stated.Runs.{IsSameRun}
 use Rattle.ivy_world.specs.Settling.{HasSettled}
 use Rattle.ivy_play.specs.declared.handed.Handed.{Handed}
-use Rattle.ivy_play.specs.Played.{Step, Calls, Makes, moves_in, with_world, PlaysTo, own_opening, Moment, HasGoneOn, LeadsOn, IsPlayed, IsStillWhere}
+use Rattle.ivy_play.specs.Played.{Step, Calls, Makes, moves_in, with_world, PlaysTo, own_opening, Moment, first_moment, HasGoneOn, LeadsOn, IsPlayed, IsStillWhere}
 
 -- what is done after other steps
 pub plays_on : (r mid end : Run) (first more : List Step) → PlaysTo r first mid
@@ -32,7 +33,12 @@ plays_on r mid end (Makes m ∷ steps) more plays on =
 -- a world that a move led to, as one that goes on
 pub went_on : (old new : Run) → IsSameRun old new → new ≡ with_world old new.world
 went_on old new same =
-    λ k. record { config = same.0 k; programs = same.1 k; world = new.world }
+    λ k. record {
+      config = same.0 k;
+      opened = same.2 k;
+      programs = same.1 k;
+      world = new.world;
+    }
 
 moves_more : (steps : List Step) (s : Step)
     → moves_in (steps ++ s ∷ []) ≡ moves_in steps ++ moves_in (s ∷ [])
@@ -41,14 +47,21 @@ moves_more (Calls i calls ∷ steps) s = moves_more steps s
 moves_more (Makes m ∷ steps) s = ap (λ l. m ∷ l) (moves_more steps s)
 
 -- the opening
-pub played_opening : (c : Config) (moves : List Move) (r : Run) → moves ≡ [] → r ≡ own_opening c
-    → IsPlayed c moves r
-played_opening c moves r none is = record {
+pub played_opening : (opened : Opening) (c : Config) (moves : List Move) (r : Run) → moves ≡ []
+    → r ≡ own_opening opened c → HasGoneOn (first_moment opened c) moves r
+played_opening opened c moves r none is = record {
   steps = [];
   made = sym none;
   plays = is;
   config = ap (λ (x : Run). x.config) is;
+  opened = ap (λ (x : Run). x.opened) is;
 }
+
+-- what has gone on from an opening was played, as its nodes began
+pub is_played : (opened : Opening) (c : Config) (moves : List Move) (r : Run)
+    → HasGoneOn (first_moment opened c) moves r → IsPlayed c moves r
+is_played opened c moves r on =
+    subst (λ o. HasGoneOn (first_moment o c) moves r) (sym on.opened) on
 
 made_more : (before : List Move) (steps : List Step) (s : Step) (moves : List Move)
     → before ++ moves_in steps ≡ moves
@@ -69,6 +82,7 @@ played_move moves more m old new is same made past p =
       plays = plays_on past.run old new p.steps (Makes m ∷ []) p.plays
           (new.world, made, went_on old new same);
       config = same.0 ∙ p.config;
+      opened = same.2 ∙ p.opened;
     }
 
 -- calls that are made together
@@ -79,6 +93,7 @@ played_calls moves i calls old new is past p = record {
   made = made_more past.moves p.steps (Calls i calls) moves p.made ∙ append-nil moves;
   plays = plays_on past.run old new p.steps (Calls i calls ∷ []) p.plays is;
   config = ap (λ (x : Run). x.config) is ∙ p.config;
+  opened = ap (λ (x : Run). x.opened) is ∙ p.opened;
 }
 
 -- nothing was done

@@ -8,14 +8,15 @@ use Rattle.ivy_model.specs.declared.Reply.{Reply}
 use Rattle.ivy_moves.specs.declared.Move.{Move}
 use Rattle.ivy_moves.specs.declared.Move.TheVariants.{Turn}
 use Rattle.ivy_moves.specs.stated.Worlds.{World, Moves}
+use Rattle.ivy_host.specs.declared.opening.Opening.{Opening}
 use Rattle.ivy_host.specs.stated.Hosts.{Host, host_rules}
 use Rattle.ivy_host.specs.stated.Managers.{Managed, managed_ops}
-use Rattle.ivy_host.specs.stated.Openings.{opening}
 use Rattle.proof_worlds.specs.stated.RunState.{Run}
 use Rattle.ivy_world.specs.declared.rest.Rest.{Rest}
 use Rattle.ivy_world.specs.declared.rest.Rest.TheVariants.{Still}
 use Rattle.ivy_world.specs.HandedWorlds.{own_code, run_handed}
 use Rattle.ivy_world.specs.Settling.{HasSettled}
+use Rattle.ivy_world.specs.stated.Runs.{opened_run}
 
 -- the configuration of no play
 abbrev pub no_config : Config
@@ -46,7 +47,8 @@ AreOf node (Makes move ∷ steps) = (move ≡ Turn node) × AreOf node steps
 
 -- the world goes on
 abbrev pub with_world : Run → World (Host Managed) → Run
-with_world r w = record { config = r.config; programs = r.programs; world = w }
+with_world r w =
+    record { config = r.config; opened = r.opened; programs = r.programs; world = w }
 
 -- the steps, one after another, lead from the one world to the other: calls are handed to their node
 -- in one row, and a move leads to a world
@@ -64,13 +66,9 @@ pub record MakesCalls (node : ℕ) (calls : List Call) (old new : Run) : Type 0 
   pub made : calls_in steps ≡ calls
   pub plays : PlaysTo old steps new
 
--- own code at each node, before any call
-abbrev pub own_opening : Config → Run
-own_opening c = record {
-  config = c;
-  programs = own_code c.nodes;
-  world = opening managed_ops c (own_code c.nodes);
-}
+-- own code at each node, which began so, before any call
+abbrev pub own_opening : Opening → Config → Run
+own_opening opened c = opened_run opened c (own_code c.nodes)
 
 -- a moment of a play: the moves that were made, and the world
 pub record Moment : Type 0 where
@@ -78,8 +76,8 @@ pub record Moment : Type 0 where
   pub run : Run
 
 -- before any move and any call
-abbrev pub first_moment : Config → Moment
-first_moment c = record { moves = []; run = own_opening c }
+abbrev pub first_moment : Opening → Config → Moment
+first_moment opened c = record { moves = []; run = own_opening opened c }
 
 -- from that moment on exactly the moves behind its own, with calls between them, lead to this world
 pub record HasGoneOn (past : Moment) (moves : List Move) (r : Run) : Type 0 where
@@ -87,14 +85,16 @@ pub record HasGoneOn (past : Moment) (moves : List Move) (r : Run) : Type 0 wher
   pub made : past.moves ++ moves_in steps ≡ moves
   pub plays : PlaysTo past.run steps r
   pub config : r.config ≡ past.run.config
+  pub opened : r.opened ≡ past.run.opened
 
 -- what led to the one world leads on to the other
 abbrev pub LeadsOn : List Move → Run → List Move → Run → Type 0
 LeadsOn old before new after = (past : Moment) → HasGoneOn past old before → HasGoneOn past new after
 
--- exactly these moves, with calls between them, lead from the opening to this world
+-- exactly these moves, with calls between them, lead from the opening, as its nodes began, to this
+-- world
 abbrev pub IsPlayed : Config → List Move → Run → Type 0
-IsPlayed c moves r = HasGoneOn (first_moment c) moves r
+IsPlayed c moves r = HasGoneOn (first_moment r.opened c) moves r
 
 -- So many of the moves are drawn ones, or listed ones, or go with such a one: the others let the world
 -- settle. These are at most so many, and the turns of one row besides: that lies in one page, so it

@@ -1,8 +1,9 @@
 -- Plays whose moves the generator of a seed draws.
-use Rattle.std.specs.Prelude.{ℕ, List}
+use Rattle.std.specs.Prelude.{◌≡◌, ℕ, List}
 use Rattle.ivy_model.specs.declared.Config.{Config}
 use Rattle.ivy_calls.specs.declared.answer.Answer.{Answer}
 use Rattle.ivy_moves.specs.declared.Move.{Move}
+use Rattle.ivy_host.specs.declared.opening.Opening.{Opening}
 use Rattle.proof_worlds.specs.stated.RunState.{Run}
 use Rattle.ivy_world.specs.declared.rest.Rest.{Rest}
 use Rattle.ivy_play.specs.declared.report.Outcome.{Outcome}
@@ -11,13 +12,15 @@ use Rattle.ivy_play.specs.Given.{AreDrawn, seed_moves}
 use Rattle.ivy_play.specs.Reports.{IsPlayReport}
 use Rattle.ivy_play.specs.Endings.{ComesToRest}
 
--- There is a play by so many moves, which the generator of this seed draws, and then by so many at most to
--- let the world settle, whose outcomes fail.
-pub record FailsBySeed {Out : Type 0} (c : Config) (done : ℕ → List Answer → Out → Type 0)
-    (seed draws settle : ℕ) (Fails : List (Outcome Out) → Type 0) : Type 0 where
+-- There is a play of nodes that began so, by so many moves, which the generator of this seed
+-- draws, and then by so many at most to let the world settle, whose outcomes fail.
+pub record FailsBySeed {Out : Type 0} (c : Config) (opened : Opening)
+    (done : ℕ → List Answer → Out → Type 0) (seed draws settle : ℕ)
+    (Fails : List (Outcome Out) → Type 0) : Type 0 where
   pub moves : List Move
   pub drawn : ℕ
   pub run : Run
+  pub began : run.opened ≡ opened
   pub outcomes : List (Outcome Out)
   pub rest : Rest
   pub report : IsPlayReport c done moves run outcomes rest

@@ -30,9 +30,9 @@ mod workers;
 
 pub use checks::Check;
 pub use ivy_calls::{Answer, SharedMemory, Work};
-pub use ivy_world::{Move, Rest, World};
-pub use play::{play_drawn, play_listed, play_with};
+pub use ivy_world::{Move, Opening, Rest, World};
+pub use play::{play_drawn, play_drawn_opening, play_listed, play_with, play_with_opening};
 pub use report::{Outcome, PlayReport, Schedule, Standing};
-pub use seed_plays::{Failing, Seeds, play_all};
+pub use seed_plays::{Failing, Seeds, play_all, play_all_opening};
 pub use shorter::{ShorterPlay, shortest};
 pub use source::{Drawn, Listed, MoveSource};

@@ -19,7 +19,7 @@ use crate::stage::{Played, Setting, Stage};
 use crate::workers::run_all;
 use ivy_calls::Work;
 use ivy_model::{Config, Fault};
-use ivy_world::{Move, World};
+use ivy_world::{Move, Opening, World};
 use std::alloc::Allocator;
 use std::marker::Brand;
 use std::sync::{Mutex, Wait};
@@ -40,6 +40,7 @@ fn close<S: Setting, A: Allocator + Copy, M: MoveSource + Drop, W: Work>(
     ensures rests { IfOk result (λ report. ComesToRest S.config settle report.moves.items report.drawn report.world.world report.outcomes.items report.rest) }
     ensures drawn { IfOk result (λ report. HasDrawn S.config settle report.moves.items report.drawn) }
     ensures given { IfOk result (λ report. AreDrawn S.config S.gives report.moves.items report.drawn report.world) }
+    ensures opened { IfOk result (λ report. report.world.opened ≡ S.opened) }
     ensures stand { IfOk result (λ report. (i : ℕ) (outcome : _) → slice_get report.outcomes.items i ≡ Some outcome → (r : _) → slice_get all.items i ≡ Some r → MatchResult r (λ ended. HasEnded report.world.world i ended.answers.items ended.is_cut ended.out outcome) (λ up. HasGivenUp report.world.world i up outcome)) }
     ensures stop { IfErr result IsPlayStop }
 {
@@ -65,18 +66,19 @@ fn close<S: Setting, A: Allocator + Copy, M: MoveSource + Drop, W: Work>(
     })
 }
 
-/// A configuration, and the opening world of own code at it.
+/// A configuration, how nodes begin, and the opening world of own code at it.
 #[derive(Drop)]
-struct Opening<A: Allocator> {
+struct Beginning<A: Allocator> {
     config: Config,
+    opening: Opening,
     world: World<A>,
 }
 
-/// Plays the work of each node, from this opening on [1, 17, 19].
+/// Plays the work of each node, from this beginning on [1, 17, 19].
 fn play<S, A, R, M, W>(
     rt: &R,
     alloc: A,
-    opening: Opening<A>,
+    beginning: Beginning<A>,
     work: &W,
     source: M,
     settle: u64,
@@ -87,17 +89,23 @@ where
     R: Threads + Wait + Sync,
     M: MoveSource + Drop + Send,
     W: Work + Sync,
-    requires config { opening.config ≡ S.config }
-    requires opens { opening.world ≡ own_opening S.config }
+    requires config { beginning.config ≡ S.config }
+    requires opened { beginning.opening ≡ S.opened }
+    requires opens { beginning.world ≡ own_opening S.opened S.config }
     requires settle { settle ≡ S.settle }
     requires gives { M.gives source ≡ S.gives }
     ensures report { IfOk result (λ report. IsPlayReport S.config (W.done work.now) report.moves.items report.world report.outcomes.items report.rest) }
     ensures rests { IfOk result (λ report. ComesToRest S.config settle report.moves.items report.drawn report.world.world report.outcomes.items report.rest) }
     ensures drawn { IfOk result (λ report. HasDrawn S.config settle report.moves.items report.drawn) }
     ensures given { IfOk result (λ report. AreDrawn S.config S.gives report.moves.items report.drawn report.world) }
+    ensures opened { IfOk result (λ report. report.world.opened ≡ S.opened) }
     ensures stop { IfErr result IsPlayStop }
 {
-    let Opening { config, world } = opening;
+    let Beginning {
+        config,
+        opening: _,
+        world,
+    } = beginning;
     // for the proof: what holds of a world at every moment
     world.keeps();
     let stage = Mutex::new(Stage::<S, A, M>::new(alloc, config, world, source, settle));
@@ -142,12 +150,43 @@ where
     ensures rests { IfOk result (λ report. ComesToRest config settle report.moves.items report.drawn report.world.world report.outcomes.items report.rest) }
     ensures drawn { IfOk result (λ report. HasDrawn config settle report.moves.items report.drawn) }
     ensures given { IfOk result (λ report. AreDrawn config (M.gives source) report.moves.items report.drawn report.world) }
+    ensures opened { IfOk result (λ report. report.world.opened ≡ Opening.Configured) }
     ensures bad { IsErrOf result Fault.BadConfig ↔ ¬ IsConfig config }
     ensures fault { IfErr result IsPlayFault }
 {
-    let world = World::open(alloc, config)?;
-    let opening = Opening { config, world };
-    play::<Brand, A, R, M, W>(rt, alloc, opening, work, source, settle)
+    play_with_opening(rt, alloc, config, work, source, settle, Opening::Configured)
+}
+
+/// The same, of nodes that begin so: by the manager that the configuration names, or by steady hints [1, 2, 17, 19].
+pub fn play_with_opening<A, R, M, W>(
+    rt: &R,
+    alloc: A,
+    config: Config,
+    work: &W,
+    source: M,
+    settle: u64,
+    opening: Opening,
+) -> Result<PlayReport<W::Out, A>, Fault>
+where
+    A: Allocator + Copy + Send + Sync,
+    R: Threads + Wait + Sync,
+    M: MoveSource + Drop + Send,
+    W: Work + Sync,
+    ensures report { IfOk result (λ report. IsPlayReport config (W.done work.now) report.moves.items report.world report.outcomes.items report.rest) }
+    ensures rests { IfOk result (λ report. ComesToRest config settle report.moves.items report.drawn report.world.world report.outcomes.items report.rest) }
+    ensures drawn { IfOk result (λ report. HasDrawn config settle report.moves.items report.drawn) }
+    ensures given { IfOk result (λ report. AreDrawn config (M.gives source) report.moves.items report.drawn report.world) }
+    ensures opened { IfOk result (λ report. report.world.opened ≡ opening) }
+    ensures bad { IsErrOf result Fault.BadConfig ↔ ¬ IsConfig config }
+    ensures fault { IfErr result IsPlayFault }
+{
+    let world = World::open_by(alloc, config, opening)?;
+    let beginning = Beginning {
+        config,
+        opening,
+        world,
+    };
+    play::<Brand, A, R, M, W>(rt, alloc, beginning, work, source, settle)
 }
 
 /// The same, by so many moves that the generator of a seed draws [1, 2, 17].
@@ -168,11 +207,49 @@ where
     ensures rests { IfOk result (λ report. ComesToRest config settle report.moves.items report.drawn report.world.world report.outcomes.items report.rest) }
     ensures drawn { IfOk result (λ report. HasDrawn config settle report.moves.items report.drawn) }
     ensures given { IfOk result (λ report. AreDrawn config (seed_moves seed moves) report.moves.items report.drawn report.world) }
+    ensures opened { IfOk result (λ report. report.world.opened ≡ Opening.Configured) }
     ensures many { IfOk result (λ report. moves ≤ report.drawn) }
     ensures bad { IsErrOf result Fault.BadConfig ↔ ¬ IsConfig config }
     ensures fault { IfErr result IsPlayFault }
 {
-    play_with(rt, alloc, config, work, Drawn::new(seed, moves), settle)
+    play_drawn_opening(
+        rt,
+        alloc,
+        config,
+        work,
+        seed,
+        moves,
+        settle,
+        Opening::Configured,
+    )
+}
+
+/// The same, of nodes that begin so: by the manager that the configuration names, or by steady hints [1, 2, 17].
+pub fn play_drawn_opening<A, R, W>(
+    rt: &R,
+    alloc: A,
+    config: Config,
+    work: &W,
+    seed: u64,
+    moves: u64,
+    settle: u64,
+    opening: Opening,
+) -> Result<PlayReport<W::Out, A>, Fault>
+where
+    A: Allocator + Copy + Send + Sync,
+    R: Threads + Wait + Sync,
+    W: Work + Sync,
+    ensures report { IfOk result (λ report. IsPlayReport config (W.done work.now) report.moves.items report.world report.outcomes.items report.rest) }
+    ensures rests { IfOk result (λ report. ComesToRest config settle report.moves.items report.drawn report.world.world report.outcomes.items report.rest) }
+    ensures drawn { IfOk result (λ report. HasDrawn config settle report.moves.items report.drawn) }
+    ensures given { IfOk result (λ report. AreDrawn config (seed_moves seed moves) report.moves.items report.drawn report.world) }
+    ensures opened { IfOk result (λ report. report.world.opened ≡ opening) }
+    ensures many { IfOk result (λ report. moves ≤ report.drawn) }
+    ensures bad { IsErrOf result Fault.BadConfig ↔ ¬ IsConfig config }
+    ensures fault { IfErr result IsPlayFault }
+{
+    let source = Drawn::new(seed, moves);
+    play_with_opening(rt, alloc, config, work, source, settle, opening)
 }
 
 /// The same, by the moves of a schedule [1, 2, 17, 19].
@@ -192,6 +269,7 @@ where
     ensures rests { IfOk result (λ report. ComesToRest config settle report.moves.items report.drawn report.world.world report.outcomes.items report.rest) }
     ensures drawn { IfOk result (λ report. HasDrawn config settle report.moves.items report.drawn) }
     ensures given { IfOk result (λ report. AreAmong moves.now (take report.drawn report.moves.items)) }
+    ensures opened { IfOk result (λ report. report.world.opened ≡ Opening.Configured) }
     ensures bad { IsErrOf result Fault.BadConfig ↔ ¬ IsConfig config }
     ensures fault { IfErr result IsPlayFault }
 {

@@ -1,5 +1,5 @@
 //! Schedules without the moves that are not needed for a play to fail.
-ghost use Rattle.std.specs.Prelude.{IfErr, IfOk, IfSome};
+ghost use Rattle.std.specs.Prelude.{◌≡◌, IfErr, IfOk, IfSome};
 ghost use Rattle.ivy_play.specs.Faults.{IsPlayFault, IsPlayStop};
 ghost use Rattle.ivy_play.specs.Endings.{ComesToRest};
 ghost use Rattle.ivy_play.specs.Played.{HasDrawn};
@@ -7,9 +7,10 @@ ghost use Rattle.ivy_play.specs.Reports.{IsPlayReport};
 
 use crate::checks::Check;
 use crate::named_moves::{Renamed, names_of, turns_at, without};
-use crate::{PlayReport, Work, play_with};
+use crate::{PlayReport, Work, play_with_opening};
 use ivy_model::{Config, Fault};
 use ivy_replay::Named;
+use ivy_world::Opening;
 use std::alloc::Allocator;
 use std::marker::PhantomData;
 use std::sync::Wait;
@@ -35,6 +36,7 @@ struct Trial<'r, 'w, 'h, T, A, R, W, F> {
     rt: &'r R,
     alloc: A,
     config: Config,
+    opening: Opening,
     work: &'w W,
     settle: u64,
     check: &'h F,
@@ -64,16 +66,18 @@ where
         ensures report { IfOk result (λ report. IsPlayReport self.now.config (W.done self.now.work.now) report.moves.items report.world report.outcomes.items report.rest) }
         ensures rests { IfOk result (λ report. ComesToRest self.now.config self.now.settle report.moves.items report.drawn report.world.world report.outcomes.items report.rest) }
         ensures drawn { IfOk result (λ report. HasDrawn self.now.config self.now.settle report.moves.items report.drawn) }
+        ensures opened { IfOk result (λ report. report.world.opened ≡ self.now.opening) }
         ensures fault { IfErr result IsPlayFault }
     {
         let source = Renamed::new(self.alloc, self.config, named);
-        play_with(
+        play_with_opening(
             self.rt,
             self.alloc,
             self.config,
             self.work,
             source,
             self.settle,
+            self.opening,
         )
     }
 
@@ -82,6 +86,7 @@ where
         ensures report { IfOk result (λ found. IfSome found (λ report. IsPlayReport self.now.config (W.done self.now.work.now) report.moves.items report.world report.outcomes.items report.rest)) }
         ensures rests { IfOk result (λ found. IfSome found (λ report. ComesToRest self.now.config self.now.settle report.moves.items report.drawn report.world.world report.outcomes.items report.rest)) }
         ensures drawn { IfOk result (λ found. IfSome found (λ report. HasDrawn self.now.config self.now.settle report.moves.items report.drawn)) }
+        ensures opened { IfOk result (λ found. IfSome found (λ report. report.world.opened ≡ self.now.opening)) }
         ensures fails { IfOk result (λ found. IfSome found (λ report. F.fails self.now.check.now report.outcomes.items)) }
         ensures stop { IfErr result IsPlayStop }
     {
@@ -183,10 +188,12 @@ where
     fn shorten(&self, first: PlayReport<T, A>) -> Result<ShorterPlay<T, A>, Fault>
         requires report { IsPlayReport self.now.config (W.done self.now.work.now) first.moves.items first.world first.outcomes.items first.rest }
         requires fails { F.fails self.now.check.now first.outcomes.items }
+        requires opened { first.world.opened ≡ self.now.opening }
         ensures report { IfOk result (λ shorter. IsPlayReport self.now.config (W.done self.now.work.now) shorter.report.moves.items shorter.report.world shorter.report.outcomes.items shorter.report.rest) }
         ensures rests { ComesToRest self.now.config self.now.settle first.moves.items first.drawn first.world.world first.outcomes.items first.rest → IfOk result (λ shorter. ComesToRest self.now.config self.now.settle shorter.report.moves.items shorter.report.drawn shorter.report.world.world shorter.report.outcomes.items shorter.report.rest) }
         ensures drawn { HasDrawn self.now.config self.now.settle first.moves.items first.drawn → IfOk result (λ shorter. HasDrawn self.now.config self.now.settle shorter.report.moves.items shorter.report.drawn) }
         ensures fails { IfOk result (λ shorter. F.fails self.now.check.now shorter.report.outcomes.items) }
+        ensures opened { IfOk result (λ shorter. shorter.report.world.opened ≡ self.now.opening) }
         ensures stop { IfErr result IsPlayStop }
     {
         let mut best = Best {
@@ -215,8 +222,8 @@ where
 /// Drops those of the drawn moves of a play that are not needed for it to fail: halves first, then fewer at a time, and at
 /// last one by one, in at most 5,000 plays [1, 19]. Each lets the world settle, with at most so many moves.
 ///
-/// A delivery means the string of its source, destination and number, also where other moves are gone, and is left out
-/// where none was sent.
+/// The nodes begin as those of the play did. A delivery means the string of its source, destination and number, also where
+/// other moves are gone, and is left out where none was sent.
 pub fn shortest<A, R, T, W, F>(
     rt: &R,
     alloc: A,
@@ -238,12 +245,14 @@ where
     ensures rests { ComesToRest config settle report.moves.items report.drawn report.world.world report.outcomes.items report.rest → IfOk result (λ shorter. ComesToRest config settle shorter.report.moves.items shorter.report.drawn shorter.report.world.world shorter.report.outcomes.items shorter.report.rest) }
     ensures drawn { HasDrawn config settle report.moves.items report.drawn → IfOk result (λ shorter. HasDrawn config settle shorter.report.moves.items shorter.report.drawn) }
     ensures fails { IfOk result (λ shorter. F.fails check.now shorter.report.outcomes.items) }
+    ensures opened { IfOk result (λ shorter. shorter.report.world.opened ≡ report.world.opened) }
     ensures stop { IfErr result IsPlayStop }
 {
     let trial = Trial {
         rt,
         alloc,
         config,
+        opening: report.world.opening(),
         work,
         settle,
         check,

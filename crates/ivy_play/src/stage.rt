@@ -12,7 +12,7 @@ ghost use Rattle.ivy_world.specs.stated.Runs.{IsSameRun};
 ghost use Rattle.ivy_world.specs.Settling.{HasSettled};
 ghost use Rattle.ivy_play.specs.Faults.{IsPlayStop, IsUnanswered};
 ghost use Rattle.ivy_play.specs.Given.{AreDrawn, HoldsOn};
-ghost use Rattle.ivy_play.specs.Played.{HasDrawn, IsPlayed, IsAnsweredAt, IsStillWhere, LeadsOn, own_opening};
+ghost use Rattle.ivy_play.specs.Played.{HasDrawn, HasGoneOn, IsAnsweredAt, IsStillWhere, LeadsOn, first_moment, own_opening};
 
 use crate::ahead::Ahead;
 use crate::budget::Budget;
@@ -24,14 +24,17 @@ use ivy_world::{Move, Rest, World};
 use std::alloc::Allocator;
 use std::marker::{Brand, Model, PhantomData};
 
-/// Names the configuration of a play, how many moves may let its world settle, and the moves that its source gives. Whoever
-/// begins one picks them, at `Brand`.
+/// Names the configuration of a play, how its nodes began, how many moves may let its world settle, and the moves that its
+/// source gives. Whoever begins one picks them, at `Brand`.
 pub trait Setting {
     ghost use Rattle.std.specs.Prelude.{ℕ, List};
     ghost use Rattle.ivy_model.specs.declared.Config.{Config};
+    ghost use Rattle.ivy_host.specs.declared.opening.Opening.{Opening};
     ghost use Rattle.ivy_play.specs.Given.{Giving};
 
     ghost config: { Config };
+
+    ghost opened: { Opening };
 
     ghost settle: { ℕ };
 
@@ -40,9 +43,12 @@ pub trait Setting {
 
 impl Setting for Brand {
     ghost use Rattle.std.specs.Prelude.{[]};
+    ghost use Rattle.ivy_host.specs.declared.opening.Opening.TheVariants.{Configured};
     ghost use Rattle.ivy_play.specs.Played.{no_config};
 
     ghost config = { no_config };
+
+    ghost opened = { Configured };
 
     ghost settle = { 0 };
 
@@ -147,19 +153,19 @@ impl<S: Setting, A: Allocator, M: MoveSource> Model for Stage<S, A, M> {
     ghost use Rattle.std.specs.Prelude.{◌≡◌};
     ghost use Rattle.ivy_model.specs.stated.Config.{IsConfig};
     ghost use Rattle.ivy_play.specs.Given.{IsGiven};
-    ghost use Rattle.ivy_play.specs.Played.{HasDrawn, IsPlayed, IsStillWhere};
+    ghost use Rattle.ivy_play.specs.Played.{HasDrawn, HasGoneOn, IsStillWhere, first_moment};
 
     ghost Value = { Unit {0} };
 
     ghost view = { λ _. tt };
 
-    ghost invariant = { λ s. IsPlayed S.config s.moves.items s.world × IsStillWhere s.rest s.world × IsConfig s.config × (s.config ≡ S.config) × (s.budget.most ≡ S.settle) × HasDrawn S.config S.settle s.moves.items s.budget.drawn × IsGiven S.config S.gives s.moves.items s.world s.budget s.ahead s.held (M.gives s.source) };
+    ghost invariant = { λ s. HasGoneOn (first_moment S.opened S.config) s.moves.items s.world × IsStillWhere s.rest s.world × IsConfig s.config × (s.config ≡ S.config) × (s.budget.most ≡ S.settle) × HasDrawn S.config S.settle s.moves.items s.budget.drawn × IsGiven S.config S.gives s.moves.items s.world s.budget s.ahead s.held (M.gives s.source) };
 }
 
 impl<S: Setting, A: Allocator + Copy, M: MoveSource + Drop> Stage<S, A, M> {
     /// The opening world of own code. So many moves may let it settle, once the source has come to its end.
     pub(crate) fn new(alloc: A, config: Config, world: World<A>, source: M, settle: u64) -> Self
-        requires opens { world ≡ own_opening S.config }
+        requires opens { world ≡ own_opening S.opened S.config }
         requires limits { IsConfig config }
         requires config { config ≡ S.config }
         requires gives { M.gives source ≡ S.gives }
@@ -310,7 +316,7 @@ impl<S: Setting, A: Allocator + Copy, M: MoveSource + Drop> Stage<S, A, M> {
 
     /// What was played [1]. A source that has not come to its end has given more moves than memory holds.
     pub(crate) fn into_played(self) -> Result<Played<A>, Fault>
-        ensures played { IfOk result (λ p. IsPlayed S.config p.moves.items p.world × IsStillWhere p.rest p.world × HasDrawn S.config S.settle p.moves.items p.drawn) }
+        ensures played { IfOk result (λ p. HasGoneOn (first_moment S.opened S.config) p.moves.items p.world × IsStillWhere p.rest p.world × HasDrawn S.config S.settle p.moves.items p.drawn) }
         ensures given { IfOk result (λ p. AreDrawn S.config S.gives p.moves.items p.drawn p.world) }
         ensures stop { IfErr result IsPlayStop }
     {

@@ -1,5 +1,5 @@
 -- What a node in a process has in its log, and what it lacks there.
-use Rattle.std.specs.Prelude.{◌≡◌, ◌⊎◌, ◌+◌, ℕ, List, [], ◌∷◌, ◌++◌, Option, drop, flat_map, unwrap_or}
+use Rattle.std.specs.Prelude.{◌≡◌, ◌⊎◌, ◌+◌, ℕ, Bool, true, false, List, [], ◌∷◌, ◌++◌, Option, drop, flat_map, unwrap_or}
 use Rattle.std.specs.Io.KnownBytes.{Appends}
 use Rattle.ivy_model.specs.declared.Config.{Config}
 use Rattle.ivy_wire.specs.Destinations.{dest_of}
@@ -7,6 +7,9 @@ use Rattle.ivy_moves.specs.Events.{Event}
 use Rattle.ivy_moves.specs.declared.event.Event.TheVariants.{Turns, Delivered, Pulsed}
 use Rattle.ivy_moves.specs.Marks.{Delivery, Mark, marks}
 use Rattle.ivy_program.specs.stated.Programs.{Program}
+use Rattle.ivy_host.specs.declared.opening.Opening.{Opening}
+use Rattle.ivy_host.specs.declared.opening.Opening.TheVariants.{Configured, Steady}
+use Rattle.ivy_logs.specs.declared.log.LogHead.{LogHead}
 use Rattle.ivy_logs.specs.Entries.{LogEntry, events_in}
 use Rattle.ivy_program.specs.texts.TextWords.{words_of}
 use Rattle.ivy_logs.specs.Printed.{event_line, frame_line}
@@ -27,6 +30,15 @@ pub record Served : Type 0 where
 
 abbrev pub served : SiteView → List ℕ → ℕ → ℕ → Served
 served site unlogged left told = record { site = site; unlogged = unlogged; left = left; told = told }
+
+-- a node began with steady hints, or with the manager of its configuration
+abbrev pub is_steady : Opening → Bool
+is_steady Configured = false
+is_steady Steady = true
+
+-- what the first line of its log says of a node
+abbrev pub head_of : SiteView → LogHead
+head_of s = record { me = s.me; config = s.config; steady = is_steady s.opened }
 
 -- so many turns an event is, and so many these are
 abbrev pub turns_of : Event → ℕ
@@ -116,11 +128,12 @@ pub record IsMadeAgain (log : List LogEntry) (site : SiteView) (turns : ℕ) (ne
   pub whole : new.unlogged ≡ []
   pub left : new.left ≡ turns
 
--- the node of this number and program is what the events of its log make of it, and the log lacks nothing; the program
--- may make so many turns more
-pub record IsRestarted (c : Config) (me : ℕ) (program : Program) (log : List LogEntry) (turns : ℕ) (new : Served)
-    : Type 0 where
+-- the node of this number and program, which began so, is what the events of its log make of it, and the log lacks
+-- nothing; the program may make so many turns more
+pub record IsRestarted (o : Opening) (c : Config) (me : ℕ) (program : Program) (log : List LogEntry) (turns : ℕ)
+    (new : Served) : Type 0 where
   pub config : new.site.config ≡ c
+  pub opened : new.site.opened ≡ o
   pub number : new.site.me ≡ me
   pub runs : program_in new.site ≡ program
   pub events : new.site.events ≡ marks (events_in log)

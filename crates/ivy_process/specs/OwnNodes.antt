@@ -11,6 +11,7 @@ use Rattle.ivy_logs.specs.declared.log.LogHead.{LogHead}
 use Rattle.ivy_logs.specs.Entries.{LogEntry, answers_in, calls_in, entry_line, events_in, entry_lines}
 use Rattle.ivy_site.specs.Handed.{site_handed}
 use Rattle.ivy_site.specs.Sites.{IsMadeByEvents}
+use Rattle.ivy_join.specs.Joined.{opening_by}
 use Rattle.ivy_join.specs.ReplaySites.{program_in, AddsRecords}
 use Rattle.ivy_join.specs.Remade.{IsAnsweredLast, StandFirst}
 use Rattle.ivy_moves.specs.Marks.{Mark, marks}
@@ -25,6 +26,7 @@ use Rattle.ivy_process.specs.NodeLogs.{Served}
 -- first what it says, and the log lacks no line; the node may make so many turns more
 pub record IsOpened (head : LogHead) (log : List LogEntry) (turns : ℕ) (new : Served) : Type 0 where
   pub config : new.site.config ≡ head.config
+  pub opened : new.site.opened ≡ opening_by head.steady
   pub number : new.site.me ≡ head.me
   pub runs : program_in new.site ≡ Called (one_by_one (calls_in log))
   pub events : new.site.events ≡ marks (events_in log)

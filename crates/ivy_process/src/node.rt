@@ -7,9 +7,10 @@ ghost use Rattle.ivy_program.specs.OwnCode.{IsFree};
 ghost use Rattle.ivy_moves.specs.declared.keep.Keep.TheVariants.{Nothing};
 ghost use Rattle.ivy_logs.specs.Printed.{head_line, head_line_of_run};
 ghost use Rattle.ivy_logs.specs.Entries.{entry_line};
-ghost use Rattle.ivy_site.specs.Sites.{first_keeping, GoesAsFar};
+ghost use Rattle.ivy_host.specs.declared.opening.Opening.TheVariants.{Configured};
+ghost use Rattle.ivy_site.specs.Sites.{first_keeping, first_opened, GoesAsFar};
 ghost use Rattle.ivy_join.specs.Remade.{IsAnsweredLast};
-ghost use Rattle.ivy_process.specs.NodeLogs.{AddsEvents, IsEmptied, IsLogged, IsMadeAgain, IsRestarted, Takes, TakesLine, served, value_lines};
+ghost use Rattle.ivy_process.specs.NodeLogs.{head_of, is_steady, AddsEvents, IsEmptied, IsLogged, IsMadeAgain, IsRestarted, Takes, TakesLine, served, value_lines};
 ghost use Rattle.ivy_process.specs.OwnNodes.{IsOpened, NotesAnswer, NotesCall};
 
 use crate::failure::NodeFailure;
@@ -19,7 +20,7 @@ use crate::sites::{make_turns, push_frames};
 use crate::streams::write_through;
 use crate::watch::{CallWatch, Unwatched};
 use ivy_calls::Answer;
-use ivy_join::replay;
+use ivy_join::{opening_by, replay};
 use ivy_link::MOST_AHEAD;
 use ivy_logs::{
     Log, LogEntry, LogHead, LogKind, SumLine, parse_frame, parse_sum_line, push_entry, push_head,
@@ -28,7 +29,7 @@ use ivy_logs::{
 use ivy_model::{Call, Config, Fault, Reply};
 use ivy_moves::{Event, Keep};
 use ivy_program::Program;
-use ivy_site::{Site, Verdict};
+use ivy_site::{Opening, Site, Verdict};
 use ivy_texts::print_output;
 use ivy_wire::{Bytes, read_frame};
 use std::alloc::Global;
@@ -93,6 +94,16 @@ impl Model for Node {
     ghost view = { λ n. served n.site (string_bytes n.lines) n.left n.printed };
 }
 
+/// Whether a node began with steady hints.
+fn is_steady(opening: Opening) -> bool
+    ensures { result ≡ is_steady opening }
+{
+    match opening {
+        Opening::Configured => false,
+        Opening::Steady => true,
+    }
+}
+
 impl Node {
     /// The node of this number at the beginning of its program.
     pub fn start(
@@ -106,7 +117,23 @@ impl Node {
         requires here { me < config.now.nodes }
         ensures { IfOk result (λ node. node ≡ served (first_keeping Nothing config.now me program) [] limits.turns 0) }
     {
-        let site = Site::keeping(alloc, config, me, program, Keep::Nothing)?;
+        Node::start_opened(alloc, config, me, Opening::Configured, program, limits)
+    }
+
+    /// The same, of a node that begins so: by the manager that the configuration names, or by steady hints.
+    pub fn start_opened(
+        alloc: Global,
+        config: &Config,
+        me: u8,
+        opening: Opening,
+        program: Program<Global>,
+        limits: NodeLimits,
+    ) -> Result<Node, NodeFailure>
+        requires limits { IsConfig config.now }
+        requires here { me < config.now.nodes }
+        ensures { IfOk result (λ node. node ≡ served (first_opened opening Nothing config.now me program) [] limits.turns 0) }
+    {
+        let site = Site::opened(alloc, config, me, opening, program, Keep::Nothing)?;
         Node::at_beginning(alloc, site, limits)
     }
 
@@ -118,8 +145,8 @@ impl Node {
         requires here { log.now.head.me < log.now.head.config.nodes }
         ensures { IfOk result (λ node. IsOpened log.now.head log.now.entries.items limits.turns node) }
     {
-        let LogHead { me, config } = log.head;
-        let site = Site::open_keeping(alloc, &config, me, Keep::Nothing)?;
+        let LogHead { me, config, steady } = log.head;
+        let site = Site::open_by(alloc, &config, me, opening_by(steady), Keep::Nothing)?;
         Node::at_end(alloc, site, limits, log)
     }
 
@@ -160,11 +187,28 @@ impl Node {
     ) -> Result<Node, NodeFailure>
         requires limits { IsConfig config.now }
         requires here { me < config.now.nodes }
-        ensures { IfOk result (λ node. IsRestarted config.now me program log.now.entries.items limits.turns node) }
+        ensures { IfOk result (λ node. IsRestarted Configured config.now me program log.now.entries.items limits.turns node) }
+    {
+        Node::restart_opened(alloc, config, me, Opening::Configured, program, limits, log)
+    }
+
+    /// The same, of a node that began so: by the manager that the configuration names, or by steady hints.
+    pub fn restart_opened(
+        alloc: Global,
+        config: &Config,
+        me: u8,
+        opening: Opening,
+        program: Program<Global>,
+        limits: NodeLimits,
+        log: &Log<Global>,
+    ) -> Result<Node, NodeFailure>
+        requires limits { IsConfig config.now }
+        requires here { me < config.now.nodes }
+        ensures { IfOk result (λ node. IsRestarted opening config.now me program log.now.entries.items limits.turns node) }
     {
         // for the proof: the program is written down, so that a log adds no call to it.
         let _ = program.instructions();
-        let site = Site::keeping(alloc, config, me, program, Keep::Nothing)?;
+        let site = Site::opened(alloc, config, me, opening, program, Keep::Nothing)?;
         Node::at_end(alloc, site, limits, log)
     }
 
@@ -497,17 +541,18 @@ impl Node {
 
     /// What the first line of its log says of it.
     fn head(&self) -> LogHead
-        ensures { result ≡ record { me = self.now.site.me; config = self.now.site.config } }
+        ensures { result ≡ head_of self.now.site }
     {
         LogHead {
             me: self.site.me(),
             config: self.site.config(),
+            steady: is_steady(self.site.opening()),
         }
     }
 
     /// Writes the first line of its log, which is of this kind and names no sum.
     pub fn begin_log<L: Write>(&self, kind: LogKind, log: &mut L) -> Result<(), NodeFailure>
-        ensures { OnOk result (Appends (L.contents log.old) (L.contents log.new) (head_line kind (record { me = self.now.site.me; config = self.now.site.config }))) }
+        ensures { OnOk result (Appends (L.contents log.old) (L.contents log.new) (head_line kind (head_of self.now.site))) }
     {
         let mut text = String::new(self.alloc);
         push_head(&mut text, kind, &self.head())?;
@@ -516,7 +561,7 @@ impl Node {
 
     /// Writes the first line of the log of its program, which names the sum of its run.
     pub fn begin_log_of_run<L: Write>(&self, sum: u64, log: &mut L) -> Result<(), NodeFailure>
-        ensures { OnOk result (Appends (L.contents log.old) (L.contents log.new) (head_line_of_run (record { me = self.now.site.me; config = self.now.site.config }) sum)) }
+        ensures { OnOk result (Appends (L.contents log.old) (L.contents log.new) (head_line_of_run (head_of self.now.site) sum)) }
     {
         let mut text = String::new(self.alloc);
         push_head_of_run(&mut text, &self.head(), sum)?;

@@ -3,8 +3,8 @@ ghost use Rattle.std.specs.Prelude.{◌≡◌, ◌↔◌, ◌+◌, ◌-◌, ◌*
 ghost use Rattle.ivy_model.specs.Rows.{calls_of, numbers_in, row};
 
 use crate::machine::Next;
-use crate::story::Story;
-use ivy_model::{Call, Row};
+use crate::story::{Alone, AtOnce, InRow, OneByOne, Together};
+use ivy_model::{Call, Row, Story};
 use std::marker::Model;
 
 /// The calls that were made so far, of which none is kept but the last of those without a reply.
@@ -12,7 +12,7 @@ use std::marker::Model;
 /// Contracts see the program that they are, and its state.
 #[derive(Drop)]
 pub(crate) struct Caller {
-    told: Story,
+    made: Story<Together>,
     last: Option<Call>,
     left: usize,
 }
@@ -23,9 +23,9 @@ impl Model for Caller {
 
     ghost Value = { Process };
 
-    ghost view = { λ c. awaiting c.told.rows c.left };
+    ghost view = { λ c. awaiting c.made.told c.left };
 
-    ghost invariant = { λ c. IsLastOf c.told.rows c.last c.left };
+    ghost invariant = { λ c. IsLastOf c.made.told c.last c.left };
 }
 
 /// The call of the last of so many words in a row from `addr` on, whose bytes these are; none of no words.
@@ -58,7 +58,7 @@ impl Caller {
         ensures { result ≡ record { program = Called []; state = first_state } }
     {
         Caller {
-            told: Story::new(),
+            made: Story::new(),
             last: None,
             left: 0,
         }
@@ -131,6 +131,7 @@ impl Caller {
     pub(crate) fn output(&self) -> &[u64]
         ensures { result.now ≡ self.now.state.output }
     {
+        // for the proof: the process that it is printed nothing.
         let _ = &self.left;
         &[]
     }
@@ -142,7 +143,7 @@ impl Caller {
         requires width { HasWidth call }
         ensures { self.new ≡ process_handed ((call ∷ []) ∷ []) self.old }
     {
-        self.told.push(&call);
+        self.made.append::<Call, Alone>(&call);
         self.last = Some(call);
         self.left = 1;
     }
@@ -154,7 +155,7 @@ impl Caller {
         requires width { HasWidth call }
         ensures { (reply : Reply) → self.new ≡ answered_with (process_handed ((call ∷ []) ∷ []) self.old) reply }
     {
-        self.told.push(&call);
+        self.made.append::<Call, Alone>(&call);
     }
 
     #[tactic(auto, using(crate::proofs::running::Awaited::none_left, crate::proofs::running::Awaited::none_last, crate::proofs::running::Awaited::handed_rows))]
@@ -165,7 +166,13 @@ impl Caller {
         ensures own { IsCalled self.new.program }
         ensures answered { (rows : List (List Call)) → self.old ≡ asking rows None → self.new ≡ asking (rows ++ one_by_one (calls_of (row kind 0 addr (numbers_in words bytes.now)))) None }
     {
-        self.told.push_row(kind, addr, words, bytes);
+        let row = InRow {
+            kind,
+            addr,
+            words,
+            bytes,
+        };
+        self.made.append::<InRow<'_>, OneByOne>(&row);
     }
 
     #[tactic(auto, using(crate::proofs::running::Awaited::none_left, crate::proofs::running::Awaited::handed_together, crate::proofs::running::Awaited::ends_together, crate::proofs::running::Awaited::row_long, crate::proofs::running::Awaited::row_wide))]
@@ -176,7 +183,13 @@ impl Caller {
         requires small { addr + 8 * words < 2 ^ 64 }
         ensures { self.new ≡ process_handed (calls_of (row kind 0 addr (numbers_in words bytes.now)) ∷ []) self.old }
     {
-        self.told.push_together(kind, addr, words, bytes);
+        let row = InRow {
+            kind,
+            addr,
+            words,
+            bytes,
+        };
+        self.made.append::<InRow<'_>, AtOnce>(&row);
         self.last = last_call(kind, addr, words, bytes);
         self.left = words;
     }

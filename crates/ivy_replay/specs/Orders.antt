@@ -10,9 +10,10 @@ use Rattle.ivy_moves.specs.declared.Move.{Move}
 use Rattle.ivy_moves.specs.stated.Nodes.{Node}
 use Rattle.ivy_moves.specs.stated.Worlds.{World}
 use Rattle.ivy_host.specs.stated.Hosts.{Host, answered_by}
-use Rattle.ivy_host.specs.stated.Managers.{Managed, managed_ops}
+use Rattle.ivy_host.specs.declared.opening.Opening.{Opening}
+use Rattle.ivy_host.specs.stated.Managers.{Managed}
 use Rattle.ivy_memory.specs.stated.Memories.{in_progress}
-use Rattle.ivy_host.specs.stated.Openings.{opening}
+use Rattle.ivy_host.specs.stated.Openings.{managed_start, opening}
 use Rattle.proof_worlds.specs.stated.RunState.{Run}
 use Rattle.proof_worlds.specs.stated.Reached.{IsLedTo}
 
@@ -46,22 +47,23 @@ abbrev pub HavePartsBelow : ℕ → World (Host Managed) → List Record → Typ
 HavePartsBelow count w order = (i : ℕ) → i < count → (n : Answered)
     → slice_get (answers_of w) i ≡ Some n → IsPart (part i order) n
 
--- it is the world in which the programs of a text begin
-pub record BeginsText (c : Config) (text : List ℕ) (r : Run) : Type 0 where
+-- it is the world in which the programs of a text begin so
+pub record BeginsText (c : Config) (o : Opening) (text : List ℕ) (r : Run) : Type 0 where
   pub spelled : SpellsText text r.programs
   pub config : r.config ≡ c
-  pub world : r.world ≡ opening managed_ops c r.programs
+  pub opened : r.opened ≡ o
+  pub world : r.world ≡ opening (managed_start o) c r.programs
 
--- the moves lead from where the programs of a text begin to this world
-pub record IsPlayed (c : Config) (text : List ℕ) (moves : List Move) (end : World (Host Managed))
-    : Type 0 where
+-- the moves lead from where the programs of a text begin so to this world
+pub record IsPlayed (c : Config) (o : Opening) (text : List ℕ) (moves : List Move)
+    (end : World (Host Managed)) : Type 0 where
   pub programs : List Program
   pub spelled : SpellsText text programs
-  pub led : IsLedTo c (opening managed_ops c programs) moves end
+  pub led : IsLedTo c (opening (managed_start o) c programs) moves end
 
 -- they lead to a world, and the order is legal and explains what its nodes were answered
-pub record IsOrderOf (c : Config) (text : List ℕ) (moves : List Move) (order : List Record)
-    : Type 0 where
+pub record IsOrderOf (c : Config) (o : Opening) (text : List ℕ) (moves : List Move)
+    (order : List Record) : Type 0 where
   pub end : World (Host Managed)
-  pub played : IsPlayed c text moves end
+  pub played : IsPlayed c o text moves end
   pub explained : IsExplained c order (answers_of end)

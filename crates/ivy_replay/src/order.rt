@@ -18,7 +18,7 @@ const MORE_MOVES: u64 = 1_000;
 
 /// The world to which the moves lead [1, 2, 17, 19, 20].
 fn played(text: &Text<'_>, moves: &[Move]) -> Result<World<Global>, Fault>
-    ensures { IfOk result (λ world. IsPlayed text.now.config text.now.programs.now moves.now world.world) }
+    ensures { IfOk result (λ world. IsPlayed text.now.config text.now.opening text.now.programs.now moves.now world.world) }
 {
     let mut world = text.world()?;
     match world.run(moves) {
@@ -93,7 +93,7 @@ pub fn order_of<P: Progress>(
     moves: &[Move],
     progress: &mut P,
 ) -> Result<Option<Vec<Record>>, Fault>
-    ensures { IfOk result (λ found. IfSome found (λ order. IsOrderOf text.now.config text.now.programs.now moves.now order.items)) }
+    ensures { IfOk result (λ found. IfSome found (λ order. IsOrderOf text.now.config text.now.opening text.now.programs.now moves.now order.items)) }
 {
     let order = candidate(text, moves, progress)?;
     let world = played(text, moves)?;

@@ -3,6 +3,7 @@ use Rattle.std.specs.Prelude.{ℕ, List, [], ◌∷◌, ◌++◌, codes, flat_ma
 use Rattle.std.specs.Io.KnownBytes.{Appends}
 use Rattle.ivy_model.specs.declared.Config.{Config}
 use Rattle.ivy_model.specs.declared.Record.{Record}
+use Rattle.ivy_host.specs.declared.opening.Opening.{Opening}
 use Rattle.ivy_moves.specs.declared.Move.{Move}
 use Rattle.ivy_texts.specs.Printed.{then_number, record_text}
 use Rattle.ivy_replay.specs.Orders.{IsOrderOf}
@@ -20,12 +21,12 @@ sizes_line c =
 abbrev pub order_text : Config → List Record → List ℕ
 order_text c order = sizes_line c ++ flat_map record_line order
 
-module _ (c : Config) (programs : List ℕ) (Said : List Move → Type 0) where
-  -- the order explains the run of these programs by some moves, of which this holds
+module _ (c : Config) (o : Opening) (programs : List ℕ) (Said : List Move → Type 0) where
+  -- the order explains the run of these programs, whose nodes begin so, by some moves, of which this holds
   pub record IsOrderBy (order : List Record) : Type 0 where
     pub moves : List Move
     pub said : Said moves
-    pub is : IsOrderOf c programs moves order
+    pub is : IsOrderOf c o programs moves order
 
   -- the text of such an order was printed
   pub record PrintsOrder (old new : Option (List ℕ)) : Type 0 where

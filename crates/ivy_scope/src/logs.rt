@@ -32,7 +32,7 @@ impl<R: Files + AllocGlobal> Logs for FilesOf<'_, R> {
 /// Writes the logs of a session's nodes into a folder, with the sum of its configuration and programs.
 pub(crate) fn write_logs<'a, L: Logs>(
     alloc: Global,
-    (config, sum): (Config, u64),
+    (config, steady, sum): (Config, bool, u64),
     report: &ReportSoFar<Global>,
     logs: &L,
     folder: &'a str,
@@ -41,6 +41,7 @@ pub(crate) fn write_logs<'a, L: Logs>(
         let head = LogHead {
             me: node.min(255) as u8,
             config,
+            steady,
         };
         let mut text = String::new(alloc);
         push_log_of_run(alloc, &mut text, &head, sum, report.events(node))?;

@@ -9,6 +9,7 @@ use ivy_model::{Config, Fault, Kind, Record};
 use ivy_moves::Move;
 use ivy_program::parse;
 use ivy_replay::{Progress, Shorter, Text, drawn_moves, order_of, shortened};
+use ivy_site::Opening;
 use ivy_texts::{Decimal, MoveText, RecordText, parse_schedule};
 use std::alloc::Global;
 use std::io::{self, Write};
@@ -23,6 +24,15 @@ pub(crate) struct Run<'a> {
     drawn: (u64, u64),
 }
 
+/// How nodes begin, as a request asks for it.
+pub(crate) fn opening_of(request: &ScopeRequest<'_>) -> Opening {
+    if request.is_steady() {
+        Opening::Steady
+    } else {
+        Opening::Configured
+    }
+}
+
 /// The programs of a request, and the configuration that it asks for.
 pub(crate) fn text_of<'a>(alloc: Global, request: &'a ScopeRequest<'_>) -> Result<Text<'a>, Fault> {
     let programs = request.programs();
@@ -30,6 +40,7 @@ pub(crate) fn text_of<'a>(alloc: Global, request: &'a ScopeRequest<'_>) -> Resul
     Ok(Text {
         alloc,
         config: request.settings().config(nodes)?,
+        opening: opening_of(request),
         programs,
     })
 }
@@ -44,7 +55,7 @@ impl<'a> Run<'a> {
         })
     }
 
-    /// The same under a manager.
+    /// The same under a manager that a configuration names.
     pub(crate) fn under(&self, manager: Kind) -> Run<'a> {
         Run {
             text: Text {
@@ -52,6 +63,7 @@ impl<'a> Run<'a> {
                     manager,
                     ..self.text.config
                 },
+                opening: Opening::Configured,
                 ..self.text
             },
             ..*self
@@ -158,7 +170,7 @@ fn print_order<W: Write>(config: &Config, records: &[Record], out: &mut W) -> io
 
 /// The order of records that explains a run.
 fn records_of<P: Progress>(run: &Run<'_>, progress: &mut P) -> Result<Option<Vec<Record>>, Fault>
-    ensures { IfOk result (λ found. IfSome found (λ order. IsOrderBy run.now.text.config run.now.text.programs.now (λ moves. IfSome run.now.schedule (λ text. SpellsSchedule text.now moves)) order.items)) }
+    ensures { IfOk result (λ found. IfSome found (λ order. IsOrderBy run.now.text.config run.now.text.opening run.now.text.programs.now (λ moves. IfSome run.now.schedule (λ text. SpellsSchedule text.now moves)) order.items)) }
 {
     let moves = run.moves(progress)?;
     order_of(&run.text, &moves, progress)
@@ -170,7 +182,7 @@ pub(crate) fn order<W: Write, P: Progress>(
     out: &mut W,
     progress: &mut P,
 ) -> Result<(), ScopeFailure<'static>>
-    ensures { OnOk result (PrintsOrder run.now.text.config run.now.text.programs.now (λ moves. IfSome run.now.schedule (λ text. SpellsSchedule text.now moves)) (W.contents out.old) (W.contents out.new)) }
+    ensures { OnOk result (PrintsOrder run.now.text.config run.now.text.opening run.now.text.programs.now (λ moves. IfSome run.now.schedule (λ text. SpellsSchedule text.now moves)) (W.contents out.old) (W.contents out.new)) }
 {
     let Some(records) = records_of(run, progress)? else {
         return Err(ScopeFailure::NoOrder);

@@ -3,14 +3,14 @@ ghost use Rattle.std.specs.Prelude.{IfOk};
 ghost use Rattle.ivy_scope.specs.Statuses.{IsStatus};
 
 use crate::logs::{Logs, write_logs};
-use crate::played::print_records;
+use crate::played::{opening_of, print_records};
 use crate::refused::Refusals;
 use crate::watched::{WatchTerms, run_watched};
 use ivy_explain::{
     FAILED, Listing, NodeState, STANDSTILL, ScopeFailure, ScopeRequest, Wishes, print_calls,
     print_standing,
 };
-use ivy_logs::sum_of_run;
+use ivy_logs::sum_opened;
 use ivy_model::{Config, Fault, Record};
 use ivy_program::parse;
 use ivy_replay::Progress;
@@ -103,6 +103,8 @@ struct Ended {
 #[derive(Drop)]
 struct Plan<'a> {
     config: Config,
+    /// Whether nodes begin with steady hints, in place of the manager of the configuration.
+    steady: bool,
     listing: Listing,
     wishes: Wishes<'a>,
 }
@@ -118,11 +120,12 @@ fn run_session<'x, R: Threads + Wait + Sync, E: Write + Send, P: Progress + Send
 ) -> Result<Ended, Fault> {
     let (config, wishes) = (plan.config, &plan.wishes);
     let parsed = parse(alloc, request.programs())?;
-    let sum = sum_of_run(&config, &parsed);
+    let sum = sum_opened(request.is_steady(), &config, &parsed);
     let refusals = Refusals::new(rt, alloc, &plan.listing, wishes.strict, err, progress)?;
     let terms = WatchTerms {
         rt,
         alloc,
+        opening: opening_of(request),
         limits: request.limits(),
         watch: &refusals,
         keep: keep_of(wishes),
@@ -153,7 +156,7 @@ fn tell<'a, L: Logs, W: Write, E: Write>(
     if let Some(folder) = wishes.logs {
         write_logs(
             alloc,
-            (plan.config, ended.sum),
+            (plan.config, plan.steady, ended.sum),
             &ended.report,
             files,
             folder,
@@ -196,6 +199,7 @@ pub(crate) fn run<
     let config = request.settings().config(listing.programs.len())?;
     let plan = Plan {
         config,
+        steady: request.is_steady(),
         listing,
         wishes: request.wishes(),
     };

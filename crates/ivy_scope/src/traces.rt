@@ -7,7 +7,7 @@ use ivy_model::{Act, CallKind, Record, Reply};
 use ivy_moves::Move;
 use ivy_program::parse;
 use ivy_replay::{Play, Progress, ended_in, output_of};
-use ivy_simulation::{Halt, step};
+use ivy_simulation::{Halt, step_opened};
 use ivy_texts::{MoveText, Settings, kind_name};
 use std::alloc::{AllocError, Global};
 use std::io::{self, Write};
@@ -31,7 +31,7 @@ pub(crate) fn trace<W: Write, P: Progress>(
     out: &mut W,
     progress: &mut P,
 ) -> Result<(), ScopeFailure<'static>> {
-    let (alloc, config) = (run.text.alloc, run.text.config);
+    let (alloc, config, opening) = (run.text.alloc, run.text.config, run.text.opening);
     let schedule = schedule_of(alloc, &run.moves(progress)?)?;
     let settings = Settings {
         pages: u64::from(config.pages),
@@ -39,7 +39,7 @@ pub(crate) fn trace<W: Write, P: Progress>(
         manager: config.manager,
     };
     let programs = parse(alloc, run.text.programs)?;
-    match step(alloc, programs, schedule.as_str(), settings, out) {
+    match step_opened(alloc, opening, programs, schedule.as_str(), settings, out) {
         Ok(()) => Ok(()),
         Err(Halt::Refused(fault)) => Err(ScopeFailure::Refused(fault)),
         Err(Halt::Unwritten) => Err(ScopeFailure::Unwritten),

@@ -9,6 +9,7 @@ use Rattle.std.proofs.lemmas.List.Elements.{Contains-push, Contains-append_left}
 use Rattle.ivy_model.specs.declared.Config.{Config}
 use Rattle.ivy_program.specs.stated.Programs.{Program}
 use Rattle.atomic_table.specs.Seated.{TableId}
+use Rattle.ivy_host.specs.declared.opening.Opening.{Opening}
 use Rattle.ivy_ether.specs.Held.{Held, held}
 use Rattle.ivy_ether.specs.Rule.{times, one_if}
 use Rattle.ivy_ether.specs.Programs.{all_handed}
@@ -33,11 +34,11 @@ get_push (z ∷ zs) y (suc i) x is = elim (get_push zs y i x is) [
   | inr last ↦ inr (ap suc last.0, last.1)
 ]
 
-pub told_more : (c : Config) (programs : List Program) (v v' : View)
+pub told_more : (c : Config) (opened : Opening) (programs : List Program) (v v' : View)
     (nodes nodes' : List NodeReport) (n : NodeReport) (i : ℕ) → i ≡ length nodes
-    → nodes' ≡ nodes ++ n ∷ [] → TellsOf c programs v i n v'
-    → AreTold c programs v nodes → AreTold c programs v' nodes'
-told_more c programs v v' nodes nodes' n i last more tells told j m there =
+    → nodes' ≡ nodes ++ n ∷ [] → TellsOf c opened programs v i n v'
+    → AreTold c opened programs v nodes → AreTold c opened programs v' nodes'
+told_more c opened programs v v' nodes nodes' n i last more tells told j m there =
     elim (get_push nodes n j m (subst (λ l. slice_get l j ≡ Some m) more there)) [
       | inl was ↦ let old = told j m was in record {
         calls = old.calls;
@@ -46,15 +47,17 @@ told_more c programs v v' nodes nodes' n i last more tells told j m there =
       }
       | inr new ↦
           let at : i ≡ j = last ∙ sym new.0 in
-          subst (λ (y : ℕ × NodeReport). IsTold c programs v' y.0 y.1) (λ k. (at k, new.1 k)) tells.1
+          subst (λ (y : ℕ × NodeReport). IsTold c opened programs v' y.0 y.1) (λ k. (at k, new.1 k))
+          tells.1
     ]
 
 -- the starter took in the pass of a node that is done
-pub tells_of : (c : Config) (programs : List Program) (v v' w : View) (es : List Mark) (s : SiteView)
+pub tells_of : (c : Config) (opened : Opening) (programs : List Program) (v v' w : View)
+    (es : List Mark) (s : SiteView)
     (i : ℕ) → v' ≡ with_closed v (with_given w es) → w.node ≡ Some i → es ≡ s.events
-    → IsDone c (all_handed (λ _. w.handed) programs) i (report_of s)
-    → TellsOf c programs v i (report_of s) v'
-tells_of c programs v v' w es s i known node is done =
+    → IsDone c opened (all_handed (λ _. w.handed) programs) i (report_of s)
+    → TellsOf c opened programs v i (report_of s) v'
+tells_of c opened programs v v' w es s i known node is done =
     let its : Closing = closing_of (with_given w es) in
     let same : its ≡ record { node = i; handed = w.handed; events = s.events } =
     (λ k. record { node = ap (λ o. unwrap_or o 0) node k; handed = w.handed; events = is k }) in (
@@ -72,9 +75,9 @@ tells_of c programs v v' w es s i known node is done =
       },
     )
 
-pub told_none : (c : Config) (programs : List Program) (v : View)
-    (nodes : List NodeReport) → nodes ≡ [] → AreTold c programs v nodes
-told_none c programs v nodes none i n there =
+pub told_none : (c : Config) (opened : Opening) (programs : List Program) (v : View)
+    (nodes : List NodeReport) → nodes ≡ [] → AreTold c opened programs v nodes
+told_none c opened programs v nodes none i n there =
     absurd (none-some n (ap (λ l. slice_get l i) (sym none) ∙ there))
 
 -- one more seat

@@ -13,6 +13,7 @@ use Rattle.ivy_moves.specs.Parts.{AllHappen, AllCanBeMade, AreParts}
 use Rattle.ivy_moves.specs.stated.Worlds.{World}
 use Rattle.ivy_moves.proofs.Parts.{runs_are_their_parts}
 use Rattle.ivy_moves.proofs.Splitting.{same-effect, can-more}
+use Rattle.ivy_host.specs.declared.opening.Opening.{Opening}
 use Rattle.ivy_host.specs.stated.Hosts.{Host, host_rules}
 use Rattle.ivy_host.specs.stated.Managers.{Managed, managed_ops}
 use Rattle.ivy_host.specs.Handing.{handing}
@@ -28,24 +29,27 @@ use Rattle.ivy_site.specs.Sites.{IsMadeByEvents}
 use Rattle.ivy_seating.specs.Places.{IsSeated, IsInRun, place}
 use Rattle.ivy_seating.proofs.Seats.{its_list}
 
-module _ (c : Config) (programs : List Program) (wire : TableId) (s : SiteView) (p : Held)
-    (h : IsSeated wire c programs s p) (made : IsMadeByEvents s) (r : Runs c programs p.known)
+module _ (c : Config) (opened : Opening) (programs : List Program) (wire : TableId) (s : SiteView)
+    (p : Held)
+    (h : IsSeated wire c opened programs s p) (made : IsMadeByEvents s)
+    (r : Runs c opened programs p.known)
   where
     abbrev start : World (Host Managed)
-    start = beginning c (all_handed r.calls programs)
+    start = beginning c opened (all_handed r.calls programs)
 
-    own : IsNode (host_rules managed_ops) c (beginning c programs) handing r.calls r.parts s.me
+    own : IsNode (host_rules managed_ops) c (beginning c opened programs) handing r.calls r.parts
+        s.me
         p.known.handed p.known.events
     own = r.own s.me h.node
 
     run : AreParts (host_rules managed_ops) c start r.parts r.end
-    run = from_start c programs r.calls r.parts r.end r.run
+    run = from_start c opened programs r.calls r.parts r.end r.run
 
     abbrev lists : ℕ → List Mark
     lists = with_list r.parts s.me s.events
 
     own_list : IsListOf (host_rules managed_ops) c start s.me s.events made.effect
-    own_list = its_list c (all_handed r.calls programs) s made h.config
+    own_list = its_list c opened (all_handed r.calls programs) s made h.config h.began
         (handed-at r.calls programs s.me h.program.first h.program.there
         ∙ ap (λ l. Some (handed l h.program.first)) own.handed ∙ ap Some (sym h.program.is))
 
@@ -59,7 +63,7 @@ module _ (c : Config) (programs : List Program) (wire : TableId) (s : SiteView) 
       can = can-more p.known.took r.end.sent (length start.nodes) s.me h.given.more
           r.took
           (subst (λ k. AllCanBeMade p.known.took k s.me h.given.more)
-          (sym (handed_count c r.calls programs)) h.given.can);
+          (sym (handed_count c opened r.calls programs)) h.given.can);
     }
 
     each : (j : ℕ)
@@ -92,7 +96,7 @@ module _ (c : Config) (programs : List Program) (wire : TableId) (s : SiteView) 
         own_list.happen in
         there.2 ∙ ap (λ (e : Effect (Host Managed)). Some e.after) same ∙ ap Some (sym made.node)
 
-    pub in_run : IsInRun c programs (place wire s p)
+    pub in_run : IsInRun c opened programs (place wire s p)
     in_run = record {
       calls = r.calls;
       handed = own.handed;

@@ -4,6 +4,7 @@ use Rattle.std.proofs.Common.{slice_get, Contains, Option, Some, None, refl, sym
 use Rattle.std.proofs.Common.{subst, ◌∙◌, arith, append-nil, append_assoc}
 use Rattle.std.specs.Prelude.{MatchResult, MatchOption, Result, Ok, Err}
 use Rattle.ivy_model.specs.declared.Fault.{Fault}
+use Rattle.ivy_host.specs.declared.opening.Opening.{Opening}
 use Rattle.ivy_ether.specs.Data.{Put, Item}
 use Rattle.ivy_ether.specs.Items.{strings_in}
 use Rattle.ivy_ether.specs.EtherViews.{MatchPut}
@@ -31,7 +32,7 @@ use Rattle.ivy_moves.proofs.Early.{early-can}
 use Rattle.ivy_moves.proofs.Splitting.{can-append, can-more}
 use Rattle.ivy_host.specs.stated.Hosts.{Host, host_rules}
 use Rattle.ivy_host.specs.stated.Managers.{Managed, managed_ops}
-use Rattle.ivy_host.specs.stated.Openings.{first_node, first_nodes}
+use Rattle.ivy_host.specs.stated.Openings.{first_node, first_nodes, managed_start}
 use Rattle.ivy_ether.specs.Going.{IsListOf}
 use Rattle.ivy_ether.specs.Held.{Held, held}
 use Rattle.ivy_ether.specs.Programs.{beginning, all_handed, MayGive, SendsFrom}
@@ -54,29 +55,33 @@ abbrev program_in : SiteView → Program
 program_in s = s.node.core.process.program
 
 -- the first node of a program
-first_there : (c : Config) (me k : ℕ) (programs : List Program) (i : ℕ)
+first_there : (opened : Opening) (c : Config) (me k : ℕ) (programs : List Program) (i : ℕ)
     (program : Program) → me + i ≡ k → slice_get programs i ≡ Some program
-    → slice_get (first_nodes managed_ops c me programs) i
-    ≡ Some (first_node managed_ops c k program)
-first_there c me k [] i program at is = absurd (none-some program is)
-first_there c me k (p ∷ ps) zero program at is =
+    → slice_get (first_nodes (managed_start opened) c me programs) i
+    ≡ Some (first_node (managed_start opened) c k program)
+first_there opened c me k [] i program at is = absurd (none-some program is)
+first_there opened c me k (p ∷ ps) zero program at is =
     let here : me ≡ k = omega (arith, at) in
-    ap (λ j. Some (first_node managed_ops c j p)) here
-    ∙ ap (λ q. Some (first_node managed_ops c k q)) (same_Some p program is)
-first_there c me k (p ∷ ps) (suc i) program at is =
-    first_there c (me + 1) k ps i program (omega (arith, at)) is
+    ap (λ j. Some (first_node (managed_start opened) c j p)) here
+    ∙ ap (λ q. Some (first_node (managed_start opened) c k q)) (same_Some p program is)
+first_there opened c me k (p ∷ ps) (suc i) program at is =
+    first_there opened c (me + 1) k ps i program (omega (arith, at)) is
 
 -- the site's list is one of its node
-pub its_list : (c : Config) (programs : List Program) (s : SiteView) (made : IsMadeByEvents s)
-    → s.config ≡ c → slice_get programs s.me ≡ Some (program_in s)
-    → IsListOf (host_rules managed_ops) c (beginning c programs) s.me s.events made.effect
-its_list c programs s made config program = record {
-  node = first_node managed_ops c s.me (program_in s);
-  there = first_there c 0 s.me programs s.me (program_in s) (omega arith) program;
+pub its_list : (c : Config) (opened : Opening) (programs : List Program) (s : SiteView)
+    (made : IsMadeByEvents s)
+    → s.config ≡ c → s.opened ≡ opened → slice_get programs s.me ≡ Some (program_in s)
+    → IsListOf (host_rules managed_ops) c (beginning c opened programs) s.me s.events made.effect
+its_list c opened programs s made config began program = record {
+  node = first_node (managed_start opened) c s.me (program_in s);
+  there = first_there opened c 0 s.me programs s.me (program_in s) (omega arith) program;
   happen = subst
-      (λ k. AllHappen (host_rules managed_ops) k (first_node managed_ops k s.me (program_in s))
-      s.events made.effect)
-      config made.happen;
+      (λ o. AllHappen (host_rules managed_ops) c
+      (first_node (managed_start o) c s.me (program_in s))
+      s.events made.effect) began
+      (subst (λ k. AllHappen (host_rules managed_ops) k
+      (first_node (managed_start s.opened) k s.me (program_in s)) s.events made.effect)
+      config made.happen);
 }
 
 -- where these calls were handed to all nodes, as to its own, its program is the one that it runs
@@ -86,40 +91,42 @@ pub runs_there : (programs : List Program) (s : SiteView) (calls : List (List Ca
 runs_there programs s calls r =
     handed-at (λ _. calls) programs s.me r.first r.there ∙ ap Some (sym r.is)
 
-module _ (c : Config) (programs : List Program) where
+module _ (c : Config) (opened : Opening) (programs : List Program) where
   -- so it may be given
   pub may_give : (wire : TableId) (s : SiteView) (p : Held) (es : List Mark) → es ≡ s.events
-      → IsSeated wire c programs s p → IsMadeByEvents s → MayGive c programs p.known es
-  may_give wire s p es is h made = subst (MayGive c programs p.known) (sym is) (record {
+      → IsSeated wire c opened programs s p → IsMadeByEvents s → MayGive c opened programs p.known
+      es
+  may_give wire s p es is h made = subst (MayGive c opened programs p.known) (sym is) (record {
     node = s.me;
     sits = h.node;
     unreported = h.unreported;
-    at = starts_with c programs s.me p.known.handed;
+    at = starts_with c opened programs s.me p.known.handed;
     goes_on = record {
       more = h.given.more;
       is = h.given.is;
       effect = made.effect;
-      list = its_list c (all_handed (λ _. p.known.handed) programs) s made h.config
+      list = its_list c opened (all_handed (λ _. p.known.handed) programs) s made h.config h.began
           (runs_there programs s p.known.handed h.program);
       can = subst (λ k. AllCanBeMade p.known.took k s.me h.given.more)
-          (sym (handed_count c (λ _. p.known.handed) programs)) h.given.can;
+          (sym (handed_count c opened (λ _. p.known.handed) programs)) h.given.can;
     };
   })
 
   -- and sends what its events sent
   pub sends_from : (wire : TableId) (s s' : SiteView) (p : Held) (es : List Mark) (bytes : List ℕ)
-      → es ≡ s'.events → s' ≡ record s { waiting = s'.waiting } → IsSeated wire c programs s p
-      → IsSentBy s bytes → SendsFrom c programs p.known es bytes
+      → es ≡ s'.events → s' ≡ record s { waiting = s'.waiting } → IsSeated wire c opened programs s
+      p
+      → IsSentBy s bytes → SendsFrom c opened programs p.known es bytes
   sends_from wire s s' p es bytes is same h sent =
-      subst (λ l. SendsFrom c programs p.known l bytes)
+      subst (λ l. SendsFrom c opened programs p.known l bytes)
       (sym (is ∙ ap (λ (x : SiteView). x.events) same)) (record {
         node = s.me;
         sits = h.node;
-        at = starts_with c programs s.me p.known.handed;
+        at = starts_with c opened programs s.me p.known.handed;
         sends = record {
           effect = sent.made.effect;
-          list = its_list c (all_handed (λ _. p.known.handed) programs) s sent.made h.config
-              (runs_there programs s p.known.handed h.program);
+          list = its_list c opened (all_handed (λ _. p.known.handed) programs) s sent.made h.config
+              h.began (runs_there programs s p.known.handed h.program);
           sent = sent.sent;
         };
       })
@@ -128,6 +135,7 @@ module _ (c : Config) (programs : List Program) where
   record StaysAt (s s' : SiteView) (took : List (List ℕ)) : Type 0 where
     me : s'.me ≡ s.me
     config : s'.config ≡ s.config
+    began : s'.opened ≡ s.opened
     program : program_in s' ≡ program_in s
     ms : List Mark
     events : s'.events ≡ s.events ++ ms
@@ -137,6 +145,7 @@ module _ (c : Config) (programs : List Program) where
   stays_same s s' took same = record {
     me = ap (λ (x : SiteView). x.me) same;
     config = ap (λ (x : SiteView). x.config) same;
+    began = ap (λ (x : SiteView). x.opened) same;
     program = ap program_in same;
     ms = [];
     events = ap (λ (x : SiteView). x.events) same ∙ sym (append-nil s.events);
@@ -156,6 +165,7 @@ module _ (c : Config) (programs : List Program) where
   stays_on a b d took x y = record {
     me = y.me ∙ x.me;
     config = y.config ∙ x.config;
+    began = y.began ∙ x.began;
     program = y.program ∙ x.program;
     ms = x.ms ++ y.ms;
     events = y.events ∙ ap (λ l. l ++ y.ms) x.events ∙ append_assoc a.events x.ms y.ms;
@@ -163,8 +173,8 @@ module _ (c : Config) (programs : List Program) where
         (subst (λ i. AllCanBeMade took (length programs) i y.ms) x.me y.can);
   }
 
-  stays_seated : (wire : TableId) (s s' : SiteView) (p : Held) → IsSeated wire c programs s p
-      → StaysAt s s' p.known.took → IsSeated wire c programs s' p
+  stays_seated : (wire : TableId) (s s' : SiteView) (p : Held) → IsSeated wire c opened programs s p
+      → StaysAt s s' p.known.took → IsSeated wire c opened programs s' p
   stays_seated wire s s' p h on = record {
     limits = h.limits;
     each = h.each;
@@ -172,6 +182,7 @@ module _ (c : Config) (programs : List Program) where
     node = h.node ∙ ap Some (sym on.me);
     unreported = h.unreported;
     config = on.config ∙ h.config;
+    began = on.began ∙ h.began;
     program = record {
       first = h.program.first;
       there = ap (slice_get programs) on.me ∙ h.program.there;
@@ -196,6 +207,7 @@ module _ (c : Config) (programs : List Program) where
   turn_stays Moved s s' took after = record {
     me = ap (λ (x : SiteView). x.me) after.after;
     config = ap (λ (x : SiteView). x.config) after.after;
+    began = ap (λ (x : SiteView). x.opened) after.after;
     program = ap program_in after.after
         ∙ ap (λ (k : Host Managed). k.process.program)
         (posting-core s.node after.outcome.after after.outcome.posted after.effect after.sent)
@@ -206,7 +218,8 @@ module _ (c : Config) (programs : List Program) where
   }
 
   pub turn_seated : (wire : TableId) (t : turn.Turn) (s s' : SiteView) (p : Held)
-      → IsSeated wire c programs s p → AfterTurn t s s' → IsSeated wire c programs s' p
+      → IsSeated wire c opened programs s p → AfterTurn t s s' → IsSeated wire c opened programs s'
+      p
   turn_seated wire t s s' p h after =
       stays_seated wire s s' p h (turn_stays t s s' p.known.took after)
 
@@ -218,6 +231,7 @@ module _ (c : Config) (programs : List Program) where
   listed bytes v w s s' took limits there d after = record {
     me = ap (λ (x : SiteView). x.me) after;
     config = ap (λ (x : SiteView). x.config) after;
+    began = ap (λ (x : SiteView). x.opened) after;
     program = ap program_in after
         ∙ delivered-program s.config limits s.node d.frame bytes d.effect d.spelled d.delivered;
     ms = Delivery bytes ∷ [];
@@ -247,13 +261,15 @@ module _ (c : Config) (programs : List Program) where
   once_stays source bytes s s' took limits before once =
       let there : Contains took bytes =
       early-can (host_rules managed_ops) s.config took (length programs) s.me
-      (first_node managed_ops s.config s.me (program_in s)) s.events bytes before once.early in
+      (first_node (managed_start s.opened) s.config s.me (program_in s)) s.events bytes before
+      once.early in
       let x : StaysAt (without_ready s source) s' took =
       delivery_as bytes verdict.Next verdict.Next (without_ready s source) s' took refl limits there
       once.next in
       record {
         me = x.me;
         config = x.config;
+        began = x.began;
         program = x.program;
         ms = x.ms;
         events = x.events;
@@ -275,6 +291,7 @@ module _ (c : Config) (programs : List Program) where
   holding_stays s s' took same = record {
     me = ap (λ (x : SiteView). x.me) same;
     config = ap (λ (x : SiteView). x.config) same;
+    began = ap (λ (x : SiteView). x.opened) same;
     program = ap program_in same;
     ms = [];
     events = ap (λ (x : SiteView). x.events) same ∙ sym (append-nil s.events);
@@ -293,8 +310,9 @@ module _ (c : Config) (programs : List Program) where
       all_stay f.source on.0 s s' took limits before on.1
 
   pub delivery_seated : (wire : TableId) (bytes : List ℕ) (v : Verdict) (s s' : SiteView) (p : Held)
-      → IsSeated wire c programs s p → Contains p.known.took bytes → AfterDelivery bytes v s s'
-      → IsSeated wire c programs s' p
+      → IsSeated wire c opened programs s p → Contains p.known.took bytes → AfterDelivery bytes v s
+      s'
+      → IsSeated wire c opened programs s' p
   delivery_seated wire bytes v s s' p h there d =
       let limits : IsConfig s.config = subst IsConfig (sym h.config) h.limits in
       let x : StaysAt s d.mid p.known.took =
@@ -312,8 +330,8 @@ module _ (c : Config) (programs : List Program) where
   pulse_can to me nodes took (x ∷ xs) below apart = ((below, apart), tt)
 
   pub pulse_seated : (wire : TableId) (to : ℕ) (s s' : SiteView) (p : Held)
-      → IsSeated wire c programs s p → to < s.config.nodes → to ≢ s.me
-      → s' ≡ after_pulse_to s to (pulsing s.node to) → IsSeated wire c programs s' p
+      → IsSeated wire c opened programs s p → to < s.config.nodes → to ≢ s.me
+      → s' ≡ after_pulse_to s to (pulsing s.node to) → IsSeated wire c opened programs s' p
   unfolding pulsing
   pulse_seated wire to s s' p h below apart after =
       let inside : to < length programs =
@@ -321,6 +339,7 @@ module _ (c : Config) (programs : List Program) where
       stays_seated wire s s' p h (record {
         me = ap (λ (x : SiteView). x.me) after;
         config = ap (λ (x : SiteView). x.config) after;
+        began = ap (λ (x : SiteView). x.opened) after;
         program = ap program_in after;
         ms = pulse_marks to (pulsing s.node to).sent;
         events = ap (λ (x : SiteView). x.events) after;
@@ -337,8 +356,8 @@ module _ (c : Config) (programs : List Program) where
     events : new.known.events ≡ es
     took : (b : List ℕ) → Contains old.known.took b → Contains new.known.took b
 
-  gave_seated : (wire : TableId) (s : SiteView) (p p' : Held) → IsSeated wire c programs s p
-      → Gives p p' s.events → IsSeated wire c programs s p'
+  gave_seated : (wire : TableId) (s : SiteView) (p p' : Held) → IsSeated wire c opened programs s p
+      → Gives p p' s.events → IsSeated wire c opened programs s p'
   gave_seated wire s p p' h g = record {
     limits = h.limits;
     each = h.each;
@@ -346,6 +365,7 @@ module _ (c : Config) (programs : List Program) where
     node = g.node ∙ h.node;
     unreported = g.reported ∙ h.unreported;
     config = h.config;
+    began = h.began;
     program = record {
       first = h.program.first;
       there = h.program.there;
@@ -357,8 +377,8 @@ module _ (c : Config) (programs : List Program) where
 
   pub given_seated : (wire : TableId) (s : SiteView) (p p' : Held) (es : List Mark)
       (strings : List (List ℕ)) → es ≡ s.events → p'.ether ≡ p.ether
-      → p'.known ≡ with_put p.known es strings → IsSeated wire c programs s p
-      → IsSeated wire c programs s p'
+      → p'.known ≡ with_put p.known es strings → IsSeated wire c opened programs s p
+      → IsSeated wire c opened programs s p'
   given_seated wire s p p' es strings is ether known h = gave_seated wire s p p' h (record {
     ether = ether;
     node = ap (λ (v : View). v.node) known;
@@ -370,7 +390,7 @@ module _ (c : Config) (programs : List Program) where
 
   pub taken_seated : (wire : TableId) (s : SiteView) (p p' : Held) (es : List Mark) (x : Item)
       → es ≡ s.events → p'.ether ≡ p.ether → p'.known ≡ with_taken p.known es x
-      → IsSeated wire c programs s p → IsSeated wire c programs s p'
+      → IsSeated wire c opened programs s p → IsSeated wire c opened programs s p'
   taken_seated wire s p p' es x is ether known h = gave_seated wire s p p' h (record {
     ether = ether;
     node = ap (λ (v : View). v.node) known;
@@ -385,15 +405,16 @@ module _ (c : Config) (programs : List Program) where
   pub noted_seated : (wire : TableId) (s : SiteView) (p p' : Held) (refused : List (List ℕ))
       (empty : ℕ) → p'.ether ≡ p.ether
       → p'.known ≡ record p.known { refused = refused; empty = empty }
-      → IsSeated wire c programs s p → IsSeated wire c programs s p'
+      → IsSeated wire c opened programs s p → IsSeated wire c opened programs s p'
   noted_seated wire s p p' refused empty ether known h =
-      subst (IsSeated wire c programs s) (λ k. held (sym ether k) (sym known k)) (record {
+      subst (IsSeated wire c opened programs s) (λ k. held (sym ether k) (sym known k)) (record {
         limits = h.limits;
         each = h.each;
         ether = h.ether;
         node = h.node;
         unreported = h.unreported;
         config = h.config;
+        began = h.began;
         program = h.program;
         given = record { more = h.given.more; is = h.given.is; can = h.given.can };
         took = h.took;
@@ -401,11 +422,12 @@ module _ (c : Config) (programs : List Program) where
 
   -- a string less waits
   pub less_seated : (wire : TableId) (s s' : SiteView) (p : Held)
-      → s' ≡ record s { waiting = s'.waiting } → IsSeated wire c programs s p
-      → IsSeated wire c programs s' p
+      → s' ≡ record s { waiting = s'.waiting } → IsSeated wire c opened programs s p
+      → IsSeated wire c opened programs s' p
   less_seated wire s s' p same h = stays_seated wire s s' p h (record {
     me = ap (λ (x : SiteView). x.me) same;
     config = ap (λ (x : SiteView). x.config) same;
+    began = ap (λ (x : SiteView). x.opened) same;
     program = ap program_in same;
     ms = [];
     events = ap (λ (x : SiteView). x.events) same ∙ sym (append-nil s.events);
@@ -413,8 +435,9 @@ module _ (c : Config) (programs : List Program) where
   })
 
   -- at first
-  pub fresh_seated : (wire : TableId) (s : SiteView) (p : Held) → IsFreshSeat wire c programs s p
-      → IsSeated wire c programs s p
+  pub fresh_seated : (wire : TableId) (s : SiteView) (p : Held)
+      → IsFreshSeat wire c opened programs s p
+      → IsSeated wire c opened programs s p
   fresh_seated wire s p f = record {
     limits = f.limits;
     each = f.each;
@@ -422,6 +445,7 @@ module _ (c : Config) (programs : List Program) where
     node = ap (λ (v : View). v.node) f.pass;
     unreported = ap (λ (v : View). v.reported) f.pass;
     config = ap (λ (x : SiteView). x.config) f.site;
+    began = ap (λ (x : SiteView). x.opened) f.site;
     program = record {
       first = f.program;
       there = f.there;
@@ -440,22 +464,23 @@ module _ (c : Config) (programs : List Program) where
 
   -- as the calls of a site answer
   pub turned : (wire : TableId) (r : Result turn.Turn Fault) (s s' : SiteView) (p : Held)
-      → MatchResult r (λ t. AfterTurn t s s') (λ _. s' ≡ s) → IsSeated wire c programs s p
-      → IsSeated wire c programs s' p
+      → MatchResult r (λ t. AfterTurn t s s') (λ _. s' ≡ s) → IsSeated wire c opened programs s p
+      → IsSeated wire c opened programs s' p
   turned wire (Ok t) s s' p after h = turn_seated wire t s s' p h after
   turned wire (Err fault) s s' p same h =
       stays_seated wire s s' p h (stays_same s s' p.known.took same)
 
   pub polled : (wire : TableId) (r : Result (turn.Turn × Option Reply) Fault) (s s' : SiteView)
       (p : Held) → MatchResult r (λ t. AfterTurn t.0 s s') (λ _. s' ≡ s)
-      → IsSeated wire c programs s p → IsSeated wire c programs s' p
+      → IsSeated wire c opened programs s p → IsSeated wire c opened programs s' p
   polled wire (Ok t) s s' p after h = turn_seated wire t.0 s s' p h after
   polled wire (Err fault) s s' p same h =
       stays_seated wire s s' p h (stays_same s s' p.known.took same)
 
   pub delivered : (wire : TableId) (r : Result Verdict Fault) (bytes : List ℕ) (s s' : SiteView)
       (p : Held) → MatchResult r (λ v. AfterDelivery bytes v s s') (λ _. s' ≡ s)
-      → Contains p.known.took bytes → IsSeated wire c programs s p → IsSeated wire c programs s' p
+      → Contains p.known.took bytes → IsSeated wire c opened programs s p → IsSeated wire c opened
+      programs s' p
   delivered wire (Ok v) bytes s s' p after there h =
       delivery_seated wire bytes v s s' p h there after
   delivered wire (Err fault) bytes s s' p same there h =
@@ -463,8 +488,8 @@ module _ (c : Config) (programs : List Program) where
 
   pub pulsed : (wire : TableId) (r : Result (Unit {0}) Fault) (to : ℕ) (s s' : SiteView) (p : Held)
       → MatchResult r (λ _. s' ≡ after_pulse_to s to (pulsing s.node to)) (λ _. s' ≡ s)
-      → to < s.config.nodes → to ≢ s.me → IsSeated wire c programs s p
-      → IsSeated wire c programs s' p
+      → to < s.config.nodes → to ≢ s.me → IsSeated wire c opened programs s p
+      → IsSeated wire c opened programs s' p
   pulsed wire (Ok done) to s s' p after below apart h =
       pulse_seated wire to s s' p h below apart after
   pulsed wire (Err fault) to s s' p same below apart h =
@@ -475,7 +500,7 @@ module _ (c : Config) (programs : List Program) where
       (frame : List ℕ) → es ≡ s.events → p'.ether ≡ p.ether
       → MatchPut r (p'.known ≡ with_put p.known es (frame ∷ []))
       (λ back. (back ≡ frame) × (p'.known ≡ with_refused p.known frame))
-      → IsSeated wire c programs s p → IsSeated wire c programs s p'
+      → IsSeated wire c opened programs s p → IsSeated wire c opened programs s p'
   put_seated wire Sent s p p' es frame is ether known h =
       given_seated wire s p p' es (frame ∷ []) is ether known h
   put_seated wire (Lost back) s p p' es frame is ether known h =
@@ -484,7 +509,7 @@ module _ (c : Config) (programs : List Program) where
   pub take_seated : (wire : TableId) (r : Option Item) (s : SiteView) (p p' : Held) (es : List Mark)
       → es ≡ s.events → p'.ether ≡ p.ether
       → MatchOption r (p'.known ≡ with_empty p.known) (λ x. p'.known ≡ with_taken p.known es x)
-      → IsSeated wire c programs s p → IsSeated wire c programs s p'
+      → IsSeated wire c opened programs s p → IsSeated wire c opened programs s p'
   take_seated wire None s p p' es is ether known h =
       noted_seated wire s p p' p.known.refused (p.known.empty + 1) ether known h
   take_seated wire (Some x) s p p' es is ether known h =
@@ -493,11 +518,11 @@ module _ (c : Config) (programs : List Program) where
   -- once calls were handed to its node
   pub all_handed_seated : (wire : TableId) (s s' : SiteView) (p p' : Held) (calls : List (List Call))
       → s' ≡ site_handed calls s → p'.ether ≡ p.ether
-      → p'.known ≡ with_all_handed p.known calls → IsSeated wire c programs s p
-      → IsSeated wire c programs s' p'
+      → p'.known ≡ with_all_handed p.known calls → IsSeated wire c opened programs s p
+      → IsSeated wire c opened programs s' p'
   all_handed_seated wire s s' p p' calls same ether known h =
-      subst (λ x. IsSeated wire c programs x p') (sym same)
-      (subst (IsSeated wire c programs (site_handed calls s))
+      subst (λ x. IsSeated wire c opened programs x p') (sym same)
+      (subst (IsSeated wire c opened programs (site_handed calls s))
       (λ k. held (sym ether k) (sym known k)) (record {
         limits = h.limits;
         each = h.each;
@@ -505,6 +530,7 @@ module _ (c : Config) (programs : List Program) where
         node = h.node;
         unreported = h.unreported;
         config = h.config;
+        began = h.began;
         program = record {
           first = h.program.first;
           there = h.program.there;
@@ -518,26 +544,27 @@ module _ (c : Config) (programs : List Program) where
   -- and once one was
   pub hand_seated : (wire : TableId) (s s' : SiteView) (p p' : Held) (call : Call)
       → s' ≡ site_handed ((call ∷ []) ∷ []) s → p'.ether ≡ p.ether
-      → p'.known ≡ with_handed p.known call → IsSeated wire c programs s p
-      → IsSeated wire c programs s' p'
+      → p'.known ≡ with_handed p.known call → IsSeated wire c opened programs s p
+      → IsSeated wire c opened programs s' p'
   hand_seated wire s s' p p' call same ether known h =
       all_handed_seated wire s s' p p' ((call ∷ []) ∷ []) same ether known h
 
   -- once calls were made one after another, each answered in its turn
   pub answered_seated : (wire : TableId) (rs : List Record) (s s' : SiteView) (p p' : Held)
       → AreAnswered rs s s' → p'.ether ≡ p.ether
-      → p'.known ≡ with_all_handed p.known (one_by_one (calls_of rs)) → IsSeated wire c programs s p
-      → IsSeated wire c programs s' p'
+      → p'.known ≡ with_all_handed p.known (one_by_one (calls_of rs)) → IsSeated wire c opened
+      programs s p
+      → IsSeated wire c opened programs s' p'
   answered_seated wire [] s s' p p' same ether known h =
       let is : p'.known ≡ p.known =
       known ∙ ap (λ l. record p.known { handed = l }) (append-nil p.known.handed) in
-      subst (λ x. IsSeated wire c programs x p') (sym same)
-      (subst (IsSeated wire c programs s) (λ k. held (sym ether k) (sym is k)) h)
+      subst (λ x. IsSeated wire c opened programs x p') (sym same)
+      (subst (IsSeated wire c opened programs s) (λ k. held (sym ether k) (sym is k)) h)
   answered_seated wire (r ∷ rs) s s' p p' on ether known h =
       let next : Held = held p.ether (with_handed p.known r.call) in
-      let asks : IsSeated wire c programs (site_handed ((r.call ∷ []) ∷ []) s) next =
+      let asks : IsSeated wire c opened programs (site_handed ((r.call ∷ []) ∷ []) s) next =
       hand_seated wire s (site_handed ((r.call ∷ []) ∷ []) s) p next r.call refl refl refl h in
-      let mid : IsSeated wire c programs on.0 next =
+      let mid : IsSeated wire c opened programs on.0 next =
       turn_seated wire Moved (site_handed ((r.call ∷ []) ∷ []) s) on.0 next asks on.1.turns in
       answered_seated wire rs on.0 s' next p' on.2 ether
       (known
@@ -548,7 +575,7 @@ module _ (c : Config) (programs : List Program) where
   pub row_seated : (wire : TableId) (kind : Row) (addr : ℕ) (numbers : List ℕ) (s s' : SiteView)
       (p p' : Held) → AreAnswered (row kind s.me addr numbers) s s' → p'.ether ≡ p.ether
       → p'.known ≡ with_all_handed p.known (one_by_one (calls_of (row kind 0 addr numbers)))
-      → IsSeated wire c programs s p → IsSeated wire c programs s' p'
+      → IsSeated wire c opened programs s p → IsSeated wire c opened programs s' p'
   row_seated wire kind addr numbers s s' p p' on ether known h =
       answered_seated wire (row kind s.me addr numbers) s s' p p' on ether
       (known ∙ ap (λ ks. with_all_handed p.known (one_by_one ks)) (calls-of-row kind 0 s.me addr numbers)) h
@@ -559,7 +586,7 @@ module _ (c : Config) (programs : List Program) where
       → BeginsRow (calls_of (row kind 0 addr (numbers_in words bytes))) s s' → p'.ether ≡ p.ether
       → p'.known
       ≡ with_all_handed p.known (calls_of (row kind 0 addr (numbers_in words bytes)) ∷ [])
-      → IsSeated wire c programs s p → IsSeated wire c programs s' p'
+      → IsSeated wire c opened programs s p → IsSeated wire c opened programs s' p'
   begun_seated wire kind addr zero bytes s s' p p' some begins ether known h = absurd (some refl)
   begun_seated wire kind addr (suc n) bytes s s' p p' some begins ether known h =
       let rows = calls_of (row kind 0 addr (numbers_in (suc n) bytes)) ∷ [] in
@@ -568,24 +595,26 @@ module _ (c : Config) (programs : List Program) where
 
   -- and once the replies to calls were taken, each in a turn of its own
   pub replies_seated : (wire : TableId) (rs : List Record) (s s' : SiteView) (p : Held)
-      → AreTaken rs s s' → IsSeated wire c programs s p → IsSeated wire c programs s' p
+      → AreTaken rs s s' → IsSeated wire c opened programs s p → IsSeated wire c opened programs s'
+      p
   replies_seated wire [] s s' p same h =
       stays_seated wire s s' p h (stays_same s s' p.known.took same)
   replies_seated wire (r ∷ rs) s s' p on h =
       replies_seated wire rs on.0 s' p on.2 (turn_seated wire Moved s on.0 p h on.1.turns)
 
   -- a site whose program has ended is done
-  pub is_done : (wire : TableId) (s : SiteView) (p : Held) (i : ℕ) → IsSeated wire c programs s p
+  pub is_done : (wire : TableId) (s : SiteView) (p : Held) (i : ℕ) → IsSeated wire c opened programs
+      s p
       → IsMadeByEvents s → s.me ≡ i → HasEnded s.node.core.process
-      → IsDone c (all_handed (λ _. p.known.handed) programs) i (report_of s)
+      → IsDone c opened (all_handed (λ _. p.known.handed) programs) i (report_of s)
   is_done wire s p i h made at ended = record {
     of = record {
       effect = made.effect;
       list = subst
           (λ j. IsListOf (host_rules managed_ops) c
-          (beginning c (all_handed (λ _. p.known.handed) programs)) j s.events made.effect)
+          (beginning c opened (all_handed (λ _. p.known.handed) programs)) j s.events made.effect)
           at
-          (its_list c (all_handed (λ _. p.known.handed) programs) s made h.config
+          (its_list c opened (all_handed (λ _. p.known.handed) programs) s made h.config h.began
           (runs_there programs s p.known.handed h.program));
       history = ap (λ (n : Node (Host Managed)). n.core.history) made.node;
       output = ap (λ (n : Node (Host Managed)). n.core.process.state.output) made.node;

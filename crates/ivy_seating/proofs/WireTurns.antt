@@ -19,6 +19,7 @@ use Rattle.ivy_link.specs.stated.Accepted.{offered, verdict_on}
 use Rattle.ivy_link.specs.stated.Linked.{peer_at}
 use Rattle.ivy_moves.specs.Marks.{Mark}
 use Rattle.ivy_moves.specs.stated.Nodes.{verdict_as, verdict_of}
+use Rattle.ivy_host.specs.declared.opening.Opening.{Opening}
 use Rattle.ivy_site.specs.SiteView.{SiteView}
 use Rattle.ivy_site.specs.Sites.{SiteDelivers, AfterDelivery, IsMadeByEvents}
 use Rattle.ivy_ether.specs.Data.{Item}
@@ -206,7 +207,7 @@ loses_string bytes old now mid new h d ether pass site refused =
     )
 
 -- what holds of a seated site
-pub keeps_seat : (wire : TableId) (c : Config) (programs : List Program) (s : SiteView)
-    (p : Held) → IsSeated wire c programs s p → IsMadeByEvents s
-    → KeepsSeat c programs (place wire s p)
-keeps_seat wire c programs s p h made = record { seated = h; made = made }
+pub keeps_seat : (wire : TableId) (c : Config) (opened : Opening) (programs : List Program)
+    (s : SiteView) (p : Held) → IsSeated wire c opened programs s p → IsMadeByEvents s
+    → KeepsSeat c opened programs (place wire s p)
+keeps_seat wire c opened programs s p h made = record { seated = h; made = made }

@@ -9,11 +9,12 @@ use Rattle.ivy_model.specs.declared.Call.{Call}
 use Rattle.ivy_moves.specs.Marks.{Mark}
 use Rattle.ivy_moves.specs.Parts.{AllCanBeMade, AreParts}
 use Rattle.ivy_moves.specs.stated.Worlds.{World}
+use Rattle.ivy_host.specs.declared.opening.Opening.{Opening}
 use Rattle.ivy_host.specs.stated.Hosts.{Host, host_rules}
 use Rattle.ivy_host.specs.stated.Managers.{Managed, managed_ops}
 use Rattle.ivy_ether.specs.Programs.{beginning, all_handed}
 use Rattle.ivy_site.specs.SiteView.{SiteView}
-use Rattle.ivy_site.specs.Sites.{first_keeping, IsMadeByEvents}
+use Rattle.ivy_site.specs.Sites.{first_opened, IsMadeByEvents}
 use Rattle.ivy_ether.specs.Held.{Held}
 use Rattle.ivy_ether.specs.Views.{newcomer, with_seat}
 
@@ -42,7 +43,7 @@ pub record RunsProgram (programs : List Program) (s : SiteView) (calls : List (L
 
 -- the pass is of this ether, sits at the site's node and has not reported, and took each string
 -- that was delivered to the site; the site runs the node's program
-pub record IsSeated (wire : TableId) (c : Config) (programs : List Program)
+pub record IsSeated (wire : TableId) (c : Config) (opened : Opening) (programs : List Program)
     (s : SiteView) (p : Held) : Type 0 where
   pub limits : IsConfig c
   pub each : length programs ≡ c.nodes
@@ -50,27 +51,31 @@ pub record IsSeated (wire : TableId) (c : Config) (programs : List Program)
   pub node : p.known.node ≡ Some s.me
   pub unreported : p.known.reported ≡ false
   pub config : s.config ≡ c
+  pub began : s.opened ≡ opened
   pub program : RunsProgram programs s p.known.handed
   pub given : HasGiven (length programs) s p
   pub took : AllCanBeMade p.known.took (length programs) s.me s.events
 
 -- what holds of a seated site at every moment: also that the node is what the site's events make of
 -- the first one of its program, and that they sent the strings that wait
-pub record KeepsSeat (c : Config) (programs : List Program) (s : SeatedState) : Type 0
+pub record KeepsSeat (c : Config) (opened : Opening) (programs : List Program)
+    (s : SeatedState) : Type 0
   where
-    pub seated : IsSeated s.ether c programs s.site s.pass
+    pub seated : IsSeated s.ether c opened programs s.site s.pass
     pub made : IsMadeByEvents s.site
 
 -- what holds of it among all nodes: some run of the programs, where some calls were handed to each
 -- node and to the site's those that its pass knows of, has exactly the site's events as its part,
 -- and ends with this very node; in it each string that the pass took was sent, and each that waits
 -- to be put
-pub record IsInRun (c : Config) (programs : List Program) (s : SeatedState) : Type 0
+pub record IsInRun (c : Config) (opened : Opening) (programs : List Program)
+    (s : SeatedState) : Type 0
   where
     pub calls : ℕ → List (List Call)
     pub parts : ℕ → List Mark
     pub end : World (Host Managed)
-    pub run : AreParts (host_rules managed_ops) c (beginning c (all_handed calls programs)) parts end
+    pub run : AreParts (host_rules managed_ops) c (beginning c opened (all_handed calls programs))
+        parts end
     pub handed : calls s.site.me ≡ s.pass.known.handed
     pub own : parts s.site.me ≡ s.site.events
     pub node : slice_get end.nodes s.site.me ≡ Some s.site.node
@@ -82,7 +87,7 @@ abbrev pub place : TableId → SiteView → Held → SeatedState
 place e s p = record { ether = e; site = s; pass = p }
 
 -- a site of the node's program as it begins, whatever it keeps, and a pass of this ether that took the node's seat
-pub record IsFreshSeat (wire : TableId) (c : Config) (programs : List Program)
+pub record IsFreshSeat (wire : TableId) (c : Config) (opened : Opening) (programs : List Program)
     (s : SiteView) (p : Held) : Type 0 where
   pub limits : IsConfig c
   pub each : length programs ≡ c.nodes
@@ -90,4 +95,4 @@ pub record IsFreshSeat (wire : TableId) (c : Config) (programs : List Program)
   pub pass : p.known ≡ with_seat newcomer s.me
   pub program : Program
   pub there : slice_get programs s.me ≡ Some program
-  pub site : s ≡ first_keeping s.keep c s.me program
+  pub site : s ≡ first_opened opened s.keep c s.me program

@@ -14,6 +14,7 @@ use Rattle.ivy_moves.specs.stated.Explained.{IsUntorn}
 use Rattle.ivy_moves.specs.stated.Nodes.{Effect}
 use Rattle.ivy_moves.specs.Parts.{AreParts}
 use Rattle.ivy_moves.specs.stated.Worlds.{World}
+use Rattle.ivy_host.specs.declared.opening.Opening.{Opening}
 use Rattle.ivy_host.specs.stated.Holding.{IsExclusive, HasNoBreach}
 use Rattle.ivy_host.specs.stated.Hosts.{Host, host_rules, answered_by}
 use Rattle.ivy_host.specs.stated.Managers.{Managed, managed_ops}
@@ -42,11 +43,11 @@ report_of s = record {
 abbrev pub AllKeep : Keep → List NodeReport → Type 0
 AllKeep keep nodes = All (λ (n : NodeReport). n.keep ≡ keep) nodes
 
-module _ (c : Config) (programs : List Program) where
+module _ (c : Config) (opened : Opening) (programs : List Program) where
   -- history and output are those that node i's events give, by the definitions, for this list
   pub record IsNodeReport (i : ℕ) (n : NodeReport) : Type 0 where
     pub effect : Effect (Host Managed)
-    pub list : IsListOf (host_rules managed_ops) c (beginning c programs) i n.events effect
+    pub list : IsListOf (host_rules managed_ops) c (beginning c opened programs) i n.events effect
     pub history : n.history ≡ effect.after.core.history
     pub output : n.output ≡ effect.after.core.process.state.output
 
@@ -65,7 +66,7 @@ module _ (c : Config) (programs : List Program) where
   abbrev pub IsNeverTorn : List Record → ℕ → NodeReport → Type 0
   IsNeverTorn order i n = (before after : List Mark) → n.events ≡ before ++ after
       → (effect : Effect (Host Managed))
-      → IsListOf (host_rules managed_ops) c (beginning c programs) i before effect
+      → IsListOf (host_rules managed_ops) c (beginning c opened programs) i before effect
       → IsUntorn order i (answered_by effect.after.core)
 
   -- each node's history and output are those of its event list; the lists are the parts of one run
@@ -79,7 +80,7 @@ module _ (c : Config) (programs : List Program) where
     pub parts : ℕ → List Mark
     pub lists : (i : ℕ) (n : NodeReport) → slice_get nodes i ≡ Some n → parts i ≡ n.events
     pub end : World (Host Managed)
-    pub run : AreParts (host_rules managed_ops) c (beginning c programs) parts end
+    pub run : AreParts (host_rules managed_ops) c (beginning c opened programs) parts end
     pub whole : (i : ℕ) (n : NodeReport) → slice_get nodes i ≡ Some n
         → (program : Program) × (slice_get programs i ≡ Some program)
         × IsWholeRun program n.history n.output
@@ -91,6 +92,6 @@ module _ (c : Config) (programs : List Program) where
 
 -- such a report, of these programs where some calls were handed to each node; to those that are
 -- written down nothing can be
-abbrev pub IsHandedReport : Config → List Program → List NodeReport → Type 0
-IsHandedReport c programs nodes =
-    (calls : ℕ → List (List Call)) × IsReport c (all_handed calls programs) nodes
+abbrev pub IsHandedReport : Config → Opening → List Program → List NodeReport → Type 0
+IsHandedReport c opened programs nodes =
+    (calls : ℕ → List (List Call)) × IsReport c opened (all_handed calls programs) nodes

@@ -1,4 +1,5 @@
 //! What a session is run with.
+use ivy_ether::Opening;
 use ivy_model::Config;
 use ivy_site::Keep;
 use ivy_workers::Limits;
@@ -13,6 +14,8 @@ pub struct Plan<'r, 'g, A: Allocator, R, G> {
     pub alloc: A,
     /// The nodes, and the memory that they share.
     pub config: Config,
+    /// How the nodes begin.
+    pub opening: Opening,
     /// What the session may use.
     pub limits: Limits,
     /// What is told of each turn.

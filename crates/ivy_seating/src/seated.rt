@@ -55,13 +55,13 @@ impl<'e, S: Setup, A: Allocator> Model for Seated<'e, S, A> {
 
     ghost view = { λ s. place s.ether.now s.site s.pass };
 
-    ghost invariant = { λ s. IsSeated s.ether.now S.config S.programs s.site s.pass };
+    ghost invariant = { λ s. IsSeated s.ether.now S.config S.opened S.programs s.site s.pass };
 }
 
 impl<'e, S: Setup, A: Allocator + Copy> Seated<'e, S, A> {
     /// Seats a site that has made no event yet, with a pass that took the seat of its node.
     pub fn new(ether: &'e Ether<S, A>, site: Site<A>, pass: Pass<Wired<A>>) -> Self
-        requires fresh { IsFreshSeat ether.now S.config S.programs site pass }
+        requires fresh { IsFreshSeat ether.now S.config S.opened S.programs site pass }
         ensures { result ≡ place ether.now site pass }
     {
         Seated { ether, site, pass }
@@ -73,8 +73,9 @@ impl<'e, S: Setup, A: Allocator + Copy> Seated<'e, S, A> {
     /// them. The pass is one of its ether; the list that it gave last is a beginning of the site's, and each string that
     /// was delivered to the site was taken by the pass.
     pub fn keeps(&self)
-        ensures { KeepsSeat S.config S.programs self.now }
+        ensures { KeepsSeat S.config S.opened S.programs self.now }
     {
+        // for the proof: what holds of every site.
         let _ = self.site.event_list();
     }
 
@@ -82,8 +83,9 @@ impl<'e, S: Setup, A: Allocator + Copy> Seated<'e, S, A> {
     /// takes no memory, and puts and takes nothing.
     pub fn learn_run(&mut self)
         ensures same { self.new ≡ self.old }
-        ensures run { IsInRun S.config S.programs self.new }
+        ensures run { IsInRun S.config S.opened S.programs self.new }
     {
+        // for the proof: what holds of every site.
         let _ = self.site.event_list();
         self.ether.learn_run(&mut self.pass);
     }
@@ -417,7 +419,7 @@ impl<'e, S: Setup, A: Allocator + Copy> Seated<'e, S, A> {
     pub fn into_parts(self) -> (&'e Ether<S, A>, Site<A>, Pass<Wired<A>>)
         ensures ether { result.0.now ≡ self.entry.ether }
         ensures site { result.1 ≡ self.entry.site }
-        ensures seated { IsSeated result.0.now S.config S.programs result.1 result.2 }
+        ensures seated { IsSeated result.0.now S.config S.opened S.programs result.1 result.2 }
     {
         let Seated { ether, site, pass } = self;
         (ether, site, pass)

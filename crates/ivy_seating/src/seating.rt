@@ -34,6 +34,7 @@ fn seat_one<'e, S: Setup, A: Allocator + Copy, R: Wait, G>(
     program: Program<A>,
 ) -> Result<Seated<'e, S, A>, Fault>
     requires config { plan.now.config ≡ S.config }
+    requires opened { plan.now.opening ≡ S.opened }
     requires limits { IsConfig plan.now.config }
     requires each { length S.programs ≡ plan.now.config.nodes }
     requires there { slice_get S.programs node ≡ Some program }
@@ -56,7 +57,14 @@ fn seat_one<'e, S: Setup, A: Allocator + Copy, R: Wait, G>(
     if found != node {
         return Err(NEVER_SEEN);
     }
-    let site = Site::keeping(plan.alloc, &plan.config, node, program, plan.keep)?;
+    let site = Site::opened(
+        plan.alloc,
+        &plan.config,
+        node,
+        plan.opening,
+        program,
+        plan.keep,
+    )?;
     Ok(Seated::new(ether, site, pass))
 }
 
@@ -70,6 +78,7 @@ pub fn seat_all<'e, S: Setup, H: Home, A: Allocator + Copy, R: Wait, G>(
 ) -> Result<Vec<Mutex<Homed<'e, S, H, A>>, A>, Fault>
     requires home { ether.now ≡ H.ether }
     requires config { plan.now.config ≡ S.config }
+    requires opened { plan.now.opening ≡ S.opened }
     requires limits { IsConfig plan.now.config }
     requires programs { programs.items ≡ S.programs }
     requires each { length programs.items ≡ plan.now.config.nodes }
@@ -105,9 +114,9 @@ fn take_in<S: Setup, A: Allocator + Copy>(
     node: u8,
 ) -> Result<(), Fault>
     requires starter { starter.old.ether ≡ ether.now }
-    requires seated { IsSeated ether.now S.config S.programs site.now pass }
+    requires seated { IsSeated ether.now S.config S.opened S.programs site.now pass }
     ensures ether { starter.new.ether ≡ starter.old.ether }
-    ensures told { OnOk result (TellsOf S.config S.programs starter.old.known node (report_of site.now) starter.new.known) }
+    ensures told { OnOk result (TellsOf S.config S.opened S.programs starter.old.known node (report_of site.now) starter.new.known) }
     ensures limit { IfErr result (λ fault. fault ≡ Fault.TurnLimit) }
 {
     if site.me() != node {
@@ -139,7 +148,7 @@ pub fn close_seat<S: Setup, H: Home, A: Allocator + Copy>(
     requires starter { starter.old.ether ≡ ether.now }
     ensures site { IfOk result (λ site. site ≡ homed.entry.seated.site) }
     ensures ether { starter.new.ether ≡ starter.old.ether }
-    ensures told { IfOk result (λ site. TellsOf S.config S.programs starter.old.known node (report_of site) starter.new.known) }
+    ensures told { IfOk result (λ site. TellsOf S.config S.opened S.programs starter.old.known node (report_of site) starter.new.known) }
     ensures keep { IfOk result (λ site. site.keep ≡ keep) }
     ensures limit { IfErr result (λ fault. fault ≡ Fault.TurnLimit) }
 {
@@ -168,7 +177,7 @@ pub fn close_seats<S: Setup, H: Home, A: Allocator + Copy>(
     requires empty { empty.items ≡ [] }
     requires places { vec_len seats ≤ vec_capacity empty }
     ensures starter { starter.new.ether ≡ starter.old.ether }
-    ensures told { IfOk result (λ report. AreTold S.config S.programs starter.new.known report) }
+    ensures told { IfOk result (λ report. AreTold S.config S.opened S.programs starter.new.known report) }
     ensures keep { IfOk result (AllKeep keep) }
     ensures limit { IfErr result (λ fault. fault ≡ Fault.TurnLimit) }
 {

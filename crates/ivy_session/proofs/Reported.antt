@@ -24,6 +24,7 @@ use Rattle.ivy_moves.specs.stated.Worlds.{World, Leads}
 use Rattle.ivy_moves.proofs.Parts.{runs_are_their_parts}
 use Rattle.ivy_moves.proofs.Splitting.{same-effect}
 use Rattle.ivy_moves.proofs.Moments.{IsWhole, explained_whole, untorn_at}
+use Rattle.ivy_host.specs.declared.opening.Opening.{Opening}
 use Rattle.ivy_host.specs.stated.Hosts.{Host, host_rules, answered_by}
 use Rattle.ivy_host.specs.stated.Managers.{Managed, managed_ops}
 use Rattle.ivy_host.specs.Handing.{handing}
@@ -31,7 +32,7 @@ use Rattle.ivy_memory.specs.stated.Memories.{in_progress}
 use Rattle.ivy_ether.specs.Programs.{beginning, all_handed_from, all_handed, Told}
 use Rattle.ivy_ether.specs.Rule.{IsNode}
 use Rattle.ivy_ether.proofs.Advancing.{same_start, list_over}
-use Rattle.ivy_ether.proofs.Hosts.{length-all_handed, opened, from_start}
+use Rattle.ivy_ether.proofs.Hosts.{length-all_handed, handed_start, from_start}
 use Rattle.ivy_ether.specs.Views.{View}
 use Rattle.ivy_seating.specs.Reports.{NodeReport, IsDone, IsNeverTorn, IsReport, IsHandedReport}
 use Rattle.ivy_seating.specs.Collected.{AreTold}
@@ -77,7 +78,7 @@ map_get f [] i x is = absurd (none-some x is)
 map_get f (y ∷ ys) zero x is = ap (λ o. Some (f o)) (same_Some y x is)
 map_get f (y ∷ ys) (suc i) x is = map_get f ys i x is
 
-module _ (c : Config) (programs : List Program) (limits : IsConfig c)
+module _ (c : Config) (opened : Opening) (programs : List Program) (limits : IsConfig c)
     (each : length programs ≡ c.nodes) where
   -- a done node is the one of its place at the end of the run
   record IsThere (end : World (Host Managed)) (i : ℕ) (n : NodeReport) : Type 0 where
@@ -88,12 +89,13 @@ module _ (c : Config) (programs : List Program) (limits : IsConfig c)
     ended : HasEnded node.core.process
 
   is_there : (end : World (Host Managed)) (parts : ℕ → List Mark) (i : ℕ) (n : NodeReport)
-      → AreParts (host_rules managed_ops) c (beginning c programs) parts end → parts i ≡ n.events
-      → IsDone c programs i n → IsThere end i n
+      → AreParts (host_rules managed_ops) c (beginning c opened programs) parts end → parts i
+      ≡ n.events
+      → IsDone c opened programs i n → IsThere end i n
   is_there end parts i n run list done =
       let first = done.of.list.node in
       let made =
-      (runs_are_their_parts (host_rules managed_ops) c (beginning c programs) end parts
+      (runs_are_their_parts (host_rules managed_ops) c (beginning c opened programs) end parts
       run).each
       i first done.of.list.there in
       let same : made.0 ≡ done.of.effect =
@@ -109,24 +111,24 @@ module _ (c : Config) (programs : List Program) (limits : IsConfig c)
       }
 
   module _ (nodes : List NodeReport) (count : length nodes ≡ length programs)
-      (done : (i : ℕ) (n : NodeReport) → slice_get nodes i ≡ Some n → IsDone c programs i n)
+      (done : (i : ℕ) (n : NodeReport) → slice_get nodes i ≡ Some n → IsDone c opened programs i n)
       (parts : ℕ → List Mark) (end : World (Host Managed))
-      (run : AreParts (host_rules managed_ops) c (beginning c programs) parts end)
+      (run : AreParts (host_rules managed_ops) c (beginning c opened programs) parts end)
       (lists : (i : ℕ) (n : NodeReport) → slice_get nodes i ≡ Some n → parts i ≡ n.events) where
     at_end : (i : ℕ) (n : NodeReport) → slice_get nodes i ≡ Some n → IsThere end i n
     at_end i n there = is_there end parts i n run (lists i n there) (done i n there)
 
     order : (whole : List Record) × IsWhole (host_rules managed_ops) c answered_by []
-        (beginning c programs) end run.moves run.leads whole
-    order = whole_end c (beginning c programs) end run.moves
-        (explained-along c programs limits each run.moves) run.leads
+        (beginning c opened programs) end run.moves run.leads whole
+    order = whole_end c (beginning c opened programs) end run.moves
+        (explained-along opened c programs limits each run.moves) run.leads
 
     -- at each point of its list
     never_torn : (i : ℕ) (n : NodeReport) → slice_get nodes i ≡ Some n
-        → IsNeverTorn c programs order.0 i n
+        → IsNeverTorn c opened programs order.0 i n
     never_torn i n there before after is effect list =
         untorn_at (host_rules managed_ops) c answered_by (serve-keeps managed_ops) order.0 i run.moves
-        (beginning c programs) end run.leads order.1.each list.node list.there before after
+        (beginning c opened programs) end run.leads order.1.each list.node list.there before after
         (sym (run.are i) ∙ lists i n there ∙ is) effect list.happen
 
     whole_run : (i : ℕ) (n : NodeReport) → slice_get nodes i ≡ Some n
@@ -134,7 +136,7 @@ module _ (c : Config) (programs : List Program) (limits : IsConfig c)
         × IsWholeRun program n.history n.output
     whole_run i n there =
         let e = at_end i n there in
-        let r = runs_led c programs limits each run.moves end run.leads i e.node e.there in (
+        let r = runs_led opened c programs limits each run.moves end run.leads i e.node e.there in (
           e.node.core.process.program,
           r.0,
           subst (λ h. IsWholeRun e.node.core.process.program h n.output) (sym e.history)
@@ -150,7 +152,8 @@ module _ (c : Config) (programs : List Program) (limits : IsConfig c)
         → part i order.0 ≡ n.history
     whole_part i n there =
         let e = at_end i n there in
-        let sound = sound-led c programs limits each run.moves end run.leads i e.node e.there in
+        let sound = sound-led opened c programs limits each run.moves end run.leads i e.node e.there
+        in
         let p = order.1.now.explained.parts i (answered_by e.node.core)
         (map_get (λ (m : Node (Host Managed)). answered_by m.core) end.nodes i e.node e.there) in
         let none : e.node.core.memory.asked ≡ None =
@@ -161,7 +164,7 @@ module _ (c : Config) (programs : List Program) (limits : IsConfig c)
         p.1 ∙ ap (λ l. e.node.core.history ++ l) empty ∙ append-nil e.node.core.history
         ∙ sym e.history
 
-    pub reported_as : IsReport c programs nodes
+    pub reported_as : IsReport c opened programs nodes
     reported_as = record {
       all = count;
       each = λ i n there. (done i n there).of;
@@ -173,23 +176,26 @@ module _ (c : Config) (programs : List Program) (limits : IsConfig c)
       order = order.0;
       explained = record { legal = order.1.now.explained.legal; parts = whole_part };
       untorn = never_torn;
-      exclusive = exclusive_along c programs limits each run.moves end run.leads;
-      no_breach = no_breach-led c programs limits each run.moves end run.leads;
+      exclusive = exclusive_along opened c programs limits each run.moves end run.leads;
+      no_breach = no_breach-led opened c programs limits each run.moves end run.leads;
     }
 
 -- what is known of a node by the calls that were handed to it holds whatever the others were handed
-done_over : (c : Config) (programs : List Program) (calls calls' : ℕ → List (List Call)) (i : ℕ)
-    (n : NodeReport) → calls i ≡ calls' i → IsDone c (all_handed calls programs) i n
-    → IsDone c (all_handed calls' programs) i n
-done_over c programs calls calls' i n same d = record {
+done_over : (c : Config) (opened : Opening) (programs : List Program)
+    (calls calls' : ℕ → List (List Call)) (i : ℕ)
+    (n : NodeReport) → calls i ≡ calls' i → IsDone c opened (all_handed calls programs) i n
+    → IsDone c opened (all_handed calls' programs) i n
+done_over c opened programs calls calls' i n same d = record {
   of = record {
     effect = d.of.effect;
-    list = list_over (host_rules managed_ops) c (beginning c programs) handing
-        (beginning c (all_handed calls programs)) (beginning c (all_handed calls' programs)) i
+    list = list_over (host_rules managed_ops) c (beginning c opened programs) handing
+        (beginning c opened (all_handed calls programs))
+        (beginning c opened (all_handed calls' programs)) i
         n.events d.of.effect
-        (same_start (host_rules managed_ops) c (beginning c programs) handing calls calls'
-        (beginning c (all_handed calls programs)) (beginning c (all_handed calls' programs)) i
-        (opened c programs calls) (opened c programs calls') same)
+        (same_start (host_rules managed_ops) c (beginning c opened programs) handing calls calls'
+        (beginning c opened (all_handed calls programs))
+        (beginning c opened (all_handed calls' programs)) i
+        (handed_start c opened programs calls) (handed_start c opened programs calls') same)
         d.of.list;
     history = d.of.history;
     output = d.of.output;
@@ -198,21 +204,24 @@ done_over c programs calls calls' i n same d = record {
 }
 
 -- what the starter was told is a report
-pub reported : (c : Config) (programs : List Program) → IsConfig c → length programs ≡ c.nodes
+pub reported : (c : Config) (opened : Opening) (programs : List Program) → IsConfig c → length
+    programs ≡ c.nodes
     → (nodes : List NodeReport) (v : View) → length nodes ≡ length programs
-    → AreTold c programs v nodes → Told c programs v → IsHandedReport c programs nodes
-reported c programs limits each nodes v count told t =
+    → AreTold c opened programs v nodes → Told c opened programs v → IsHandedReport c opened
+    programs nodes
+reported c opened programs limits each nodes v count told t =
     let known : (i : ℕ) (n : NodeReport) (there : slice_get nodes i ≡ Some n)
-    → IsNode (host_rules managed_ops) c (beginning c programs) handing t.calls t.parts i
+    → IsNode (host_rules managed_ops) c (beginning c opened programs) handing t.calls t.parts i
     (told i n there).calls n.events =
     (λ i n there. t.closed (record { node = i; handed = (told i n there).calls; events = n.events })
     (told i n there).closed) in (
       t.calls,
-      reported_as c (all_handed t.calls programs) limits (length-all_handed t.calls programs ∙ each)
+      reported_as c opened (all_handed t.calls programs) limits
+          (length-all_handed t.calls programs ∙ each)
           nodes (count ∙ sym (length-all_handed t.calls programs))
-          (λ i n there. done_over c programs (λ _. (told i n there).calls) t.calls i n
+          (λ i n there. done_over c opened programs (λ _. (told i n there).calls) t.calls i n
           (sym (known i n there).handed) (told i n there).done)
-          t.parts t.end (from_start c programs t.calls t.parts t.end t.run)
+          t.parts t.end (from_start c opened programs t.calls t.parts t.end t.run)
           (λ i n there. (known i n there).part),
     )
 
@@ -229,12 +238,17 @@ written_from calls k (p ∷ ps) all =
     (handed_written (calls k) p (All-head IsWritten p ps all))
     ∙ ap (λ qs. p ∷ qs) (written_from calls (k + 1) ps (All-tail IsWritten p ps all))
 
-pub reported_written : (c : Config) (programs : List Program) (nodes : List NodeReport)
-    → All IsWritten programs → IsHandedReport c programs nodes → IsReport c programs nodes
-reported_written c programs nodes all r =
-    subst (λ ps. IsReport c ps nodes) (written_from r.0 0 programs all) r.1
+pub reported_written : (c : Config) (opened : Opening) (programs : List Program)
+    (nodes : List NodeReport)
+    → All IsWritten programs → IsHandedReport c opened programs nodes → IsReport c opened programs
+    nodes
+reported_written c opened programs nodes all r =
+    subst (λ ps. IsReport c opened ps nodes) (written_from r.0 0 programs all) r.1
 
-pub if_written : (c : Config) (programs : List Program) (r : Result (List NodeReport) Fault)
-    → All IsWritten programs → IfOk r (IsHandedReport c programs) → IfOk r (IsReport c programs)
-if_written c programs (Ok nodes) all report = reported_written c programs nodes all report
-if_written c programs (Err fault) all report = tt
+pub if_written : (c : Config) (opened : Opening) (programs : List Program)
+    (r : Result (List NodeReport) Fault)
+    → All IsWritten programs → IfOk r (IsHandedReport c opened programs) → IfOk r
+    (IsReport c opened programs)
+if_written c opened programs (Ok nodes) all report = reported_written c opened programs nodes all
+    report
+if_written c opened programs (Err fault) all report = tt

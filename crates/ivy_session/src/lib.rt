@@ -11,6 +11,7 @@ mod report;
 mod session;
 mod workers;
 
+pub use ivy_ether::Opening;
 pub use ivy_seating::{Keep, Report, Seated, WireTurn};
 pub use ivy_workers::{Gate, Limits, OpenGate, Role};
 pub use printing::Printing;

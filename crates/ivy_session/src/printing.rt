@@ -1,6 +1,7 @@
 //! Sessions whose report is printed.
 ghost use Rattle.std.specs.Prelude.{◌≡◌, List, IfOk, IfErr, OnOk};
 ghost use Rattle.std.specs.Io.KnownBytes.{Appends};
+ghost use Rattle.ivy_host.specs.declared.opening.Opening.TheVariants.{Configured};
 ghost use Rattle.ivy_session.specs.Faults.{IsSessionFault};
 ghost use Rattle.ivy_seating.specs.Reports.{NodeReport, IsReport};
 
@@ -49,7 +50,7 @@ impl Session {
         R: Threads + Wait + Sync,
         G: Gate,
         W: Write,
-        ensures printed { IfOk result (λ printed. OnOk printed ((report : List NodeReport) × IsReport config programs.items report × Appends (W.contents out.old) (W.contents out.new) (P.text report))) }
+        ensures printed { IfOk result (λ printed. OnOk printed ((report : List NodeReport) × IsReport config Configured programs.items report × Appends (W.contents out.old) (W.contents out.new) (P.text report))) }
         ensures fault { IfErr result IsSessionFault }
     {
         let report = Session::run_keeping(rt, alloc, config, programs, limits, gate, keep)?;

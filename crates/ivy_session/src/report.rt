@@ -26,7 +26,7 @@ pub(crate) fn collect<S: Setup, H: Home, A: Allocator + Copy>(
     requires starter { starter.ether ≡ ether.now }
     requires empty { empty.items ≡ [] }
     requires places { vec_len seats ≤ vec_capacity empty }
-    ensures report { IfOk result (λ report. IsHandedReport S.config S.programs report) }
+    ensures report { IfOk result (λ report. IsHandedReport S.config S.opened S.programs report) }
     ensures keep { IfOk result (AllKeep keep) }
     ensures limit { IfErr result (λ fault. fault ≡ Fault.TurnLimit) }
 {

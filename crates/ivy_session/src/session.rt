@@ -12,7 +12,7 @@ ghost use Rattle.ivy_workers.specs.SessionLimits.{AreLimits};
 
 use crate::report::collect;
 use crate::workers::run_workers;
-use ivy_ether::{Ether, Pass, Setup, Wired};
+use ivy_ether::{Ether, Opening, Pass, Setup, Wired};
 use ivy_model::{Config, Fault};
 use ivy_program::Program;
 use ivy_seating::{Home, Keep, Plan, Report, seat_all};
@@ -42,7 +42,8 @@ pub fn lay<S: Setup, A: Allocator + Copy>(
     ensures stop { IfErr result IsStop }
 {
     let capacity = limits.capacity as usize;
-    Ether::<S, A>::new(alloc, config, programs, capacity, programs.len() + 1)
+    let passes = programs.len() + 1;
+    Ether::<S, A>::new(alloc, config, programs, capacity, passes)
 }
 
 /// Seats the nodes at their ether, runs their workers, and closes them [1, 17, 21].
@@ -60,6 +61,7 @@ where
     R: Threads + Wait + Sync,
     G: Gate,
     requires config { plan.now.config ≡ S.config }
+    requires opened { plan.now.opening ≡ S.opened }
     requires limits { IsConfig plan.now.config }
     requires programs { programs.items ≡ S.programs }
     requires each { length programs.items ≡ plan.now.config.nodes }
@@ -67,7 +69,7 @@ where
     requires starter { (starter.ether ≡ ether.now) × (starter.known ≡ beginner) }
     requires passes { All (IsNewcomer ether.now) passes.items }
     requires enough { vec_len passes ≡ length programs.items }
-    ensures report { IfOk result (λ report. IsHandedReport S.config S.programs report) }
+    ensures report { IfOk result (λ report. IsHandedReport S.config S.opened S.programs report) }
     ensures keep { IfOk result (AllKeep plan.now.keep) }
     ensures stop { IfErr result IsStop }
 {
@@ -85,7 +87,7 @@ where
     collect(ether, starter, seats, sites, nodes, plan.keep)
 }
 
-/// Lays the ether, and runs the programs of the nodes there [1, 17, 21].
+/// Lays the ether, and runs the programs of the nodes there, which begin so [1, 17, 21].
 fn play<S, A, R, G>(
     plan: &Plan<'_, '_, A, R, G>,
     programs: Vec<Program<A>, A>,
@@ -96,11 +98,12 @@ where
     R: Threads + Wait + Sync,
     G: Gate,
     requires config { plan.now.config ≡ S.config }
+    requires opened { plan.now.opening ≡ S.opened }
     requires limits { IsConfig plan.now.config }
     requires programs { programs.items ≡ S.programs }
     requires each { length programs.items ≡ plan.now.config.nodes }
     requires capacity { 0 < plan.now.limits.capacity }
-    ensures report { IfOk result (λ report. IsHandedReport S.config S.programs report) }
+    ensures report { IfOk result (λ report. IsHandedReport S.config S.opened S.programs report) }
     ensures keep { IfOk result (AllKeep plan.now.keep) }
     ensures stop { IfErr result IsStop }
 {
@@ -116,6 +119,7 @@ pub fn are_written<A: Allocator + Copy>(programs: &[Program<A>])
     ensures { All IsWritten programs.now }
 {
     for program in programs {
+        // for the proof: what holds of every program: it is written down.
         let _ = program.instructions();
     }
 }
@@ -137,7 +141,7 @@ impl Session {
         A: Allocator + Copy + Send + Sync,
         R: Threads + Wait + Sync,
         G: Gate,
-        ensures report { IfOk result (λ report. IsReport config programs.items report) }
+        ensures report { IfOk result (λ report. IsReport config Opening.Configured programs.items report) }
         ensures bad { IsErrOf result Fault.BadConfig ↔ ¬ (IsNarrow config × (length programs.items ≡ config.nodes) × AreLimits limits) }
         ensures keep { IfOk result (AllKeep Keep.All) }
         ensures fault { IfErr result IsSessionFault }
@@ -161,7 +165,7 @@ impl Session {
         A: Allocator + Copy + Send + Sync,
         R: Threads + Wait + Sync,
         G: Gate,
-        ensures report { IfOk result (λ report. IsReport config programs.items report) }
+        ensures report { IfOk result (λ report. IsReport config Opening.Configured programs.items report) }
         ensures bad { IsErrOf result Fault.BadConfig ↔ ¬ (IsNarrow config × (length programs.items ≡ config.nodes) × AreLimits limits) }
         ensures keep { IfOk result (AllKeep keep) }
         ensures fault { IfErr result IsSessionFault }
@@ -187,7 +191,39 @@ impl Session {
         A: Allocator + Copy + Send + Sync,
         R: Threads + Wait + Sync,
         G: Gate,
-        ensures report { IfOk result (λ report. IsReport config programs.items report) }
+        ensures report { IfOk result (λ report. IsReport config Opening.Configured programs.items report) }
+        ensures bad { IsErrOf result Fault.BadConfig ↔ ¬ (IsConfig config × (length programs.items ≡ config.nodes) × AreLimits limits) }
+        ensures keep { IfOk result (AllKeep keep) }
+        ensures fault { IfErr result IsSessionFault }
+    {
+        Session::run_opening(
+            rt,
+            alloc,
+            config,
+            programs,
+            limits,
+            gate,
+            keep,
+            Opening::Configured,
+        )
+    }
+
+    /// The same, of nodes that begin so: by the manager that the configuration names, or by steady hints [1, 2, 17, 21].
+    pub fn run_opening<A, R, G>(
+        rt: &R,
+        alloc: A,
+        config: Config,
+        programs: Vec<Program<A>, A>,
+        limits: Limits,
+        gate: &G,
+        keep: Keep,
+        opening: Opening,
+    ) -> Result<Report<A>, Fault>
+    where
+        A: Allocator + Copy + Send + Sync,
+        R: Threads + Wait + Sync,
+        G: Gate,
+        ensures report { IfOk result (λ report. IsReport config opening programs.items report) }
         ensures bad { IsErrOf result Fault.BadConfig ↔ ¬ (IsConfig config × (length programs.items ≡ config.nodes) × AreLimits limits) }
         ensures keep { IfOk result (AllKeep keep) }
         ensures fault { IfErr result IsSessionFault }
@@ -201,6 +237,7 @@ impl Session {
             rt,
             alloc,
             config,
+            opening,
             limits,
             gate,
             keep,

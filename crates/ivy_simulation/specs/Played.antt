@@ -9,8 +9,10 @@ use Rattle.ivy_texts.specs.declared.Settings.{Settings}
 use Rattle.ivy_texts.specs.Drawn.{seeded}
 use Rattle.ivy_texts.specs.Spelled.{SpellsSchedule}
 use Rattle.ivy_host.specs.stated.Hosts.{Host}
-use Rattle.ivy_host.specs.stated.Managers.{Managed, managed_ops}
-use Rattle.ivy_host.specs.stated.Openings.{opening}
+use Rattle.ivy_host.specs.declared.opening.Opening.{Opening}
+use Rattle.ivy_host.specs.declared.opening.Opening.TheVariants.{Configured}
+use Rattle.ivy_host.specs.stated.Managers.{Managed}
+use Rattle.ivy_host.specs.stated.Openings.{managed_start, opening}
 use Rattle.proof_worlds.specs.stated.Reached.{IsLedTo}
 use Rattle.ivy_simulation.specs.Nodes.{outputs_text, outputs_of, ends_text}
 use Rattle.ivy_simulation.specs.Simulated.{DrawnTo}
@@ -32,25 +34,32 @@ Adds old new = (text : List ℕ) × Appends old new text
 abbrev pub AddsLast : Option (List ℕ) → Option (List ℕ) → List ℕ → Type 0
 AddsLast old new last = (text : List ℕ) × Appends old new (text ++ last)
 
-module _ (c : Config) (programs : List Program) (old new : Option (List ℕ)) where
-  -- the moves led from the opening of these programs to a world, and after some trace its text was
+module _ (o : Opening) (c : Config) (programs : List Program) (old new : Option (List ℕ)) where
+  -- the moves led from this opening of these programs to a world, and after some trace its text was
   -- printed
-  pub record PrintsMoves (moves : List Move) : Type 0 where
+  pub record PrintsMovesBy (moves : List Move) : Type 0 where
     pub end : World (Host Managed)
-    pub led : IsLedTo c (opening managed_ops c programs) moves end
+    pub led : IsLedTo c (opening (managed_start o) c programs) moves end
     pub printed : AddsLast old new (world_text end)
 
-  -- so many moves that the seed draws led from the opening of these programs to a world, and its
+  -- so many moves that the seed draws led from this opening of these programs to a world, and its
   -- text was printed
-  pub record PrintsDrawn (seed moves : ℕ) : Type 0 where
+  pub record PrintsDrawnBy (seed moves : ℕ) : Type 0 where
     pub end : World (Host Managed)
-    pub drawn : DrawnTo c (seeded seed) moves (opening managed_ops c programs) end
+    pub drawn : DrawnTo c (seeded seed) moves (opening (managed_start o) c programs) end
     pub printed : Appends old new (world_text end)
 
--- the moves that the text says led from the opening of these programs to a world, and after some
+-- the moves that the text says led from this opening of these programs to a world, and after some
 -- trace its text was printed
-pub record PrintsSchedule (c : Config) (programs : List Program) (text : List ℕ)
+pub record PrintsScheduleBy (o : Opening) (c : Config) (programs : List Program) (text : List ℕ)
     (old new : Option (List ℕ)) : Type 0 where
   pub moves : List Move
   pub said : SpellsSchedule text moves
-  pub made : PrintsMoves c programs old new moves
+  pub made : PrintsMovesBy o c programs old new moves
+
+-- so it is of nodes that begin with the manager of their configuration
+abbrev pub PrintsDrawn : Config → List Program → Option (List ℕ) → Option (List ℕ) → ℕ → ℕ → Type 0
+PrintsDrawn = PrintsDrawnBy Configured
+
+abbrev pub PrintsSchedule : Config → List Program → List ℕ → Option (List ℕ) → Option (List ℕ) → Type 0
+PrintsSchedule = PrintsScheduleBy Configured

@@ -13,5 +13,5 @@ mod trace;
 
 pub use halt::Halt;
 pub use judging::check;
-pub use play::{sim, step};
+pub use play::{sim, step, step_opened};
 pub use print::{Outputs, print_outputs};

@@ -290,19 +290,19 @@ pub heard_delivers : (n v : SiteView) → v ≡ n → (k : Config) (f : Frame) (
     → IsRead v k f bytes w → (w ≡ verdict.NotMine → ⊥)
     → (h : H) (box new : Outbox) (events : List Mark) → IsHeard v f w h box
     → new ≡ with_holding box (holding.accepted_at (holding_of box) f)
-    → events ≡ v.events ++ Delivery bytes ∷ [] → SiteDelivers bytes w n (shown_of v.keep h new events)
+    → events ≡ v.events ++ Delivery bytes ∷ [] → SiteDelivers bytes w n (shown_of v.opened v.keep h new events)
 heard_delivers n v same k f bytes w r ne h box new events x is listed =
     let e : Effect H =
     record { after = record { core = h; link = accepted x.link f }; sent = x.sent } in
-    subst (λ y. SiteDelivers bytes w y (shown_of v.keep h new events)) same
+    subst (λ y. SiteDelivers bytes w y (shown_of v.opened v.keep h new events)) same
     (record {
       frame = f;
       spelled = spelled_here v k f bytes w r;
       is = r.is;
       effect = e;
       delivered = receives v k f bytes w r ∙ x.received;
-      after = ap (λ (b : Outbox). shown_of v.keep h b events) (after_heard v f w h box new r.is x is)
-          ∙ (ap (λ (es : List Mark). shown_of v.keep h (heard_box v x.link x.sent f w) es) listed
+      after = ap (λ (b : Outbox). shown_of v.opened v.keep h b events) (after_heard v f w h box new r.is x is)
+          ∙ (ap (λ (es : List Mark). shown_of v.opened v.keep h (heard_box v x.link x.sent f w) es) listed
           ∙ is_event v bytes w f.source e ne);
     })
 
@@ -319,18 +319,18 @@ pub heard_site : (v : SiteView) (k : Config) (f : Frame) (bytes : List ℕ) (w :
     → FitsLink v.config v.node.link → IsRead v k f bytes w → (w ≡ verdict.NotMine → ⊥)
     → (h : H) (box new : Outbox) (events : List Mark) → IsSite v → IsHeard v f w h box
     → new ≡ with_holding box (holding.accepted_at (holding_of box) f)
-    → events ≡ v.events ++ Delivery bytes ∷ [] → IsSite (shown_of v.keep h new events)
+    → events ≡ v.events ++ Delivery bytes ∷ [] → IsSite (shown_of v.opened v.keep h new events)
 heard_site v k f bytes w fits r ne h box new events site x is listed =
     let same = after_heard v f w h box new r.is x is in
     let limits : IsConfig v.config = subst IsConfig r.config r.limits in
-    let d : SiteDelivers bytes w v (shown_of v.keep h new events) =
+    let d : SiteDelivers bytes w v (shown_of v.opened v.keep h new events) =
     heard_delivers v v refl k f bytes w r ne h box new events x is listed in
     record {
       config = x.config ∙ site.config ∙ sym (ap (λ (b : Outbox). b.config) same);
       me = x.me ∙ site.me ∙ sym (ap (λ (b : Outbox). b.me) same);
       asking = x.asking site.asking;
-      made = delivery_made bytes w v (shown_of v.keep h new events) limits site.made d;
-      held = hearing-holds v (shown_of v.keep h new events) f w site.held (record {
+      made = delivery_made bytes w v (shown_of v.opened v.keep h new events) limits site.made d;
+      held = hearing-holds v (shown_of v.opened v.keep h new events) f w site.held (record {
         link = x.link;
         me = x.same_me;
         delivered = x.same;
@@ -342,7 +342,7 @@ heard_site v k f bytes w fits r ne h box new events site x is listed =
         same_me = ap (λ (b : Outbox). b.link.me) same ∙ (accepted-me x.link f ∙ x.same_me);
         config = ap (λ (b : Outbox). b.config) same;
         more = early_as w bytes;
-        early = (delivery_early bytes w v (shown_of v.keep h new events) limits site.made d).1;
+        early = (delivery_early bytes w v (shown_of v.opened v.keep h new events) limits site.made d).1;
       });
     }
 
@@ -359,10 +359,10 @@ pub heard_early : (v : SiteView) (k : Config) (f : Frame) (bytes : List ℕ) (w 
     → IsRead v k f bytes w → (w ≡ verdict.NotMine → ⊥)
     → (h : H) (box new : Outbox) (events : List Mark) → IsSite v → IsHeard v f w h box
     → new ≡ with_holding box (holding.accepted_at (holding_of box) f)
-    → events ≡ v.events ++ Delivery bytes ∷ [] → CameEarlyAs w bytes (shown_of v.keep h new events)
+    → events ≡ v.events ++ Delivery bytes ∷ [] → CameEarlyAs w bytes (shown_of v.opened v.keep h new events)
 heard_early v k f bytes w r ne h box new events site x is listed =
-    came_as bytes w v (shown_of v.keep h new events)
-    (delivery_early bytes w v (shown_of v.keep h new events) (subst IsConfig r.config r.limits) site.made
+    came_as bytes w v (shown_of v.opened v.keep h new events)
+    (delivery_early bytes w v (shown_of v.opened v.keep h new events) (subst IsConfig r.config r.limits) site.made
     (heard_delivers v v refl k f bytes w r ne h box new events x is listed)).1
 
 pub heard_few : (n v : SiteView) → v ≡ n → (f : Frame) (w : Verdict) (h : H) (box new : Outbox)

@@ -4,7 +4,7 @@ use Rattle.ivy_model.specs.declared.Call.{Call}
 use Rattle.ivy_host.specs.Handing.{handing}
 use Rattle.ivy_host.specs.stated.Hosts.{host_rules}
 use Rattle.ivy_host.specs.stated.Managers.{managed_ops}
-use Rattle.ivy_host.specs.stated.Openings.{first_node}
+use Rattle.ivy_host.specs.stated.Openings.{first_node, managed_start}
 use Rattle.ivy_host.proofs.HandedHosts.{unseen}
 use Rattle.ivy_moves.specs.Carrying.{EventsCarryOver, node_changed, effect_changed}
 use Rattle.ivy_moves.proofs.Unseen.{events-over}
@@ -18,9 +18,9 @@ use Rattle.ivy_site.specs.Sites.{IsSite, IsHeld, IsMadeByEvents, HoldsEarly, ear
 
 module _ (more : List (List Call)) (s : SiteView) (made : IsMadeByEvents s) where
   carried : EventsCarryOver (host_rules managed_ops) s.config (handing more)
-      (first_node managed_ops s.config s.me s.node.core.process.program) s.events made.effect
+      (first_node (managed_start s.opened) s.config s.me s.node.core.process.program) s.events made.effect
   carried = events-over (host_rules managed_ops) s.config (handing more) (unseen managed_ops more)
-      (first_node managed_ops s.config s.me s.node.core.process.program) s.events made.effect
+      (first_node (managed_start s.opened) s.config s.me s.node.core.process.program) s.events made.effect
       made.happen
 
   -- its events make it of the first node of the longer program
@@ -75,7 +75,7 @@ free_idle s h free = idle_by s.node.core.process s.node.core.memory.asked (λ ca
 -- the site with this program, which has come this far
 abbrev with_process : SiteView → Process → SiteView
 with_process v p =
-    shown_of v.keep (host_of v.node.core.memory p v.node.core.history) (box_of v) v.events
+    shown_of v.opened v.keep (host_of v.node.core.memory p v.node.core.history) (box_of v) v.events
 
 -- it is so once the calls were handed in
 pub after_hand : (more : List (List Call)) (v n : SiteView) → v ≡ n → (p : Process)

@@ -7,6 +7,7 @@ use Rattle.ivy_model.specs.declared.Row.TheVariants.{Loads, Stores}
 use Rattle.ivy_model.specs.stated.Legal.{HasWidth}
 use Rattle.ivy_model.specs.Rows.{calls_of, numbers_in, record_in, row}
 use Rattle.ivy_model.proofs.Rows.{calls-of-row, length-numbers_in, length-row}
+use Rattle.ivy_host.specs.declared.opening.Opening.{Opening}
 use Rattle.ivy_host.specs.stated.Managers.{Managed, managed_ops}
 use Rattle.ivy_alloc.specs.declared.CallProgress.TheVariants.{Given}
 use Rattle.ivy_memory.specs.AtOnce.{AnswerAtOnce}
@@ -29,9 +30,9 @@ use Rattle.ivy_site.proofs.Handed.{handed_site}
 use Rattle.ivy_site.proofs.Turned.{called_site, called_turn, has_turned}
 
 -- a site whose own code was answered each call of these rows
-abbrev at : Keep → NodeMemory Managed → List (List Call) → List Record → Outbox → List Mark → SiteView
-at keep m rows history box events =
-    shown_of keep (host_of m (asking rows None) history) box events
+abbrev at : Opening → Keep → NodeMemory Managed → List (List Call) → List Record → Outbox → List Mark → SiteView
+at opened keep m rows history box events =
+    shown_of opened keep (host_of m (asking rows None) history) box events
 
 -- the memory answers the call at once, whatever its number
 abbrev AtOnce : Record → NodeMemory Managed → NodeMemory Managed → Type 0
@@ -39,15 +40,15 @@ AtOnce r old new = (number : ℕ) → call_begun managed_ops old r.call [] numbe
     ≡ record { answer = Given r.reply; after = new; posted = [] }
 
 -- a site, and what one more call makes of it
-module _ (keep : Keep) (m mid : NodeMemory Managed) (rows : List (List Call)) (history : List Record)
-    (box : Outbox) (events : List Mark) (r : Record) (site : IsSite (at keep m rows history box events))
+module _ (opened : Opening) (keep : Keep) (m mid : NodeMemory Managed) (rows : List (List Call)) (history : List Record)
+    (box : Outbox) (events : List Mark) (r : Record) (site : IsSite (at opened keep m rows history box events))
     (idle : m.asked ≡ None) (width : HasWidth r.call) (mine : r.node ≡ box.me)
     (room : length history + 1 < 2 ^ 64) (once : AtOnce r m mid) where
   abbrev before : SiteView
-  before = at keep m rows history box events
+  before = at opened keep m rows history box events
 
   abbrev later : SiteView
-  later = at keep mid (rows ++ (r.call ∷ []) ∷ []) (history ++ r ∷ []) box (events ++ Turn ∷ [])
+  later = at opened keep mid (rows ++ (r.call ∷ []) ∷ []) (history ++ r ∷ []) box (events ++ Turn ∷ [])
 
   abbrev asks : Host Managed
   asks = host_of m (process_handed ((r.call ∷ []) ∷ []) (asking rows None)) history
@@ -102,49 +103,49 @@ record-width Loads node addr number = (3, omega arith, refl)
 record-width Stores node addr number = (3, omega arith, refl)
 
 -- the site once the calls of a row of words were answered, which are made one after another
-abbrev after : Keep → NodeMemory Managed → List (List Call) → List Record → Outbox → List Mark
+abbrev after : Opening → Keep → NodeMemory Managed → List (List Call) → List Record → Outbox → List Mark
     → List Record → SiteView
-after keep m rows history box events rs =
-    at keep m (rows ++ one_by_one (calls_of rs)) (history ++ rs) box (events ++ turns (length rs))
+after opened keep m rows history box events rs =
+    at opened keep m (rows ++ one_by_one (calls_of rs)) (history ++ rs) box (events ++ turns (length rs))
 
-after-one : (keep : Keep) (m : NodeMemory Managed) (rows : List (List Call)) (history : List Record)
+after-one : (opened : Opening) (keep : Keep) (m : NodeMemory Managed) (rows : List (List Call)) (history : List Record)
     (box : Outbox) (events : List Mark) (r : Record) (rs : List Record)
-    → after keep m (rows ++ (r.call ∷ []) ∷ []) (history ++ r ∷ []) box (events ++ Turn ∷ []) rs
-    ≡ after keep m rows history box events (r ∷ rs)
-after-one keep m rows history box events r rs =
-    ap (λ (ks : List (List Call)). at keep m ks ((history ++ r ∷ []) ++ rs) box
+    → after opened keep m (rows ++ (r.call ∷ []) ∷ []) (history ++ r ∷ []) box (events ++ Turn ∷ []) rs
+    ≡ after opened keep m rows history box events (r ∷ rs)
+after-one opened keep m rows history box events r rs =
+    ap (λ (ks : List (List Call)). at opened keep m ks ((history ++ r ∷ []) ++ rs) box
     ((events ++ Turn ∷ []) ++ turns (length rs))) (append_assoc rows ((r.call ∷ []) ∷ []) (one_by_one (calls_of rs)))
-    ∙ ap (λ (hs : List Record). at keep m (rows ++ one_by_one (calls_of (r ∷ rs))) hs box
+    ∙ ap (λ (hs : List Record). at opened keep m (rows ++ one_by_one (calls_of (r ∷ rs))) hs box
     ((events ++ Turn ∷ []) ++ turns (length rs))) (append_assoc history (r ∷ []) rs)
-    ∙ ap (λ (es : List Mark). at keep m (rows ++ one_by_one (calls_of (r ∷ rs))) (history ++ r ∷ rs) box es)
+    ∙ ap (λ (es : List Mark). at opened keep m (rows ++ one_by_one (calls_of (r ∷ rs))) (history ++ r ∷ rs) box es)
     (append_assoc events (Turn ∷ []) (turns (length rs)))
 
-after-none : (keep : Keep) (m : NodeMemory Managed) (rows : List (List Call)) (history : List Record)
+after-none : (opened : Opening) (keep : Keep) (m : NodeMemory Managed) (rows : List (List Call)) (history : List Record)
     (box : Outbox) (events : List Mark)
-    → after keep m rows history box events [] ≡ at keep m rows history box events
-after-none keep m rows history box events =
-    ap (λ (ks : List (List Call)). at keep m ks (history ++ []) box (events ++ [])) (append-nil rows)
-    ∙ ap (λ (hs : List Record). at keep m rows hs box (events ++ [])) (append-nil history)
-    ∙ ap (λ (es : List Mark). at keep m rows history box es) (append-nil events)
+    → after opened keep m rows history box events [] ≡ at opened keep m rows history box events
+after-none opened keep m rows history box events =
+    ap (λ (ks : List (List Call)). at opened keep m ks (history ++ []) box (events ++ [])) (append-nil rows)
+    ∙ ap (λ (hs : List Record). at opened keep m rows hs box (events ++ [])) (append-nil history)
+    ∙ ap (λ (es : List Mark). at opened keep m rows history box es) (append-nil events)
 
 -- the calls of a row of words are answered, and the site stays one
 pub record IsAfterRow (kind : Row) (numbers : List ℕ) (addr : ℕ) (old new : SiteView) : Type 0 where
   pub answered : AreAnswered (row kind old.me addr numbers) old new
   pub site : IsSite new
 
-row_at : (kind : Row) (numbers : List ℕ) (addr : ℕ) (keep : Keep) (m new : NodeMemory Managed)
+row_at : (kind : Row) (numbers : List ℕ) (addr : ℕ) (opened : Opening) (keep : Keep) (m new : NodeMemory Managed)
     (rows : List (List Call)) (history : List Record) (box : Outbox) (events : List Mark)
-    → IsSite (at keep m rows history box events) → m.asked ≡ None
+    → IsSite (at opened keep m rows history box events) → m.asked ≡ None
     → length history + length numbers < 2 ^ 64
     → AnswerAtOnce managed_ops (row kind box.me addr numbers) m new
-    → IsAfterRow kind numbers addr (at keep m rows history box events)
-    (after keep new rows history box events (row kind box.me addr numbers))
-row_at kind [] addr keep m new rows history box events site idle room is =
-    let same : after keep new rows history box events [] ≡ at keep m rows history box events =
-    after-none keep new rows history box events
-    ∙ ap (λ (x : NodeMemory Managed). at keep x rows history box events) is in
+    → IsAfterRow kind numbers addr (at opened keep m rows history box events)
+    (after opened keep new rows history box events (row kind box.me addr numbers))
+row_at kind [] addr opened keep m new rows history box events site idle room is =
+    let same : after opened keep new rows history box events [] ≡ at opened keep m rows history box events =
+    after-none opened keep new rows history box events
+    ∙ ap (λ (x : NodeMemory Managed). at opened keep x rows history box events) is in
     record { answered = same; site = subst IsSite (sym same) site }
-row_at kind (number ∷ more) addr keep m new rows history box events site idle room is =
+row_at kind (number ∷ more) addr opened keep m new rows history box events site idle room is =
     let r : Record = record_in kind box.me addr number in
     let mid : NodeMemory Managed = is.0 in
     let small : length history + 1 < 2 ^ 64 = omega (arith, room) in
@@ -152,21 +153,21 @@ row_at kind (number ∷ more) addr keep m new rows history box events site idle 
     omega (arith, room, length-append history (r ∷ [])) in
     let width : HasWidth r.call = record-width kind box.me addr number in
     let mine : r.node ≡ box.me = record-node kind box.me addr number in
-    let first : BeginsCall r.call (Some r.reply) (at keep m rows history box events)
-    (at keep mid (rows ++ (r.call ∷ []) ∷ []) (history ++ r ∷ []) box (events ++ Turn ∷ [])) =
-    once_answered keep m mid rows history box events r site idle width mine small is.1 in
-    let then : IsSite (at keep mid (rows ++ (r.call ∷ []) ∷ []) (history ++ r ∷ []) box (events ++ Turn ∷ [])) =
-    once_site keep m mid rows history box events r site idle width mine small is.1 in
-    let rest = row_at kind more (addr + 8) keep mid new (rows ++ (r.call ∷ []) ∷ []) (history ++ r ∷ []) box
+    let first : BeginsCall r.call (Some r.reply) (at opened keep m rows history box events)
+    (at opened keep mid (rows ++ (r.call ∷ []) ∷ []) (history ++ r ∷ []) box (events ++ Turn ∷ [])) =
+    once_answered opened keep m mid rows history box events r site idle width mine small is.1 in
+    let then : IsSite (at opened keep mid (rows ++ (r.call ∷ []) ∷ []) (history ++ r ∷ []) box (events ++ Turn ∷ [])) =
+    once_site opened keep m mid rows history box events r site idle width mine small is.1 in
+    let rest = row_at kind more (addr + 8) opened keep mid new (rows ++ (r.call ∷ []) ∷ []) (history ++ r ∷ []) box
     (events ++ Turn ∷ []) then is.2 next is.3 in
     let rs : List Record = row kind box.me (addr + 8) more in
-    let all = after-one keep new rows history box events r rs in
+    let all = after-one opened keep new rows history box events r rs in
     record {
       answered = (
-        at keep mid (rows ++ (r.call ∷ []) ∷ []) (history ++ r ∷ []) box (events ++ Turn ∷ []),
+        at opened keep mid (rows ++ (r.call ∷ []) ∷ []) (history ++ r ∷ []) box (events ++ Turn ∷ []),
         first,
         subst (λ (s : SiteView). AreAnswered rs
-            (at keep mid (rows ++ (r.call ∷ []) ∷ []) (history ++ r ∷ []) box (events ++ Turn ∷ [])) s) all
+            (at opened keep mid (rows ++ (r.call ∷ []) ∷ []) (history ++ r ∷ []) box (events ++ Turn ∷ [])) s) all
             rest.answered,
       );
       site = subst IsSite all rest.site;
@@ -184,18 +185,18 @@ pub row_made : (kind : Row) (n v : SiteView) → v ≡ n → IsSite v → Rests 
     → (i : ℕ) → i ≡ v.me
     → h.history ≡ v.node.core.history ++ row kind i addr (numbers_in words bytes)
     → (events : List Mark) → events ≡ v.events ++ turns words
-    → IsAfterRow kind (numbers_in words bytes) addr n (shown_of v.keep h (box_of v) events)
+    → IsAfterRow kind (numbers_in words bytes) addr n (shown_of v.opened v.keep h (box_of v) events)
 row_made kind n v same site rests idle words bytes addr room m hits h next goes i mine kept events
     listed =
     let numbers : List ℕ = numbers_in words bytes in
     let many : length numbers ≡ words = length-numbers_in words bytes in
     let rows : List (List Call) = rests.0 in
     let rs : List Record = row kind v.me addr numbers in
-    let is : v ≡ at v.keep v.node.core.memory rows v.node.core.history (box_of v) v.events =
+    let is : v ≡ at v.opened v.keep v.node.core.memory rows v.node.core.history (box_of v) v.events =
     ap (λ (q : Process).
-    shown_of v.keep (host_of v.node.core.memory q v.node.core.history) (box_of v) v.events)
+    shown_of v.opened v.keep (host_of v.node.core.memory q v.node.core.history) (box_of v) v.events)
     rests.1 in
-    let made = row_at kind numbers addr v.keep v.node.core.memory m rows v.node.core.history
+    let made = row_at kind numbers addr v.opened v.keep v.node.core.memory m rows v.node.core.history
     (box_of v) v.events (subst IsSite is site) idle (omega (arith, room, many)) hits in
     let program : h.process ≡ asking (rows ++ one_by_one (calls_of rs)) None =
     goes rows rests.1
@@ -204,10 +205,10 @@ row_made kind n v same site rests idle words bytes addr room m hits h next goes 
     kept ∙ ap (λ (j : ℕ). v.node.core.history ++ row kind j addr numbers) mine in
     let marks : events ≡ v.events ++ turns (length rs) =
     listed ∙ ap (λ (j : ℕ). v.events ++ turns j) (sym (length-row kind v.me addr numbers ∙ many)) in
-    let to : shown_of v.keep h (box_of v) events
-    ≡ after v.keep m rows v.node.core.history (box_of v) v.events rs =
-    (λ k. shown_of v.keep (host_of (next k) (program k) (history k)) (box_of v) (marks k)) in
-    subst (λ (o : SiteView). IsAfterRow kind numbers addr o (shown_of v.keep h (box_of v) events))
+    let to : shown_of v.opened v.keep h (box_of v) events
+    ≡ after v.opened v.keep m rows v.node.core.history (box_of v) v.events rs =
+    (λ k. shown_of v.opened v.keep (host_of (next k) (program k) (history k)) (box_of v) (marks k)) in
+    subst (λ (o : SiteView). IsAfterRow kind numbers addr o (shown_of v.opened v.keep h (box_of v) events))
     (sym is ∙ same)
     (subst (λ (x : SiteView). IsAfterRow kind numbers addr
-    (at v.keep v.node.core.memory rows v.node.core.history (box_of v) v.events) x) (sym to) made)
+    (at v.opened v.keep v.node.core.memory rows v.node.core.history (box_of v) v.events) x) (sym to) made)

@@ -12,9 +12,10 @@ use Rattle.ivy_wire.proofs.Frames.{spelled_once}
 use Rattle.ivy_link.specs.declared.Verdict.{Verdict}
 use Rattle.ivy_link.specs.stated.Accepted.{offered}
 use Rattle.ivy_link.specs.declared.Verdict.TheVariants as verdict
+use Rattle.ivy_host.specs.declared.opening.Opening.{Opening}
 use Rattle.ivy_host.specs.stated.Managers.{Managed, managed_ops}
 use Rattle.ivy_host.specs.stated.Hosts.{Host, host_rules}
-use Rattle.ivy_host.specs.stated.Openings.{first_node}
+use Rattle.ivy_host.specs.stated.Openings.{first_node, managed_start}
 use Rattle.ivy_program.specs.stated.Programs.{Program}
 use Rattle.ivy_moves.specs.stated.Cores.{Core}
 use Rattle.ivy_moves.specs.declared.keep.Keep.{Keep}
@@ -29,7 +30,7 @@ use Rattle.ivy_site.specs.declared.turn.Turn.TheVariants.{Idle, Moved, Ended}
 use Rattle.ivy_host.proofs.Programs.{turned-program, posting-core, delivered-program}
 use Rattle.ivy_link.specs.Outboxes.{Outbox, TakesFirst}
 use Rattle.ivy_site.specs.SiteView.{SiteView, after_hearing, after_delivery, after_pulse_to, box_of, boxed}
-use Rattle.ivy_site.specs.Sites.{early_at, IsSite, HoldsEarly, IsMadeByEvents, AfterTurn, SiteDelivers, first_keeping, IsSentBy}
+use Rattle.ivy_site.specs.Sites.{early_at, IsSite, HoldsEarly, IsMadeByEvents, AfterTurn, SiteDelivers, first_opened, IsSentBy}
 
 abbrev rules : Core (Host Managed)
 rules = host_rules managed_ops
@@ -39,25 +40,31 @@ program_in s = s.node.core.process.program
 
 -- the events so far, and one effect more
 grown : (old new : SiteView) (ms : List Mark) (e : Effect (Host Managed)) → IsMadeByEvents old
-    → AllHappen rules old.config old.node ms e → new.config ≡ old.config → new.me ≡ old.me
-    → program_in new ≡ program_in old
+    → AllHappen rules old.config old.node ms e → new.config ≡ old.config
+    → new.opened ≡ old.opened → new.me ≡ old.me → program_in new ≡ program_in old
     → new.events ≡ old.events ++ ms → new.node ≡ e.after → new.waiting ≡ old.waiting ++ e.sent
     → IsMadeByEvents new
-grown old new ms e h more config me program events node waiting = record {
+grown old new ms e h more config opened me program events node waiting = record {
   effect = followed_by h.effect e;
   happen =
-      subst (λ p. AllHappen rules new.config (first_node managed_ops new.config new.me p) new.events
+      subst (λ p. AllHappen rules new.config
+      (first_node (managed_start new.opened) new.config new.me p) new.events
       (followed_by h.effect e)) (sym program)
-      (subst (λ i. AllHappen rules new.config (first_node managed_ops new.config i (program_in old))
+      (subst (λ i. AllHappen rules new.config
+      (first_node (managed_start new.opened) new.config i (program_in old))
       new.events (followed_by h.effect e)) (sym me)
-      (subst (λ c. AllHappen rules c (first_node managed_ops c old.me (program_in old)) new.events
+      (subst (λ o. AllHappen rules new.config
+      (first_node (managed_start o) new.config old.me (program_in old)) new.events
+      (followed_by h.effect e)) (sym opened)
+      (subst (λ c. AllHappen rules c
+      (first_node (managed_start old.opened) c old.me (program_in old)) new.events
       (followed_by h.effect e)) (sym config)
       (subst (λ ms. AllHappen rules old.config
-      (first_node managed_ops old.config old.me (program_in old)) ms (followed_by h.effect e))
+      (first_node (managed_start old.opened) old.config old.me (program_in old)) ms (followed_by h.effect e))
       (sym events)
-      (all-append rules old.config (first_node managed_ops old.config old.me (program_in old))
+      (all-append rules old.config (first_node (managed_start old.opened) old.config old.me (program_in old))
       old.events ms h.effect e h.happen
-      (subst (λ n. AllHappen rules old.config n ms e) h.node more)))));
+      (subst (λ n. AllHappen rules old.config n ms e) h.node more))))));
   node = node;
   taken = h.taken;
   waits = ap (λ l. l ++ e.sent) h.waits ∙ append_assoc h.taken old.waiting e.sent
@@ -77,7 +84,8 @@ turn_made Moved old new h after =
     grown old new (Turn ∷ []) after.effect h
     (single rules old.config old.node Turn after.effect
     ((after.outcome, after.turn), ap (turned_to rules old.node) after.turn ∙ after.sent))
-    (ap (λ (s : SiteView). s.config) after.after) (ap (λ (s : SiteView). s.me) after.after)
+    (ap (λ (s : SiteView). s.config) after.after) (ap (λ (s : SiteView). s.opened) after.after)
+    (ap (λ (s : SiteView). s.me) after.after)
     (ap program_in after.after
     ∙ ap (λ (k : Host Managed). k.process.program)
     (posting-core old.node after.outcome.after after.outcome.posted after.effect after.sent)
@@ -94,7 +102,8 @@ delivered_made bytes v old new h d mine is limits w after =
     grown old new (Delivery bytes ∷ []) d.effect h
     (single rules old.config old.node (Delivery bytes) d.effect
     ((λ not. mine (sym is ∙ not)), d.delivered))
-    (ap (λ (s : SiteView). s.config) after) (ap (λ (s : SiteView). s.me) after)
+    (ap (λ (s : SiteView). s.config) after) (ap (λ (s : SiteView). s.opened) after)
+    (ap (λ (s : SiteView). s.me) after)
     (ap program_in after
     ∙ delivered-program old.config limits old.node d.frame bytes d.effect d.spelled d.delivered)
     (ap (λ (s : SiteView). s.events) after) (ap (λ (s : SiteView). s.node) after)
@@ -134,11 +143,11 @@ pub delivery_made : (bytes : List ℕ) (v : Verdict) (old new : SiteView) → Is
 delivery_made bytes v old new limits h d = made_as bytes v old new limits h d v refl
 
 -- the first site
-pub first_made : (keep : Keep) (c : Config) (me : ℕ) (program : Program)
-    → IsMadeByEvents (first_keeping keep c me program)
-first_made keep c me program =
+pub first_made : (opened : Opening) (keep : Keep) (c : Config) (me : ℕ) (program : Program)
+    → IsMadeByEvents (first_opened opened keep c me program)
+first_made opened keep c me program =
     record {
-      effect = stays (first_node managed_ops c me program);
+      effect = stays (first_node (managed_start opened) c me program);
       happen = refl;
       node = refl;
       taken = [];
@@ -146,9 +155,9 @@ first_made keep c me program =
     }
 
 -- nothing is held
-first_holds : (keep : Keep) (c : Config) (me : ℕ) (program : Program)
-    → HoldsEarly (first_keeping keep c me program)
-first_holds keep c me program from place bytes is =
+first_holds : (opened : Opening) (keep : Keep) (c : Config) (me : ℕ) (program : Program)
+    → HoldsEarly (first_opened opened keep c me program)
+first_holds opened keep c me program from place bytes is =
     elim (cases_lt from c.nodes) [
       | inl lt ↦
           absurd (none-some bytes
@@ -169,16 +178,16 @@ first_holds keep c me program from place bytes is =
           (omega (arith, past, length-replicate {A = Option (List ℕ)} 32 None))
     ]
 
-pub first_site : (keep : Keep) (c : Config) (me : ℕ) (program : Program) (s : SiteView)
-    → s ≡ first_keeping keep c me program → IsSite s
-first_site keep c me program s is =
+pub first_site : (opened : Opening) (keep : Keep) (c : Config) (me : ℕ) (program : Program) (s : SiteView)
+    → s ≡ first_opened opened keep c me program → IsSite s
+first_site opened keep c me program s is =
     subst IsSite (sym is)
     (record {
       config = refl;
       me = refl;
       asking = λ call asked. absurd (none-some call asked);
-      made = first_made keep c me program;
-      held = first_holds keep c me program;
+      made = first_made opened keep c me program;
+      held = first_holds opened keep c me program;
     })
 
 -- a pulse
@@ -188,7 +197,8 @@ unfolding pulsing
 pulse_made-on to old new h after =
     grown old new (pulse_marks to (pulsing old.node to).sent) (pulsing old.node to) h
     (pulsing-marks rules old.config old.node to (pulsing old.node to).sent refl)
-    (ap (λ (s : SiteView). s.config) after) (ap (λ (s : SiteView). s.me) after) (ap program_in after)
+    (ap (λ (s : SiteView). s.config) after) (ap (λ (s : SiteView). s.opened) after)
+    (ap (λ (s : SiteView). s.me) after) (ap program_in after)
     (ap (λ (s : SiteView). s.events) after) (ap (λ (s : SiteView). s.node) after)
     (ap (λ (s : SiteView). s.waiting) after)
 
@@ -248,18 +258,19 @@ all_taken s h = record {
 
 -- what came too early by more events
 early_grown : (old new : SiteView) (ms : List Mark) → IsMadeByEvents old → new.config ≡ old.config
-    → new.me ≡ old.me → program_in new ≡ program_in old → new.events ≡ old.events ++ ms
+    → new.opened ≡ old.opened → new.me ≡ old.me → program_in new ≡ program_in old → new.events ≡ old.events ++ ms
     → early_at new ≡ early_at old ++ early_in rules old.config old.node ms
-early_grown old new ms h config me program events =
-    ap (λ p. early_in rules new.config (first_node managed_ops new.config new.me p) new.events)
-    program
-    ∙ ap (λ i. early_in rules new.config (first_node managed_ops new.config i (program_in old))
-    new.events) me
-    ∙ ap (λ c. early_in rules c (first_node managed_ops c old.me (program_in old)) new.events)
-    config
-    ∙ ap (early_in rules old.config (first_node managed_ops old.config old.me (program_in old)))
-    events
-    ∙ early-append rules old.config (first_node managed_ops old.config old.me (program_in old))
+early_grown old new ms h config opened me program events =
+    ap (λ p. early_in rules new.config (first_node (managed_start new.opened) new.config new.me p)
+    new.events) program
+    ∙ ap (λ i. early_in rules new.config
+    (first_node (managed_start new.opened) new.config i (program_in old)) new.events) me
+    ∙ ap (λ o. early_in rules new.config
+    (first_node (managed_start o) new.config old.me (program_in old)) new.events) opened
+    ∙ ap (λ c. early_in rules c (first_node (managed_start old.opened) c old.me (program_in old))
+    new.events) config
+    ∙ ap (early_in rules old.config (first_node (managed_start old.opened) old.config old.me (program_in old))) events
+    ∙ early-append rules old.config (first_node (managed_start old.opened) old.config old.me (program_in old))
     old.events ms h.effect h.happen
     ∙ ap (λ n. early_at old ++ early_in rules old.config n ms) (sym h.node)
 
@@ -273,7 +284,7 @@ turn_early Idle old new h after = early_same old new after.1
 turn_early Ended old new h after = early_same old new after.2
 turn_early Moved old new h after =
     early_grown old new (Turn ∷ []) h (ap (λ (s : SiteView). s.config) after.after)
-    (ap (λ (s : SiteView). s.me) after.after)
+    (ap (λ (s : SiteView). s.opened) after.after) (ap (λ (s : SiteView). s.me) after.after)
     (ap program_in after.after
     ∙ ap (λ (k : Host Managed). k.process.program)
     (posting-core old.node after.outcome.after after.outcome.posted after.effect after.sent)
@@ -290,7 +301,8 @@ pub pulse_early : (to : ℕ) (old new : SiteView) → IsMadeByEvents old
 unfolding pulsing
 pulse_early to old new h after =
     early_grown old new (pulse_marks to (pulsing old.node to).sent) h
-    (ap (λ (s : SiteView). s.config) after) (ap (λ (s : SiteView). s.me) after) (ap program_in after)
+    (ap (λ (s : SiteView). s.config) after) (ap (λ (s : SiteView). s.opened) after)
+    (ap (λ (s : SiteView). s.me) after) (ap program_in after)
     (ap (λ (s : SiteView). s.events) after)
     ∙ ap (λ l. early_at old ++ l) (pulse_nothing old.node old.config to (pulsing old.node to).sent)
 
@@ -302,7 +314,7 @@ delivered_early : (bytes : List ℕ) (v : Verdict) (old new : SiteView) → IsCo
     → early_at new ≡ early_at old ++ early_as v bytes
 delivered_early bytes v old new limits h d w after is =
     early_grown old new (Delivery bytes ∷ []) h (ap (λ (s : SiteView). s.config) after)
-    (ap (λ (s : SiteView). s.me) after)
+    (ap (λ (s : SiteView). s.opened) after) (ap (λ (s : SiteView). s.me) after)
     (ap program_in after
     ∙ delivered-program old.config limits old.node d.frame bytes d.effect d.spelled d.delivered)
     (ap (λ (s : SiteView). s.events) after)

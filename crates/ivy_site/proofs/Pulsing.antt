@@ -30,18 +30,18 @@ none-marks to (f ∷ fs) none = absurd (none (λ e. absurd cc))
 pulse_is : (n v : SiteView) → v ≡ n → (to : ℕ) (box : Outbox) (events : List Mark)
     → box ≡ with_sending (box_of v) (pulsed v.node.link to)
     → events ≡ v.events ++ pulse_marks to (map spelling (frames_again v.node.link to))
-    → shown_of v.keep v.node.core box events ≡ after_pulse_to n to (pulsing n.node to)
+    → shown_of v.opened v.keep v.node.core box events ≡ after_pulse_to n to (pulsing n.node to)
 unfolding pulsing
 pulse_is n v same to box events sent listed =
-    subst (λ (x : SiteView). shown_of v.keep v.node.core box events ≡ after_pulse_to x to (pulsing x.node to)) same
-    (ap (λ (b : Outbox). shown_of v.keep v.node.core b events) sent
-    ∙ ap (λ (es : List Mark). shown_of v.keep v.node.core (with_sending (box_of v) (pulsed v.node.link to)) es)
+    subst (λ (x : SiteView). shown_of v.opened v.keep v.node.core box events ≡ after_pulse_to x to (pulsing x.node to)) same
+    (ap (λ (b : Outbox). shown_of v.opened v.keep v.node.core b events) sent
+    ∙ ap (λ (es : List Mark). shown_of v.opened v.keep v.node.core (with_sending (box_of v) (pulsed v.node.link to)) es)
     listed)
 
 pub pulse_made : (n v : SiteView) → v ≡ n → (to : ℕ) (box : Outbox) (reserved events : List Mark)
     → box ≡ with_sending (box_of v) (pulsed v.node.link to)
     → frames_again v.node.link to ≢ [] → reserved ≡ v.events → events ≡ reserved ++ Pulse to ∷ []
-    → shown_of v.keep v.node.core box events ≡ after_pulse_to n to (pulsing n.node to)
+    → shown_of v.opened v.keep v.node.core box events ≡ after_pulse_to n to (pulsing n.node to)
 pulse_made n v same to box reserved events sent some room listed =
     pulse_is n v same to box events sent
     (listed ∙ (ap (λ (es : List Mark). es ++ Pulse to ∷ []) room
@@ -51,7 +51,7 @@ pulse_made n v same to box reserved events sent some room listed =
 pub pulse_none : (n v : SiteView) → v ≡ n → (to : ℕ) (box : Outbox) (events : List Mark)
     → box ≡ with_sending (box_of v) (pulsed v.node.link to)
     → (frames_again v.node.link to ≢ [] → ⊥) → events ≡ v.events
-    → shown_of v.keep v.node.core box events ≡ after_pulse_to n to (pulsing n.node to)
+    → shown_of v.opened v.keep v.node.core box events ≡ after_pulse_to n to (pulsing n.node to)
 pulse_none n v same to box events sent none room =
     pulse_is n v same to box events sent
     (room ∙ (sym (append-nil v.events)

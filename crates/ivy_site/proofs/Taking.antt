@@ -7,6 +7,7 @@ use Rattle.ivy_model.specs.declared.Reply.{Reply}
 use Rattle.ivy_model.specs.declared.Row.{Row}
 use Rattle.ivy_model.specs.Rows.{calls_of, numbers_in, record_in, row}
 use Rattle.ivy_model.proofs.Rows.{length-numbers_in, length-row}
+use Rattle.ivy_host.specs.declared.opening.Opening.{Opening}
 use Rattle.ivy_host.specs.stated.Hosts.{Host}
 use Rattle.ivy_host.specs.stated.Managers.{Managed, managed_ops}
 use Rattle.ivy_alloc.specs.declared.CallProgress.TheVariants.{Given}
@@ -34,17 +35,17 @@ abbrev replies_of : List Record → List Reply
 replies_of records = map (λ (r : Record). r.reply) records
 
 -- a site whose call in progress has its reply, and what taking that makes of it
-module _ (keep : Keep) (m mid : NodeMemory Managed) (p : Process) (history : List Record)
+module _ (opened : Opening) (keep : Keep) (m mid : NodeMemory Managed) (p : Process) (history : List Record)
     (box : Outbox) (events : List Mark) (r : Record)
-    (site : IsSite (shown_of keep (host_of m p history) box events))
+    (site : IsSite (shown_of opened keep (host_of m p history) box events))
     (asked : m.asked ≡ Some r.call) (mine : r.node ≡ box.me)
     (there : polled managed_ops m ≡ record { answer = Given r.reply; after = mid; posted = [] }) where
   abbrev before : SiteView
-  before = shown_of keep (host_of m p history) box events
+  before = shown_of opened keep (host_of m p history) box events
 
   abbrev later : SiteView
   later =
-      shown_of keep (host_of mid (answered_with p r.reply) (history ++ r ∷ [])) box
+      shown_of opened keep (host_of mid (answered_with p r.reply) (history ++ r ∷ [])) box
       (events ++ Turn ∷ [])
 
   posts : (polled managed_ops m).posted ≡ []
@@ -79,68 +80,68 @@ module _ (keep : Keep) (m mid : NodeMemory Managed) (p : Process) (history : Lis
       events (events ++ Turn ∷ []) site refl turn refl refl
 
 -- the site once these replies were taken, and its memory is this
-abbrev after : Keep → NodeMemory Managed → Process → List Record → Outbox → List Mark
+abbrev after : Opening → Keep → NodeMemory Managed → Process → List Record → Outbox → List Mark
     → List Record → SiteView
-after keep m p history box events rs =
-    shown_of keep (host_of m (answered_all p (replies_of rs)) (history ++ rs)) box
+after opened keep m p history box events rs =
+    shown_of opened keep (host_of m (answered_all p (replies_of rs)) (history ++ rs)) box
     (events ++ turns (length rs))
 
-after-one : (keep : Keep) (m : NodeMemory Managed) (p : Process) (history : List Record)
+after-one : (opened : Opening) (keep : Keep) (m : NodeMemory Managed) (p : Process) (history : List Record)
     (box : Outbox) (events : List Mark) (r : Record) (rs : List Record)
-    → after keep m (answered_with p r.reply) (history ++ r ∷ []) box (events ++ Turn ∷ []) rs
-    ≡ after keep m p history box events (r ∷ rs)
-after-one keep m p history box events r rs =
+    → after opened keep m (answered_with p r.reply) (history ++ r ∷ []) box (events ++ Turn ∷ []) rs
+    ≡ after opened keep m p history box events (r ∷ rs)
+after-one opened keep m p history box events r rs =
     ap (λ (hs : List Record).
-    shown_of keep (host_of m (answered_all p (replies_of (r ∷ rs))) hs) box
+    shown_of opened keep (host_of m (answered_all p (replies_of (r ∷ rs))) hs) box
     ((events ++ Turn ∷ []) ++ turns (length rs))) (append_assoc history (r ∷ []) rs)
     ∙ ap (λ (es : List Mark).
-    shown_of keep (host_of m (answered_all p (replies_of (r ∷ rs))) (history ++ r ∷ rs)) box es)
+    shown_of opened keep (host_of m (answered_all p (replies_of (r ∷ rs))) (history ++ r ∷ rs)) box es)
     (append_assoc events (Turn ∷ []) (turns (length rs)))
 
-after-none : (keep : Keep) (m : NodeMemory Managed) (p : Process) (history : List Record)
+after-none : (opened : Opening) (keep : Keep) (m : NodeMemory Managed) (p : Process) (history : List Record)
     (box : Outbox) (events : List Mark)
-    → after keep m p history box events [] ≡ shown_of keep (host_of m p history) box events
-after-none keep m p history box events =
-    ap (λ (hs : List Record). shown_of keep (host_of m p hs) box (events ++ [])) (append-nil history)
-    ∙ ap (λ (es : List Mark). shown_of keep (host_of m p history) box es) (append-nil events)
+    → after opened keep m p history box events [] ≡ shown_of opened keep (host_of m p history) box events
+after-none opened keep m p history box events =
+    ap (λ (hs : List Record). shown_of opened keep (host_of m p hs) box (events ++ [])) (append-nil history)
+    ∙ ap (λ (es : List Mark). shown_of opened keep (host_of m p history) box es) (append-nil events)
 
 -- the replies in a row are taken, and the site stays one
 pub record IsAfterTaking (kind : Row) (numbers : List ℕ) (addr : ℕ) (old new : SiteView) : Type 0 where
   pub taken : AreTaken (row kind old.me addr numbers) old new
   pub site : IsSite new
 
-taking_at : (kind : Row) (numbers : List ℕ) (addr : ℕ) (keep : Keep) (m new : NodeMemory Managed)
+taking_at : (kind : Row) (numbers : List ℕ) (addr : ℕ) (opened : Opening) (keep : Keep) (m new : NodeMemory Managed)
     (p : Process) (history : List Record) (box : Outbox) (events : List Mark)
-    → IsSite (shown_of keep (host_of m p history) box events)
+    → IsSite (shown_of opened keep (host_of m p history) box events)
     → TakesRecords managed_ops (row kind box.me addr numbers) m new
-    → IsAfterTaking kind numbers addr (shown_of keep (host_of m p history) box events)
-    (after keep new p history box events (row kind box.me addr numbers))
-taking_at kind [] addr keep m new p history box events site is =
-    let same : after keep new p history box events []
-    ≡ shown_of keep (host_of m p history) box events =
-    after-none keep new p history box events
-    ∙ ap (λ (x : NodeMemory Managed). shown_of keep (host_of x p history) box events) is in
+    → IsAfterTaking kind numbers addr (shown_of opened keep (host_of m p history) box events)
+    (after opened keep new p history box events (row kind box.me addr numbers))
+taking_at kind [] addr opened keep m new p history box events site is =
+    let same : after opened keep new p history box events []
+    ≡ shown_of opened keep (host_of m p history) box events =
+    after-none opened keep new p history box events
+    ∙ ap (λ (x : NodeMemory Managed). shown_of opened keep (host_of x p history) box events) is in
     record { taken = same; site = subst IsSite (sym same) site }
-taking_at kind (number ∷ more) addr keep m new p history box events site is =
+taking_at kind (number ∷ more) addr opened keep m new p history box events site is =
     let r : Record = record_in kind box.me addr number in
     let mid : NodeMemory Managed = is.0 in
     let mine : r.node ≡ box.me = record-node kind box.me addr number in
-    let first : IsTaken r (shown_of keep (host_of m p history) box events)
-    (shown_of keep (host_of mid (answered_with p r.reply) (history ++ r ∷ [])) box (events ++ Turn ∷ [])) =
-    once_taken keep m mid p history box events r site is.1 mine is.2 in
+    let first : IsTaken r (shown_of opened keep (host_of m p history) box events)
+    (shown_of opened keep (host_of mid (answered_with p r.reply) (history ++ r ∷ [])) box (events ++ Turn ∷ [])) =
+    once_taken opened keep m mid p history box events r site is.1 mine is.2 in
     let then : IsSite
-    (shown_of keep (host_of mid (answered_with p r.reply) (history ++ r ∷ [])) box (events ++ Turn ∷ [])) =
-    once_site keep m mid p history box events r site is.1 mine is.2 in
-    let rest = taking_at kind more (addr + 8) keep mid new (answered_with p r.reply) (history ++ r ∷ []) box
+    (shown_of opened keep (host_of mid (answered_with p r.reply) (history ++ r ∷ [])) box (events ++ Turn ∷ [])) =
+    once_site opened keep m mid p history box events r site is.1 mine is.2 in
+    let rest = taking_at kind more (addr + 8) opened keep mid new (answered_with p r.reply) (history ++ r ∷ []) box
     (events ++ Turn ∷ []) then is.3 in
     let rs : List Record = row kind box.me (addr + 8) more in
-    let all = after-one keep new p history box events r rs in
+    let all = after-one opened keep new p history box events r rs in
     record {
       taken = (
-        shown_of keep (host_of mid (answered_with p r.reply) (history ++ r ∷ [])) box (events ++ Turn ∷ []),
+        shown_of opened keep (host_of mid (answered_with p r.reply) (history ++ r ∷ [])) box (events ++ Turn ∷ []),
         first,
         subst (λ (s : SiteView). AreTaken rs
-            (shown_of keep (host_of mid (answered_with p r.reply) (history ++ r ∷ [])) box
+            (shown_of opened keep (host_of mid (answered_with p r.reply) (history ++ r ∷ [])) box
             (events ++ Turn ∷ [])) s) all
             rest.taken,
       );
@@ -196,12 +197,12 @@ pub row_taken : (kind : Row) (n v : SiteView) → v ≡ n → IsSite v → (word
     → (i : ℕ) → i ≡ v.me
     → h.history ≡ v.node.core.history ++ row kind i addr (numbers_in words bytes)
     → (events : List Mark) → events ≡ v.events ++ turns words
-    → IsAfterTaking kind (numbers_in words bytes) addr n (shown_of v.keep h (box_of v) events)
+    → IsAfterTaking kind (numbers_in words bytes) addr n (shown_of v.opened v.keep h (box_of v) events)
 row_taken kind n v same site words bytes addr m is h next goes i mine kept events listed =
     let numbers : List ℕ = numbers_in words bytes in
     let rs : List Record = row kind v.me addr numbers in
     let long : length rs ≡ words = length-row kind v.me addr numbers ∙ length-numbers_in words bytes in
-    let made = taking_at kind numbers addr v.keep v.node.core.memory m v.node.core.process
+    let made = taking_at kind numbers addr v.opened v.keep v.node.core.memory m v.node.core.process
     v.node.core.history (box_of v) v.events site is in
     let program : h.process ≡ answered_all v.node.core.process (replies_of rs) =
     goes (replies_of rs) (length-map rs (λ (r : Record). r.reply) ∙ long) in
@@ -209,8 +210,8 @@ row_taken kind n v same site words bytes addr m is h next goes i mine kept event
     kept ∙ ap (λ (j : ℕ). v.node.core.history ++ row kind j addr numbers) mine in
     let marks : events ≡ v.events ++ turns (length rs) =
     listed ∙ ap (λ (j : ℕ). v.events ++ turns j) (sym long) in
-    let to : shown_of v.keep h (box_of v) events
-    ≡ after v.keep m v.node.core.process v.node.core.history (box_of v) v.events rs =
-    (λ k. shown_of v.keep (host_of (next k) (program k) (history k)) (box_of v) (marks k)) in
-    subst (λ (o : SiteView). IsAfterTaking kind numbers addr o (shown_of v.keep h (box_of v) events))
+    let to : shown_of v.opened v.keep h (box_of v) events
+    ≡ after v.opened v.keep m v.node.core.process v.node.core.history (box_of v) v.events rs =
+    (λ k. shown_of v.opened v.keep (host_of (next k) (program k) (history k)) (box_of v) (marks k)) in
+    subst (λ (o : SiteView). IsAfterTaking kind numbers addr o (shown_of v.opened v.keep h (box_of v) events))
     same (subst (λ (x : SiteView). IsAfterTaking kind numbers addr v x) (sym to) made)

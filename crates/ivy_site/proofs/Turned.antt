@@ -37,6 +37,7 @@ abbrev with_core : SiteView → H → List Mark → SiteView
 with_core v h events =
     record {
       config = v.config;
+      opened = v.opened;
       me = v.me;
       node = record { core = h; link = v.node.link };
       events = events;
@@ -105,7 +106,7 @@ spent_turn n v same k f rests cannot =
 
 pub called_turn : (n v : SiteView) → v ≡ n → (k h : H) (box : Outbox) (reserved events : List Mark)
     → k ≡ v.node.core → HasTurn k (box_of v) h box
-    → reserved ≡ v.events → events ≡ reserved ++ Turn ∷ [] → SiteTurns n (shown_of v.keep h box events)
+    → reserved ≡ v.events → events ≡ reserved ++ Turn ∷ [] → SiteTurns n (shown_of v.opened v.keep h box events)
 called_turn n v same k h box reserved events rests b room listed =
     moved_by_call n v same h box events (subst (λ x. HasTurn x (box_of v) h box) rests b)
     (listed ∙ ap (λ es. es ++ Turn ∷ []) room)
@@ -130,7 +131,7 @@ turns_quietly old new made t =
 
 pub called_site : (v : SiteView) (k h : H) (box : Outbox) (reserved events : List Mark) → IsSite v
     → k ≡ v.node.core → HasTurn k (box_of v) h box
-    → reserved ≡ v.events → events ≡ reserved ++ Turn ∷ [] → IsSite (shown_of v.keep h box events)
+    → reserved ≡ v.events → events ≡ reserved ++ Turn ∷ [] → IsSite (shown_of v.opened v.keep h box events)
 called_site v k h box reserved events s rests b0 room listed =
     let b : HasTurn v.node.core (box_of v) h box =
     subst (λ x. HasTurn x (box_of v) h box) rests b0 in
@@ -144,10 +145,10 @@ called_site v k h box reserved events s rests b0 room listed =
       asking =
           subst IsAskingHost (sym b.host)
           (turn-asking managed_ops v.node.core b.outcome s.asking b.turn);
-      made = turn_made turn.Moved v (shown_of v.keep h box events) s.made
+      made = turn_made turn.Moved v (shown_of v.opened v.keep h box events) s.made
           (called_turn v v refl k h box reserved events rests b0 room listed);
-      held = quiet_holds v (shown_of v.keep h box events) s.held
-          (turns_quietly v (shown_of v.keep h box events) s.made
+      held = quiet_holds v (shown_of v.opened v.keep h box events) s.held
+          (turns_quietly v (shown_of v.opened v.keep h box events) s.made
           (called_turn v v refl k h box reserved events rests b0 room listed));
     }
 
@@ -215,9 +216,9 @@ begun_reply n v same call (Some reply) x p hs new idle steps told rests is =
 -- nothing changed
 pub idle_turn : (n v : SiteView) → v ≡ n → (k h : H) (box : Outbox) (events : List Mark)
     → k ≡ v.node.core → AfterHostTurn false k (box_of v) h box → events ≡ v.events
-    → (turn_of managed_ops n.node.core ≡ None) × (shown_of v.keep h box events ≡ n)
+    → (turn_of managed_ops n.node.core ≡ None) × (shown_of v.opened v.keep h box events ≡ n)
 idle_turn n v same k h box events rests after listed = (
   subst (λ (y : SiteView). turn_of managed_ops y.node.core ≡ None) same
       (subst (λ x. turn_of managed_ops x ≡ None) rests after.0),
-  (λ j. shown_of v.keep ((after.1 ∙ rests) j) (after.2 j) (listed j)) ∙ same,
+  (λ j. shown_of v.opened v.keep ((after.1 ∙ rests) j) (after.2 j) (listed j)) ∙ same,
 )

@@ -33,6 +33,7 @@ pub moved_quietly : (n v : SiteView) → v ≡ n → (h : H) (events : List Mark
     → SiteTurns n
     (record {
       config = v.config;
+      opened = v.opened;
       me = v.me;
       node = record { core = h; link = v.node.link };
       events = events;
@@ -44,6 +45,7 @@ moved_quietly n v same h events is listed =
     subst (λ x. SiteTurns x
     (record {
       config = v.config;
+      opened = v.opened;
       me = v.me;
       node = record { core = h; link = v.node.link };
       events = events;
@@ -60,6 +62,7 @@ moved_quietly n v same h events is listed =
           (λ (es : List Mark).
           record {
             config = v.config;
+            opened = v.opened;
             me = v.me;
             node = record { core = h; link = v.node.link };
             events = es;
@@ -70,6 +73,7 @@ moved_quietly n v same h events is listed =
           ∙ ap (λ (ws : List (List ℕ)).
           record {
             config = v.config;
+            opened = v.opened;
             me = v.me;
             node = record { core = h; link = v.node.link };
             events = v.events ++ Turn ∷ [];
@@ -96,7 +100,7 @@ not_sent n h parcels numbers = rw numbers refl
 pub moved_by_call : (n v : SiteView) → v ≡ n → (h : H) (box : Outbox) (events : List Mark)
     → HasTurn v.node.core (box_of v) h box
     → events ≡ v.events ++ Turn ∷ []
-    → SiteTurns n (shown_of v.keep h box events)
+    → SiteTurns n (shown_of v.opened v.keep h box events)
 moved_by_call n v same h box events b listed =
     let s = sends v.node.link b.outcome.posted in
     let e : Effect H =
@@ -107,6 +111,7 @@ moved_by_call n v same h box events b listed =
     subst (λ x. SiteTurns x
     (record {
       config = box.config;
+      opened = v.opened;
       me = box.me;
       node = record { core = h; link = box.link };
       events = events;
@@ -123,6 +128,7 @@ moved_by_call n v same h box events b listed =
           (λ (x : Outbox).
           record {
             config = x.config;
+            opened = v.opened;
             me = x.me;
             node = record { core = h; link = x.link };
             events = events;
@@ -133,6 +139,7 @@ moved_by_call n v same h box events b listed =
           ∙ ap (λ (x : H).
           record {
             config = v.config;
+            opened = v.opened;
             me = v.me;
             node = record { core = x; link = s.after };
             events = events;
@@ -143,6 +150,7 @@ moved_by_call n v same h box events b listed =
           ∙ ap (λ (es : List Mark).
           record {
             config = v.config;
+            opened = v.opened;
             me = v.me;
             node = e.after;
             events = es;

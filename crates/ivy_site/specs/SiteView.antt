@@ -6,6 +6,7 @@ use Rattle.ivy_link.specs.declared.Verdict.{Verdict}
 use Rattle.ivy_link.specs.declared.Verdict.TheVariants as verdict
 use Rattle.ivy_link.specs.Windows.{Window}
 use Rattle.ivy_link.specs.Holding.{Holding, holding, moved_at}
+use Rattle.ivy_host.specs.declared.opening.Opening.{Opening}
 use Rattle.ivy_host.specs.stated.Managers.{Managed}
 use Rattle.ivy_moves.specs.Marks.{Mark, Delivery}
 use Rattle.ivy_moves.specs.declared.keep.Keep.{Keep}
@@ -15,10 +16,11 @@ use Rattle.ivy_host.specs.stated.Hosts.{Host}
 use Rattle.ivy_link.specs.Outboxes.{Outbox}
 
 -- `events` are all that the site ever listed; `waiting` are the strings not yet put on the wire,
--- the first first; `held` has a window for each node; `keep` are the lists of its own past that can
--- be read
+-- the first first; `held` has a window for each node; `opened` says how the node began; `keep` are
+-- the lists of its own past that can be read
 pub record SiteView : Type 0 where
   pub config : Config
+  pub opened : Opening
   pub me : ℕ
   pub node : Node (Host Managed)
   pub events : List Mark
@@ -26,10 +28,11 @@ pub record SiteView : Type 0 where
   pub held : List Window
   pub keep : Keep
 
--- the site of this core and this outbox, at which these events are listed
-abbrev pub shown_of : Keep → Host Managed → Outbox → List Mark → SiteView
-shown_of keep core box events = record {
+-- the site of this core and this outbox, which began so, and at which these events are listed
+abbrev pub shown_of : Opening → Keep → Host Managed → Outbox → List Mark → SiteView
+shown_of opened keep core box events = record {
   config = box.config;
+  opened = opened;
   me = box.me;
   node = record { core = core; link = box.link };
   events = events;
@@ -50,7 +53,7 @@ box_of s = record {
 
 -- the site with this one
 abbrev pub boxed : SiteView → Outbox → SiteView
-boxed s box = shown_of s.keep s.node.core box s.events
+boxed s box = shown_of s.opened s.keep s.node.core box s.events
 
 -- the link, with what it holds
 abbrev pub holding_at : SiteView → Holding

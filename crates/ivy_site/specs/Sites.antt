@@ -16,6 +16,8 @@ use Rattle.ivy_link.specs.Holding.{window_of, after_hold, ready_of, after_taking
 use Rattle.ivy_program.specs.stated.Programs.{Program}
 use Rattle.ivy_program.specs.InstructionSteps.{HasEnded}
 use Rattle.ivy_program.specs.stated.InstructionSteps.{AsksRow}
+use Rattle.ivy_host.specs.declared.opening.Opening.{Opening}
+use Rattle.ivy_host.specs.declared.opening.Opening.TheVariants.{Configured}
 use Rattle.ivy_host.specs.stated.Managers.{Managed, managed_ops}
 use Rattle.ivy_moves.specs.declared.keep.Keep.{Keep}
 use Rattle.ivy_moves.specs.declared.keep.Keep.TheVariants.{All}
@@ -28,7 +30,7 @@ use Rattle.ivy_site.specs.declared.turn.Turn as turn
 use Rattle.ivy_site.specs.declared.turn.Turn.TheVariants.{Idle, Moved, Ended}
 use Rattle.ivy_link.specs.stated.Linked.{peer_at}
 use Rattle.ivy_host.specs.stated.Hosts.{Host, host_rules, turn_of}
-use Rattle.ivy_host.specs.stated.Openings.{first_node}
+use Rattle.ivy_host.specs.stated.Openings.{first_node, managed_start}
 use Rattle.ivy_coherence.specs.EventLimits.{most_posted}
 use Rattle.ivy_link.specs.stated.LinkLimits.{most_ahead}
 use Rattle.ivy_site.specs.SiteView.{SiteView, holding_at, after_event, after_delivery}
@@ -41,31 +43,36 @@ most_sent = most_posted
 abbrev pub most_delivered : ℕ
 most_delivered = most_sent + most_sent * most_ahead
 
--- nothing was listed or held, and no string waits; these lists are kept
-abbrev pub first_keeping : Keep → Config → ℕ → Program → SiteView
-first_keeping keep c me program = record {
+-- nothing was listed or held, and no string waits; the node began so, and these lists are kept
+abbrev pub first_opened : Opening → Keep → Config → ℕ → Program → SiteView
+first_opened opened keep c me program = record {
   config = c;
+  opened = opened;
   me = me;
-  node = first_node managed_ops c me program;
+  node = first_node (managed_start opened) c me program;
   events = [];
   waiting = [];
   held = replicate c.nodes first_window;
   keep = keep;
 }
 
--- so it is where all lists are kept
+-- so it is by the manager that the configuration names
+abbrev pub first_keeping : Keep → Config → ℕ → Program → SiteView
+first_keeping = first_opened Configured
+
+-- and where all lists are kept
 abbrev pub first_shown : Config → ℕ → Program → SiteView
 first_shown = first_keeping All
 
 -- what came to a site too early, told from its events
 abbrev pub early_at : SiteView → List (List ℕ)
 early_at s = early_in (host_rules managed_ops) s.config
-    (first_node managed_ops s.config s.me s.node.core.process.program) s.events
+    (first_node (managed_start s.opened) s.config s.me s.node.core.process.program) s.events
 
--- it is the same node, under the same configuration, and keeps the same lists
+-- it is the same node, under the same configuration, which began as it did, and keeps the same lists
 abbrev pub IsSameNode : SiteView → SiteView → Type 0
-IsSameNode old new =
-    (new.config ≡ old.config) × (new.me ≡ old.me) × (new.keep ≡ old.keep)
+IsSameNode old new = (new.config ≡ old.config) × (new.me ≡ old.me) × (new.keep ≡ old.keep)
+    × (new.opened ≡ old.opened)
 
 -- the turn has an outcome: it is the turn of the definitions
 pub record SiteTurns (old new : SiteView) : Type 0 where
@@ -172,7 +179,7 @@ IsSpentDelivery old bytes fault =
 pub record IsMadeByEvents (s : SiteView) : Type 0 where
   pub effect : Effect (Host Managed)
   pub happen : AllHappen (host_rules managed_ops) s.config
-      (first_node managed_ops s.config s.me s.node.core.process.program) s.events effect
+      (first_node (managed_start s.opened) s.config s.me s.node.core.process.program) s.events effect
   pub node : s.node ≡ effect.after
   pub taken : List (List ℕ)
   pub waits : effect.sent ≡ taken ++ s.waiting

@@ -5,12 +5,14 @@
 
 mod host;
 mod manager;
+mod opened;
 mod pages;
 mod rows;
 mod shown;
 mod site;
 mod turn;
 
+pub use ivy_host::Opening;
 pub use ivy_link::Verdict;
 pub use ivy_memory::Leaving;
 pub use ivy_moves::Keep;

@@ -1,10 +1,12 @@
-//! The manager of a node, which is the one of its configuration.
+//! The manager of a node, which is the one of its configuration, or steady hints.
 ghost use Rattle.std.specs.Prelude.{◌≡◌, IfOk, IsOkUnless};
 ghost use Rattle.ivy_model.specs.stated.Config.{IsConfig};
 ghost use Rattle.ivy_host.specs.stated.Managers.{managed_ops};
+ghost use Rattle.ivy_host.specs.stated.Openings.{managed_start};
 
 use ivy_dynamic::DynamicManager;
 use ivy_fixed::FixedManager;
+use ivy_host::Opening;
 use ivy_model::{Config, Fault, Kind};
 use ivy_pagetable::Manager;
 use std::alloc::Allocator;
@@ -18,7 +20,7 @@ enum Either<A: Allocator> {
 }
 
 /// Who knows the owners of pages, for a node of any configuration: managing nodes or hints, as the
-/// configuration says.
+/// configuration says, or steady hints, as the opening says.
 #[derive(Drop)]
 pub struct NodeManager<A: Allocator> {
     manager: Either<A>,
@@ -46,6 +48,21 @@ impl<A: Allocator> NodeManager<A> {
             Kind::Dynamic => Either::Dynamic(DynamicManager::new(alloc, config, me)?),
         };
         Ok(NodeManager { manager })
+    }
+
+    /// The manager of node `me` that begins so [1]: that of the configuration, or steady hints.
+    pub fn opened(alloc: A, config: &Config, me: u8, opening: Opening) -> Result<Self, Fault>
+        requires limits { IsConfig config.now }
+        ensures first { IfOk result (λ manager. manager ≡ (managed_start opening).manager config.now me) }
+        ensures memory { IsOkUnless result Fault.Memory }
+    {
+        match opening {
+            Opening::Configured => NodeManager::new(alloc, config, me),
+            Opening::Steady => {
+                let manager = Either::Dynamic(DynamicManager::steady(alloc, config, me)?);
+                Ok(NodeManager { manager })
+            }
+        }
     }
 }
 

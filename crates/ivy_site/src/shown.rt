@@ -9,6 +9,7 @@ ghost use Rattle.ivy_moves.specs.Marks.{marks};
 ghost use Rattle.ivy_site.specs.Sites.{IsMadeByEvents, await_in};
 
 use crate::site::Site;
+use ivy_host::Opening;
 use ivy_model::{Call, Config, Record};
 use ivy_moves::{Event, Events, Keep};
 use ivy_wire::Bytes;
@@ -49,6 +50,13 @@ impl<A: Allocator + Copy> Site<A> {
         ensures { result ≡ last_of self.now.node.core.history }
     {
         self.host.history.last()
+    }
+
+    /// How the node began: by the manager of its configuration, or by steady hints. It takes no memory.
+    pub fn opening(&self) -> Opening
+        ensures { result ≡ self.now.opened }
+    {
+        self.opening
     }
 
     /// Which lists of its own past the site keeps. It takes no memory.

@@ -18,17 +18,17 @@ ghost use Rattle.ivy_memory.specs.AtOnce.{IsStored, row_at_hand};
 ghost use Rattle.ivy_site.specs.Calls.{AreAnswered, BeginsCall, MayCallInRow, RecordsReply};
 ghost use Rattle.ivy_site.specs.Handed.{site_handed};
 ghost use Rattle.ivy_site.specs.SiteView.{holding_at, after_pulse_to};
-ghost use Rattle.ivy_site.specs.Sites.{most_sent, most_delivered, first_shown, first_keeping, AfterTurn, AfterDelivery};
+ghost use Rattle.ivy_site.specs.Sites.{most_sent, most_delivered, first_shown, first_keeping, first_opened, AfterTurn, AfterDelivery};
 ghost use Rattle.ivy_site.specs.Sites.{SpellsFrame, GoesAsFar, DeliversWhole, IsHeld, early_at, without_ready, IsSpentTurn, IsSpentDelivery, TakesFrame, IsSameNode, IsSentBy, Awaits};
 ghost use Rattle.ivy_site.specs.Inside.{Hears, Receives, AfterOnce, HoldsString};
 ghost use Rattle.ivy_moves.specs.Marks.{Delivery};
 ghost use Rattle.ivy_model.specs.stated.Legal.{HasWidth};
 
 use crate::host::Host;
-use crate::manager::NodeManager;
+use crate::opened::opened_memory;
 use crate::turn::Turn;
+use ivy_host::Opening;
 use ivy_link::{MOST_AHEAD, Outbox, Verdict};
-use ivy_memory::Memory;
 use ivy_model::{Call, Config, Fault, Reply, Row};
 use ivy_moves::{Event, Events, History, Keep};
 use ivy_program::{Machine, Next, Program};
@@ -40,6 +40,7 @@ use std::marker::Model;
 pub struct Site<A: Allocator> {
     alloc: A,
     pub(crate) host: Host<A>,
+    pub(crate) opening: Opening,
     pub(crate) keep: Keep,
     pub(crate) outbox: Outbox<A>,
     pub(crate) events: Events<A>,
@@ -52,6 +53,7 @@ impl<A: Allocator> Drop for Site<A> {
         let Site {
             alloc: _,
             host: _,
+            opening: _,
             keep: _,
             outbox: _,
             events: _,
@@ -73,9 +75,9 @@ impl<A: Allocator> Model for Site<A> {
 
     ghost coded = { Prim.hlevel (codes, nodes_code, heap_state_code) };
 
-    ghost view = { λ s. shown_of s.keep (host_in s.host) s.outbox s.events.marks };
+    ghost view = { λ s. shown_of s.opening s.keep (host_in s.host) s.outbox s.events.marks };
 
-    ghost invariant = { λ s. IsSite (shown_of s.keep (host_in s.host) s.outbox s.events.marks) × AreKept s.keep s.host.history.kept s.events.kept };
+    ghost invariant = { λ s. IsSite (shown_of s.opening s.keep (host_in s.host) s.outbox s.events.marks) × AreKept s.keep s.host.history.kept s.events.kept };
 }
 
 /// The string of these bytes once more: shared where there is one, else a copy of them.
@@ -169,7 +171,7 @@ impl<A: Allocator + Copy> Site<A> {
         ensures first { IfOk result (λ site. site ≡ first_keeping keep config.now me program) }
         ensures memory { IsOkUnless result Fault.Memory }
     {
-        Site::with_machine(alloc, config, me, Machine::new(program), keep)
+        Site::opened(alloc, config, me, Opening::Configured, program, keep)
     }
 
     /// Node `me` with own code, which has made no call yet [1].
@@ -193,33 +195,36 @@ impl<A: Allocator + Copy> Site<A> {
         ensures first { IfOk result (λ site. site ≡ first_keeping keep config.now me (Called [])) }
         ensures memory { IsOkUnless result Fault.Memory }
     {
-        Site::with_machine(alloc, config, me, Machine::open(), keep)
+        Site::open_by(alloc, config, me, Opening::Configured, keep)
     }
 
-    /// Node `me` with a machine that has done nothing yet.
-    fn with_machine(
+    /// Node `me` with a machine that has done nothing yet, which begins so.
+    pub(crate) fn with_machine(
         alloc: A,
         config: &Config,
         me: u8,
+        opening: Opening,
         machine: Machine<A>,
         keep: Keep,
     ) -> Result<Site<A>, Fault>
         requires limits { IsConfig config.now }
         requires here { me < config.now.nodes }
         requires begins { machine.state ≡ first_state }
-        ensures first { IfOk result (λ site. site ≡ first_keeping keep config.now me machine.program) }
+        ensures first { IfOk result (λ site. site ≡ first_opened opening keep config.now me machine.program) }
         ensures memory { IsOkUnless result Fault.Memory }
     {
-        let manager = NodeManager::new(alloc, config, me)?;
+        let outbox = Outbox::new(alloc, config, me)?;
+        let memory = opened_memory(alloc, config, me, opening)?;
         Ok(Site {
             alloc,
             host: Host {
-                memory: Memory::new(alloc, config, me, manager)?,
+                memory,
                 machine,
                 history: History::new(alloc, keep.keeps_history()),
             },
+            opening,
             keep,
-            outbox: Outbox::new(alloc, config, me)?,
+            outbox,
             events: Events::keeping(alloc, keep.keeps_events()),
         })
     }

@@ -15,6 +15,7 @@ use Rattle.ivy_moves.specs.Parts.{AllHappen, AreParts}
 use Rattle.ivy_moves.specs.stated.Worlds.{World}
 use Rattle.ivy_moves.proofs.Parts.{runs_are_their_parts}
 use Rattle.ivy_moves.proofs.Splitting.{same-effect}
+use Rattle.ivy_host.specs.declared.opening.Opening.{Opening}
 use Rattle.ivy_host.specs.Handing.{handing}
 use Rattle.ivy_host.specs.stated.Hosts.{Host, answered_by, host_rules}
 use Rattle.ivy_host.specs.stated.Managers.{Managed, managed_ops}
@@ -22,7 +23,7 @@ use Rattle.ivy_ether.specs.Programs.{beginning, all_handed, Told}
 use Rattle.ivy_ether.specs.Rule.{IsNode}
 use Rattle.ivy_ether.specs.Views.{View}
 use Rattle.ivy_ether.proofs.Advancing.{same_start, list_over}
-use Rattle.ivy_ether.proofs.Hosts.{length-all_handed, opened, from_start}
+use Rattle.ivy_ether.proofs.Hosts.{length-all_handed, handed_start, from_start}
 use Rattle.proof_worlds.proofs.headline.Headline.{keeps-reached, explained-along}
 use Rattle.proof_table.proofs.transitions.Places.{get_map}
 use Rattle.proof_worlds.specs.stated.Still.{HasNothingUnderWay, IsStill}
@@ -33,16 +34,17 @@ use Rattle.ivy_standstill.specs.Ends.{HasNoTurn, HaveNoTurn, IsStandstill, AreSe
 use Rattle.ivy_standstill.specs.SoFar.{NodeSoFar, so_far_of, IsNodeSoFar, IsReportSoFar, IsHandedSoFar, at_world, AreDelivered, AreUnblockedSoFar}
 use Rattle.ivy_standstill.specs.CollectedSoFar.{AreToldSoFar}
 
-module _ (c : Config) (programs : List Program) (limits : IsConfig c)
+module _ (c : Config) (opened : Opening) (programs : List Program) (limits : IsConfig c)
     (each : length programs ≡ c.nodes) where
   -- such a node is the one of its place at the end of the run
   at_end : (end : World (Host Managed)) (parts : ℕ → List Mark) (i : ℕ) (n : NodeSoFar)
-      → AreParts (host_rules managed_ops) c (beginning c programs) parts end → parts i ≡ n.events
-      → IsNodeSoFar c programs i n → slice_get end.nodes i ≡ Some n.node
+      → AreParts (host_rules managed_ops) c (beginning c opened programs) parts end → parts i
+      ≡ n.events
+      → IsNodeSoFar c opened programs i n → slice_get end.nodes i ≡ Some n.node
   at_end end parts i n run list came =
       let first = came.list.node in
       let made =
-      (runs_are_their_parts (host_rules managed_ops) c (beginning c programs) end parts
+      (runs_are_their_parts (host_rules managed_ops) c (beginning c opened programs) end parts
       run).each
       i first came.list.there in
       let same : made.0 ≡ came.effect =
@@ -52,66 +54,73 @@ module _ (c : Config) (programs : List Program) (limits : IsConfig c)
       made.2 ∙ ap (λ (e : Effect (Host Managed)). Some e.after) same ∙ ap Some (sym came.node)
 
   so_far_as : (nodes : List NodeSoFar) → length nodes ≡ length programs
-      → ((i : ℕ) (n : NodeSoFar) → slice_get nodes i ≡ Some n → IsNodeSoFar c programs i n)
+      → ((i : ℕ) (n : NodeSoFar) → slice_get nodes i ≡ Some n → IsNodeSoFar c opened programs i n)
       → (parts : ℕ → List Mark) (end : World (Host Managed))
-      → AreParts (host_rules managed_ops) c (beginning c programs) parts end
+      → AreParts (host_rules managed_ops) c (beginning c opened programs) parts end
       → ((i : ℕ) (n : NodeSoFar) → slice_get nodes i ≡ Some n → parts i ≡ n.events)
-      → IsReportSoFar c programs nodes
+      → IsReportSoFar c opened programs nodes
   so_far_as nodes count came parts end run lists =
-      let order = explained_end c (beginning c programs) end run.moves
-      (explained-along c programs limits each run.moves) run.leads in record {
+      let order = explained_end c (beginning c opened programs) end run.moves
+      (explained-along opened c programs limits each run.moves) run.leads in record {
         all = count;
         parts = parts;
         end = end;
         run = run;
         lists = lists;
         each = λ i n there. at_end end parts i n run (lists i n there) (came i n there);
-        keeps = keeps-reached (at_world c programs end) limits each (run.moves, run.leads);
+        keeps = keeps-reached (at_world c opened programs end) limits each (run.moves, run.leads);
         order = order.0;
         explained = order.1;
       }
 
 -- what is known of a node by the calls that were handed to it holds whatever the others were handed
-so_far_over : (c : Config) (programs : List Program) (calls calls' : ℕ → List (List Call)) (i : ℕ)
-    (n : NodeSoFar) → calls i ≡ calls' i → IsNodeSoFar c (all_handed calls programs) i n
-    → IsNodeSoFar c (all_handed calls' programs) i n
-so_far_over c programs calls calls' i n same came = record {
+so_far_over : (c : Config) (opened : Opening) (programs : List Program)
+    (calls calls' : ℕ → List (List Call)) (i : ℕ)
+    (n : NodeSoFar) → calls i ≡ calls' i → IsNodeSoFar c opened (all_handed calls programs) i n
+    → IsNodeSoFar c opened (all_handed calls' programs) i n
+so_far_over c opened programs calls calls' i n same came = record {
   effect = came.effect;
-  list = list_over (host_rules managed_ops) c (beginning c programs) handing
-      (beginning c (all_handed calls programs)) (beginning c (all_handed calls' programs)) i
+  list = list_over (host_rules managed_ops) c (beginning c opened programs) handing
+      (beginning c opened (all_handed calls programs))
+      (beginning c opened (all_handed calls' programs)) i
       n.events came.effect
-      (same_start (host_rules managed_ops) c (beginning c programs) handing calls calls'
-      (beginning c (all_handed calls programs)) (beginning c (all_handed calls' programs)) i
-      (opened c programs calls) (opened c programs calls') same)
+      (same_start (host_rules managed_ops) c (beginning c opened programs) handing calls calls'
+      (beginning c opened (all_handed calls programs))
+      (beginning c opened (all_handed calls' programs)) i
+      (handed_start c opened programs calls) (handed_start c opened programs calls') same)
       came.list;
   node = came.node;
 }
 
 -- what the starter was told is a report so far
-pub reported_so_far : (c : Config) (programs : List Program) → IsConfig c
+pub reported_so_far : (c : Config) (opened : Opening) (programs : List Program) → IsConfig c
     → length programs ≡ c.nodes → (nodes : List NodeSoFar) (v : View)
-    → length nodes ≡ length programs → AreToldSoFar c programs v nodes → Told c programs v
-    → IsHandedSoFar c programs nodes
-reported_so_far c programs limits each nodes v count told t =
+    → length nodes ≡ length programs → AreToldSoFar c opened programs v nodes → Told c opened
+    programs v
+    → IsHandedSoFar c opened programs nodes
+reported_so_far c opened programs limits each nodes v count told t =
     let known : (i : ℕ) (n : NodeSoFar) (there : slice_get nodes i ≡ Some n)
-    → IsNode (host_rules managed_ops) c (beginning c programs) handing t.calls t.parts i
+    → IsNode (host_rules managed_ops) c (beginning c opened programs) handing t.calls t.parts i
     (told i n there).calls n.events =
     (λ i n there. t.closed (record { node = i; handed = (told i n there).calls; events = n.events })
     (told i n there).closed) in (
       t.calls,
-      so_far_as c (all_handed t.calls programs) limits (length-all_handed t.calls programs ∙ each)
+      so_far_as c opened (all_handed t.calls programs) limits
+          (length-all_handed t.calls programs ∙ each)
           nodes (count ∙ sym (length-all_handed t.calls programs))
-          (λ i n there. so_far_over c programs (λ _. (told i n there).calls) t.calls i n
+          (λ i n there. so_far_over c opened programs (λ _. (told i n there).calls) t.calls i n
           (sym (known i n there).handed) (told i n there).so_far)
-          t.parts t.end (from_start c programs t.calls t.parts t.end t.run)
+          t.parts t.end (from_start c opened programs t.calls t.parts t.end t.run)
           (λ i n there. (known i n there).part),
     )
 
 -- nothing can be handed to programs that are written down
-pub so_far_written : (c : Config) (programs : List Program) (nodes : List NodeSoFar)
-    → All IsWritten programs → IsHandedSoFar c programs nodes → IsReportSoFar c programs nodes
-so_far_written c programs nodes all r =
-    subst (λ ps. IsReportSoFar c ps nodes) (written_from r.0 0 programs all) r.1
+pub so_far_written : (c : Config) (opened : Opening) (programs : List Program)
+    (nodes : List NodeSoFar)
+    → All IsWritten programs → IsHandedSoFar c opened programs nodes → IsReportSoFar c opened
+    programs nodes
+so_far_written c opened programs nodes all r =
+    subst (λ ps. IsReportSoFar c opened ps nodes) (written_from r.0 0 programs all) r.1
 
 -- what is said of sites, said of the report's nodes
 pub delivered_so_far : (sites : List SiteView) → AreSitesDelivered sites
@@ -128,8 +137,8 @@ no_turn_at nodes i x there none =
     subst (λ (y : NodeSoFar). HasNoTurn y.node) (get_or_from_slice_get nodes i x x there)
     (none i x (slice_get_within nodes i x there))
 
-module _ (c : Config) (programs : List Program) (nodes : List NodeSoFar)
-    (r : IsReportSoFar c programs nodes) where
+module _ (c : Config) (opened : Opening) (programs : List Program) (nodes : List NodeSoFar)
+    (r : IsReportSoFar c opened programs nodes) where
   -- each node of the run's end is one of the report
   of_report : (i : ℕ) (n : Node (Host Managed)) → slice_get r.end.nodes i ≡ Some n
       → (x : NodeSoFar) × (slice_get nodes i ≡ Some x) × (n ≡ x.node)

@@ -11,6 +11,7 @@ use Rattle.ivy_moves.specs.Marks.{Mark}
 use Rattle.ivy_moves.specs.stated.Nodes.{Node, Effect}
 use Rattle.ivy_moves.specs.Parts.{AreParts}
 use Rattle.ivy_moves.specs.stated.Worlds.{World}
+use Rattle.ivy_host.specs.declared.opening.Opening.{Opening}
 use Rattle.ivy_host.specs.stated.Hosts.{Host, host_rules, answered_by}
 use Rattle.ivy_host.specs.stated.Managers.{Managed, managed_ops}
 use Rattle.ivy_ether.specs.Going.{IsListOf}
@@ -46,16 +47,16 @@ AreDelivered nodes = (i j : ℕ) (n m : NodeSoFar) → i ≢ j → slice_get nod
 abbrev pub AreUnblockedSoFar : Config → List NodeSoFar → Type 0
 AreUnblockedSoFar c nodes = AreUnblocked managed_ops c (map (λ (n : NodeSoFar). n.node.core) nodes)
 
-module _ (c : Config) (programs : List Program) where
+module _ (c : Config) (opened : Opening) (programs : List Program) where
   -- the events happen one after another from node i's beginning, and make this node of it
   pub record IsNodeSoFar (i : ℕ) (n : NodeSoFar) : Type 0 where
     pub effect : Effect (Host Managed)
-    pub list : IsListOf (host_rules managed_ops) c (beginning c programs) i n.events effect
+    pub list : IsListOf (host_rules managed_ops) c (beginning c opened programs) i n.events effect
     pub node : n.node ≡ effect.after
 
   -- a world of the programs
   abbrev pub at_world : World (Host Managed) → Run
-  at_world w = record { config = c; programs = programs; world = w }
+  at_world w = record { config = c; opened = opened; programs = programs; world = w }
 
   -- the nodes' events are the parts of one run of these programs, which ends with exactly these nodes;
   -- all holds there that holds of each world that moves lead to; and some legal order explains what
@@ -64,7 +65,7 @@ module _ (c : Config) (programs : List Program) where
     pub all : length nodes ≡ length programs
     pub parts : ℕ → List Mark
     pub end : World (Host Managed)
-    pub run : AreParts (host_rules managed_ops) c (beginning c programs) parts end
+    pub run : AreParts (host_rules managed_ops) c (beginning c opened programs) parts end
     pub lists : (i : ℕ) (n : NodeSoFar) → slice_get nodes i ≡ Some n → parts i ≡ n.events
     pub each : (i : ℕ) (n : NodeSoFar) → slice_get nodes i ≡ Some n
         → slice_get end.nodes i ≡ Some n.node
@@ -73,6 +74,6 @@ module _ (c : Config) (programs : List Program) where
     pub explained : IsExplainedBy (host_rules managed_ops) c answered_by end order
 
 -- such a report, of these programs where some calls were handed to each node
-abbrev pub IsHandedSoFar : Config → List Program → List NodeSoFar → Type 0
-IsHandedSoFar c programs nodes =
-    (calls : ℕ → List (List Call)) × IsReportSoFar c (all_handed calls programs) nodes
+abbrev pub IsHandedSoFar : Config → Opening → List Program → List NodeSoFar → Type 0
+IsHandedSoFar c opened programs nodes =
+    (calls : ℕ → List (List Call)) × IsReportSoFar c opened (all_handed calls programs) nodes

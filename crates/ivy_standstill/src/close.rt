@@ -27,9 +27,9 @@ fn take_in<S: Setup, A: Allocator + Copy>(
     keep: Keep,
 ) -> Result<(), Fault>
     requires starter { starter.old.ether ≡ ether.now }
-    requires seated { IsSeated ether.now S.config S.programs site.now pass }
+    requires seated { IsSeated ether.now S.config S.opened S.programs site.now pass }
     ensures ether { starter.new.ether ≡ starter.old.ether }
-    ensures told { OnOk result (TellsSoFar S.config S.programs starter.old.known node (so_far_of site.now) starter.new.known) }
+    ensures told { OnOk result (TellsSoFar S.config S.opened S.programs starter.old.known node (so_far_of site.now) starter.new.known) }
     ensures keep { OnOk result (site.now.keep ≡ keep) }
     ensures stop { IfErr result IsStop }
 {
@@ -52,7 +52,7 @@ pub fn close_one<S: Setup, H: Home, A: Allocator + Copy>(
     requires starter { starter.old.ether ≡ ether.now }
     ensures site { IfOk result (λ site. site ≡ homed.entry.seated.site) }
     ensures ether { starter.new.ether ≡ starter.old.ether }
-    ensures told { IfOk result (λ site. TellsSoFar S.config S.programs starter.old.known node (so_far_of site) starter.new.known) }
+    ensures told { IfOk result (λ site. TellsSoFar S.config S.opened S.programs starter.old.known node (so_far_of site) starter.new.known) }
     ensures keep { IfOk result (λ site. site.keep ≡ keep) }
     ensures stop { IfErr result IsStop }
 {

@@ -6,6 +6,7 @@ use Rattle.ivy_model.specs.declared.Config.{Config}
 use Rattle.ivy_model.specs.stated.Config.{IsConfig}
 use Rattle.ivy_calls.specs.declared.answer.Answer.{Answer}
 use Rattle.ivy_program.specs.stated.Programs.{Program, Called}
+use Rattle.ivy_host.specs.declared.opening.Opening.{Opening}
 use Rattle.ivy_ether.specs.Programs.{Told, all_handed}
 use Rattle.ivy_ether.specs.Views.{View}
 use Rattle.ivy_own.specs.Reports.{all_open}
@@ -42,20 +43,21 @@ module _ {Out : Type 0} (done : ℕ → List Answer → Out → Type 0) where
       i m at o there
 
   -- what the starter was told of nodes that stand still, and what their works gave
-  pub own_standstill : (c : Config) → IsConfig c → (programs : List Program)
+  pub own_standstill : (c : Config) (opened : Opening) → IsConfig c → (programs : List Program)
       → programs ≡ all_open c → (nodes : List NodeSoFar) (outs : List (Option Out)) (v : View)
-      → length nodes ≡ c.nodes → length outs ≡ c.nodes → AreToldSoFar c programs v nodes
-      → Told c programs v → IsStandstill nodes → AllStand done nodes outs
-      → IsOwnStandstill c done nodes outs
-  own_standstill c limits programs its nodes outs v many all told tells still stand =
+      → length nodes ≡ c.nodes → length outs ≡ c.nodes → AreToldSoFar c opened programs v nodes
+      → Told c opened programs v → IsStandstill nodes → AllStand done nodes outs
+      → IsOwnStandstill c opened done nodes outs
+  own_standstill c opened limits programs its nodes outs v many all told tells still stand =
       let long : length (all_open c) ≡ c.nodes = length-replicate c.nodes (Called []) in
-      let r : IsHandedSoFar c (all_open c) nodes =
-      reported_so_far c (all_open c) limits long nodes v (many ∙ sym long)
-      (subst (λ ps. AreToldSoFar c ps v nodes) its told) (subst (λ ps. Told c ps v) its tells) in
+      let r : IsHandedSoFar c opened (all_open c) nodes =
+      reported_so_far c opened (all_open c) limits long nodes v (many ∙ sym long)
+      (subst (λ ps. AreToldSoFar c opened ps v nodes) its told)
+      (subst (λ ps. Told c opened ps v) its tells) in
       record {
         report = r;
         still = still;
-        settled = settled_so_far c (all_handed r.0 (all_open c)) nodes r.1 still;
+        settled = settled_so_far c opened (all_handed r.0 (all_open c)) nodes r.1 still;
         all = all ∙ sym many;
         each = stand;
       }

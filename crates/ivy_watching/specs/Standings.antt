@@ -4,6 +4,7 @@ use Rattle.ivy_model.specs.declared.Call.{Call}
 use Rattle.ivy_model.specs.declared.Config.{Config}
 use Rattle.ivy_calls.specs.declared.answer.Answer.{Answer}
 use Rattle.ivy_calls.specs.Answers.{answers}
+use Rattle.ivy_host.specs.declared.opening.Opening.{Opening}
 use Rattle.ivy_own.specs.Reports.{all_open}
 use Rattle.ivy_standstill.specs.Ends.{IsStandstill, AreSettledSoFar}
 use Rattle.ivy_standstill.specs.SoFar.{NodeSoFar, IsHandedSoFar}
@@ -31,12 +32,14 @@ abbrev pub AllStand : {Out : Type 0} → (ℕ → List Answer → Out → Type 0
 AllStand {Out} done nodes outs = (i : ℕ) (n : NodeSoFar) (out : Option Out)
     → slice_get nodes i ≡ Some n → slice_get outs i ≡ Some out → Stands done i n out
 
--- the nodes' events are the parts of one run of own code, where some calls were made at each node;
+-- the nodes' events are the parts of one run of own code, whose nodes began so, and where some
+-- calls were made at each node;
 -- at its end nothing moves, and each call in progress is an await of a count that is too low; and the
 -- work of each node has ended, or has a call in progress
-pub record IsOwnStandstill {Out : Type 0} (c : Config) (done : ℕ → List Answer → Out → Type 0)
-    (nodes : List NodeSoFar) (outs : List (Option Out)) : Type 0 where
-  pub report : IsHandedSoFar c (all_open c) nodes
+pub record IsOwnStandstill {Out : Type 0} (c : Config) (opened : Opening)
+    (done : ℕ → List Answer → Out → Type 0) (nodes : List NodeSoFar) (outs : List (Option Out))
+    : Type 0 where
+  pub report : IsHandedSoFar c opened (all_open c) nodes
   pub still : IsStandstill nodes
   pub settled : AreSettledSoFar c nodes
   pub all : length outs ≡ length nodes

@@ -80,7 +80,7 @@ fn close_node<S: Setup, H: Home, A: Allocator + Copy, R, G, W: Work>(
     requires starter { starter.old.ether ≡ ether.now }
     requires done { IfSome parted.1 (λ out. W.done work.now node (answers parted.0.seated.site.node.core.history) out) }
     ensures starter { starter.new.ether ≡ starter.old.ether }
-    ensures told { IfOk result (λ r. TellsSoFar S.config S.programs starter.old.known node (so_far_of r.0) starter.new.known) }
+    ensures told { IfOk result (λ r. TellsSoFar S.config S.opened S.programs starter.old.known node (so_far_of r.0) starter.new.known) }
     ensures keep { IfOk result (λ r. r.0.keep ≡ plan.now.keep) }
     ensures stands { IfOk result (λ r. Stands (W.done work.now) node (so_far_of r.0) r.1) }
     ensures stop { IfErr result IsStop }
@@ -114,7 +114,7 @@ fn close_all<S: Setup, H: Home, J: Naming, A: Allocator + Copy, R, G, W: Work>(
     requires given { (i : ℕ) (r : _) → slice_get stopped.all.items i ≡ Some r → MatchResult r (λ ended. HasEnded (W.done work.now) i ended.mine ended.out) (StopsFor (W.gives_up work.now) i) }
     ensures starter { starter.new.ether ≡ starter.old.ether }
     ensures all { IfOk result (λ r. (vec_len r.0 ≡ vec_len stopped.entry.all) × (vec_len r.1 ≡ vec_len stopped.entry.all)) }
-    ensures told { IfOk result (λ r. AreToldSoFar S.config S.programs starter.new.known (map so_far_of r.0.items)) }
+    ensures told { IfOk result (λ r. AreToldSoFar S.config S.opened S.programs starter.new.known (map so_far_of r.0.items)) }
     ensures keep { IfOk result (λ r. AllKeepSoFar plan.now.keep (map so_far_of r.0.items)) }
     ensures stand { IfOk result (λ r. AllStand (W.done work.now) (map so_far_of r.0.items) r.1.items) }
     ensures stop { IfErr result IsStop }
@@ -159,7 +159,7 @@ where
     requires starter { starter.ether ≡ ether.now }
     requires nodes { vec_len stopped.all ≡ S.config.nodes }
     requires given { (i : ℕ) (r : _) → slice_get stopped.all.items i ≡ Some r → MatchResult r (λ ended. HasEnded (W.done work.now) i ended.mine ended.out) (StopsFor (W.gives_up work.now) i) }
-    ensures report { IfOk result (λ s. IsOwnStandstill S.config (W.done work.now) s.nodes s.outs.items) }
+    ensures report { IfOk result (λ s. IsOwnStandstill S.config S.opened (W.done work.now) s.nodes s.outs.items) }
     ensures keep { IfOk result (λ s. AllKeepSoFar plan.now.keep s.nodes) }
     ensures stop { IfErr result IsStop }
 {

@@ -12,4 +12,4 @@ mod watch;
 
 pub use ivy_standstill::ReportSoFar;
 pub use report::{OwnStandstill, Watched};
-pub use session::run_watching;
+pub use session::{run_watching, run_watching_opening};

@@ -16,7 +16,7 @@ use crate::close::{Stopped, collect_standing};
 use crate::report::Watched;
 use crate::watch::{Ending, watch};
 use ivy_calls::{Answer, Work};
-use ivy_ether::{Ether, Pass, Setup, Wired};
+use ivy_ether::{Ether, Opening, Pass, Setup, Wired};
 use ivy_model::{Config, Fault};
 use ivy_own::{
     Naming, Opened, OwnFault, OwnReport, Tie, WorkedPlaces, collect, first_given_up, place_all,
@@ -47,7 +47,7 @@ fn collect_ended<S: Setup, H: Home, J: Naming, A: Allocator + Copy, R, G, W: Wor
     requires nodes { vec_len stopped.all ≡ S.config.nodes }
     requires given { (i : ℕ) (r : _) → slice_get stopped.all.items i ≡ Some r → MatchResult r (λ ended. HasEnded (W.done work.now) i ended.mine ended.out) (StopsFor (W.gives_up work.now) i) }
     requires why { IfSome stop IsStop }
-    ensures report { IfOk result (λ report. IsOwnReport S.config (W.done work.now) report.nodes report.outs.items) }
+    ensures report { IfOk result (λ report. IsOwnReport S.config S.opened (W.done work.now) report.nodes report.outs.items) }
     ensures keep { IfOk result (λ report. AllKeep plan.now.keep report.nodes) }
     ensures fault { IfErr result (IsOwnStop S.config.nodes (W.gives_up work.now)) }
 {
@@ -82,6 +82,7 @@ where
     G: Gate,
     W: Work + Sync,
     requires config { plan.now.config ≡ S.config }
+    requires opened { plan.now.opening ≡ S.opened }
     requires limits { IsConfig plan.now.config }
     requires programs { S.programs ≡ all_open S.config }
     requires home { ether.now ≡ H.ether }
@@ -89,7 +90,7 @@ where
     requires starter { (starter.ether ≡ ether.now) × (starter.known ≡ beginner) }
     requires passes { All (IsNewcomer ether.now) passes.items }
     requires enough { vec_len passes ≡ plan.now.config.nodes }
-    ensures report { IfOk result (λ watched. MatchResult watched (λ report. IsOwnReport S.config (W.done work.now) report.nodes report.outs.items) (λ s. IsOwnStandstill S.config (W.done work.now) s.nodes s.outs.items)) }
+    ensures report { IfOk result (λ watched. MatchResult watched (λ report. IsOwnReport S.config S.opened (W.done work.now) report.nodes report.outs.items) (λ s. IsOwnStandstill S.config S.opened (W.done work.now) s.nodes s.outs.items)) }
     ensures keep { IfOk result (λ watched. MatchResult watched (λ report. AllKeep plan.now.keep report.nodes) (λ s. AllKeepSoFar plan.now.keep s.nodes)) }
     ensures fault { IfErr result (IsOwnStop S.config.nodes (W.gives_up work.now)) }
 {
@@ -128,13 +129,14 @@ where
     G: Gate,
     W: Work + Sync,
     requires config { plan.now.config ≡ S.config }
+    requires opened { plan.now.opening ≡ S.opened }
     requires limits { IsConfig plan.now.config }
     requires programs { S.programs ≡ all_open S.config }
     requires home { ether.now ≡ H.ether }
     requires starter { (starter.ether ≡ ether.now) × (starter.known ≡ beginner) }
     requires passes { All (IsNewcomer ether.now) passes.items }
     requires enough { vec_len passes ≡ plan.now.config.nodes }
-    ensures report { IfOk result (λ watched. MatchResult watched (λ report. IsOwnReport S.config (W.done work.now) report.nodes report.outs.items) (λ s. IsOwnStandstill S.config (W.done work.now) s.nodes s.outs.items)) }
+    ensures report { IfOk result (λ watched. MatchResult watched (λ report. IsOwnReport S.config S.opened (W.done work.now) report.nodes report.outs.items) (λ s. IsOwnStandstill S.config S.opened (W.done work.now) s.nodes s.outs.items)) }
     ensures keep { IfOk result (λ watched. MatchResult watched (λ report. AllKeep plan.now.keep report.nodes) (λ s. AllKeepSoFar plan.now.keep s.nodes)) }
     ensures fault { IfErr result (IsOwnStop S.config.nodes (W.gives_up work.now)) }
 {
@@ -144,7 +146,7 @@ where
     play_tied::<S, H, Brand, A, R, G, W>(plan, ether, opened, starter, passes, work)
 }
 
-/// Lays the ether, and runs the works of the nodes there [1, 17, 21].
+/// Lays the ether, and runs the works of the nodes there, which begin so [1, 17, 21].
 fn play<S, A, R, G, W>(
     plan: &Plan<'_, '_, A, R, G>,
     work: &W,
@@ -156,10 +158,11 @@ where
     G: Gate,
     W: Work + Sync,
     requires config { plan.now.config ≡ S.config }
+    requires opened { plan.now.opening ≡ S.opened }
     requires limits { IsConfig plan.now.config }
     requires programs { S.programs ≡ all_open S.config }
     requires capacity { 0 < plan.now.limits.capacity }
-    ensures report { IfOk result (λ watched. MatchResult watched (λ report. IsOwnReport S.config (W.done work.now) report.nodes report.outs.items) (λ s. IsOwnStandstill S.config (W.done work.now) s.nodes s.outs.items)) }
+    ensures report { IfOk result (λ watched. MatchResult watched (λ report. IsOwnReport S.config S.opened (W.done work.now) report.nodes report.outs.items) (λ s. IsOwnStandstill S.config S.opened (W.done work.now) s.nodes s.outs.items)) }
     ensures keep { IfOk result (λ watched. MatchResult watched (λ report. AllKeep plan.now.keep report.nodes) (λ s. AllKeepSoFar plan.now.keep s.nodes)) }
     ensures fault { IfErr result (IsOwnStop S.config.nodes (W.gives_up work.now)) }
 {
@@ -193,7 +196,40 @@ where
     R: Threads + Wait + Sync,
     G: Gate,
     W: Work + Sync,
-    ensures report { IfOk result (λ watched. MatchResult watched (λ report. IsOwnReport config (W.done work.now) report.nodes report.outs.items) (λ s. IsOwnStandstill config (W.done work.now) s.nodes s.outs.items)) }
+    ensures report { IfOk result (λ watched. MatchResult watched (λ report. IsOwnReport config Opening.Configured (W.done work.now) report.nodes report.outs.items) (λ s. IsOwnStandstill config Opening.Configured (W.done work.now) s.nodes s.outs.items)) }
+    ensures bad { IsErrOf result (OwnFault.Session Fault.BadConfig) ↔ ¬ (IsConfig config × AreLimits limits) }
+    ensures keep { IfOk result (λ watched. MatchResult watched (λ report. AllKeep keep report.nodes) (λ s. AllKeepSoFar keep s.nodes)) }
+    ensures fault { IfErr result (IsOwnFault config.nodes (W.gives_up work.now)) }
+{
+    run_watching_opening(
+        rt,
+        alloc,
+        config,
+        work,
+        limits,
+        gate,
+        keep,
+        Opening::Configured,
+    )
+}
+
+/// The same, of nodes that begin so: by the manager that the configuration names, or by steady hints [1, 2, 17, 21].
+pub fn run_watching_opening<A, R, G, W>(
+    rt: &R,
+    alloc: A,
+    config: Config,
+    work: &W,
+    limits: Limits,
+    gate: &G,
+    keep: Keep,
+    opening: Opening,
+) -> Result<Watched<W::Out, A>, OwnFault>
+where
+    A: Allocator + Copy + Send + Sync,
+    R: Threads + Wait + Sync,
+    G: Gate,
+    W: Work + Sync,
+    ensures report { IfOk result (λ watched. MatchResult watched (λ report. IsOwnReport config opening (W.done work.now) report.nodes report.outs.items) (λ s. IsOwnStandstill config opening (W.done work.now) s.nodes s.outs.items)) }
     ensures bad { IsErrOf result (OwnFault.Session Fault.BadConfig) ↔ ¬ (IsConfig config × AreLimits limits) }
     ensures keep { IfOk result (λ watched. MatchResult watched (λ report. AllKeep keep report.nodes) (λ s. AllKeepSoFar keep s.nodes)) }
     ensures fault { IfErr result (IsOwnFault config.nodes (W.gives_up work.now)) }
@@ -205,6 +241,7 @@ where
         rt,
         alloc,
         config,
+        opening,
         limits,
         gate,
         keep,

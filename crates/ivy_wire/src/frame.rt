@@ -208,7 +208,7 @@ impl Content<&[u8]> {
                     && u64::from(*copies) < 1 << config.nodes
                     && bytes.len() == config.page_size as usize
             }
-            // A number behind a reference is in its range once it is read.
+            // for the proof: a number behind a reference is in its range once it is read.
             Content::AllocReq { size: number } | Content::FreeReq { addr: number } => {
                 let _number = *number;
                 true
@@ -299,7 +299,7 @@ impl Frame<&[u8]> {
         if self.source >= nodes || self.dest >= nodes || self.source == self.dest {
             return false;
         }
-        // The acknowledgement is in its range once it is read.
+        // for the proof: the acknowledgement is in its range once it is read.
         let _ack = self.ack;
         match &self.body {
             None => self.number == 0,

@@ -9,6 +9,7 @@ use Rattle.ivy_model.specs.declared.Fault.TheVariants as fault
 use Rattle.ivy_model.specs.declared.Row.{Row}
 use Rattle.ivy_model.specs.Rows.{calls_of, numbers_in, row}
 use Rattle.ivy_model.specs.Wants.{RanOut}
+use Rattle.ivy_host.specs.declared.opening.Opening.{Opening}
 use Rattle.ivy_moves.specs.stated.Nodes.{Node}
 use Rattle.ivy_moves.specs.declared.Move.TheVariants as move
 use Rattle.ivy_moves.proofs.Places.{set_same, set-there}
@@ -33,26 +34,29 @@ use Rattle.ivy_world.proofs.Making.{node_there, turn_refused, turn_went}
 use Rattle.ivy_world.proofs.Worlds.{running_each, runs_on}
 
 -- what is so of the world after the calls
-pub record IsAfterBlock (node : ℕ) (calls : List Call) (c : Config) (sites : List SiteView)
+pub record IsAfterBlock (node : ℕ) (calls : List Call) (c : Config) (opened : Opening)
+    (sites : List SiteView)
     (sent : List (List ℕ)) (passed : ℕ) (sites' : List SiteView) (sent' : List (List ℕ)) : Type 0 where
-  pub running : IsRunning c sites' sent'
+  pub running : IsRunning c opened sites' sent'
   pub passes : IsPassed c (world_of sites' sent') passed
-  pub block : BeginsBlock node calls (run_of c sites sent) (run_of c sites' sent')
+  pub block : BeginsBlock node calls (run_of c opened sites sent) (run_of c opened sites' sent')
 
 -- a site at which no string waits is as it is once they are put on the wire
 emptied : (s : SiteView) → s.waiting ≡ [] → record s { waiting = [] } ≡ s
 emptied s none = λ k. record s { waiting = sym none k }
 
-module _ (c : Config) (sites : List SiteView) (sent : List (List ℕ)) (passed node : ℕ)
-    (h : IsRunning c sites sent) (p : IsPassed c (world_of sites sent) passed) where
+module _ (c : Config) (opened : Opening) (sites : List SiteView) (sent : List (List ℕ))
+    (passed node : ℕ)
+    (h : IsRunning c opened sites sent) (p : IsPassed c (world_of sites sent) passed) where
   -- the world is as it was
   stayed : (sites' : List SiteView) (sent' : List (List ℕ)) → sites' ≡ sites → sent' ≡ sent
-      → IsAfterBlock node [] c sites sent passed sites' sent'
+      → IsAfterBlock node [] c opened sites sent passed sites' sent'
   stayed sites' sent' same more = record {
-    running = subst (λ l. IsRunning c l sent') (sym same) (subst (IsRunning c sites) (sym more) h);
+    running = subst (λ l. IsRunning c opened l sent') (sym same)
+        (subst (IsRunning c opened sites) (sym more) h);
     passes = subst (λ l. IsPassed c (world_of l sent') passed) (sym same)
         (subst (λ l. IsPassed c (world_of sites l) passed) (sym more) p);
-    block = λ k. run_of c (same k) (more k);
+    block = λ k. run_of c opened (same k) (more k);
   }
 
   module _ (old done : SiteView) (there : slice_get sites node ≡ Some old) (made : List Call)
@@ -66,8 +70,8 @@ module _ (c : Config) (sites : List SiteView) (sent : List (List ℕ)) (passed n
     abbrev end : List SiteView
     end = set sites node (record done { waiting = [] })
 
-    mid_running : IsRunning c mid sent
-    mid_running = handed_running c sites sent node old there (made ∷ []) h
+    mid_running : IsRunning c opened mid sent
+    mid_running = handed_running c opened sites sent node old there (made ∷ []) h
 
     -- the turn, over the sites to which the calls were handed
     turned : AfterMove c mid end sent (sent ++ done.waiting) (move.Turn node)
@@ -80,16 +84,18 @@ module _ (c : Config) (sites : List SiteView) (sent : List (List ℕ)) (passed n
         (sent ++ done.waiting) mid_running.nodes (set-there sites node handed old there) begins.turns
         refl refl refl))
 
-    end_running : IsRunning c end (sent ++ done.waiting)
+    end_running : IsRunning c opened end (sent ++ done.waiting)
     end_running =
-        runs_on c mid end sent (sent ++ done.waiting) (move.Turn node) mid_running turned.are
+        runs_on c opened mid end sent (sent ++ done.waiting) (move.Turn node) mid_running turned.are
         (length-set sites node (record done { waiting = [] }) ∙ h.count) turned.programs turned.made
 
-    had_turn : HasHadTurn node (run_of c mid sent) (run_of c end (sent ++ done.waiting))
+    had_turn : HasHadTurn node (run_of c opened mid sent)
+        (run_of c opened end (sent ++ done.waiting))
     had_turn = record {
-      stays = (refl, turned.programs);
+      stays = (refl, turned.programs, refl);
       moves = turned.made;
-      explained = explained-on (run_of c mid sent) mid_running.limits (running_each c mid sent mid_running)
+      explained = explained-on (run_of c opened mid sent) mid_running.limits
+          (running_each c opened mid sent mid_running)
           (move.Turn node ∷ []) (world_of end (sent ++ done.waiting))
           (world_of end (sent ++ done.waiting), turned.made, refl);
     }
@@ -106,10 +112,11 @@ module _ (c : Config) (sites : List SiteView) (sent : List (List ℕ)) (passed n
         (sym (node_there c end sent node (record done { waiting = [] })
         (set-there sites node (record done { waiting = [] }) old there)) ∙ at)
 
-    begun_together : BeginsTogether node made (run_of c sites sent) (run_of c end (sent ++ done.waiting))
+    begun_together : BeginsTogether node made (run_of c opened sites sent)
+        (run_of c opened end (sent ++ done.waiting))
     begun_together = record {
-      turn = subst (λ (r : Run). HasHadTurn node r (run_of c end (sent ++ done.waiting)))
-          (handed_run c sites sent node old there (made ∷ []) h) had_turn;
+      turn = subst (λ (r : Run). HasHadTurn node r (run_of c opened end (sent ++ done.waiting)))
+          (handed_run c opened sites sent node old there (made ∷ []) h) had_turn;
       waits = λ n at. subst (λ (x : Node (Host Managed)).
           in_progress x.core.memory.asked x.core.memory.along ≡ made) (node_after n at) begins.waits;
       recorded = λ m n before after.
@@ -120,12 +127,13 @@ module _ (c : Config) (sites : List SiteView) (sent : List (List ℕ)) (passed n
     end_passed : IsPassed c (world_of end (sent ++ done.waiting)) passed
     end_passed =
         passed_further c (world_of mid sent) (world_of end (sent ++ done.waiting)) (move.Turn node) passed
-        turned.made (handed_passed c sites sent node old there (made ∷ []) h passed p)
+        turned.made (handed_passed c opened sites sent node old there (made ∷ []) h passed p)
 
   -- the calls that there are, or none
   after_calls : (made : List Call) (old done : SiteView) → slice_get sites node ≡ Some old
       → calls.BeginsRow made old done
-      → IsAfterBlock node made c sites sent passed (set sites node (record done { waiting = [] }))
+      → IsAfterBlock node made c opened sites sent passed
+      (set sites node (record done { waiting = [] }))
       (sent ++ done.waiting)
   after_calls [] old done there begins =
       let none : done.waiting ≡ [] =
@@ -141,10 +149,11 @@ module _ (c : Config) (sites : List SiteView) (sent : List (List ℕ)) (passed n
 
   after_begun : (made : List Call) (sites' : List SiteView) (sent' : List (List ℕ))
       → HaveBegun node made sites sent sites' sent'
-      → IsAfterBlock node made c sites sent passed sites' sent'
+      → IsAfterBlock node made c opened sites sent passed sites' sent'
   after_begun made sites' sent' b =
-      subst (λ l. IsAfterBlock node made c sites sent passed l sent') (sym b.changed)
-      (subst (IsAfterBlock node made c sites sent passed (set sites node (record b.done { waiting = [] })))
+      subst (λ l. IsAfterBlock node made c opened sites sent passed l sent') (sym b.changed)
+      (subst (IsAfterBlock node made c opened sites sent passed
+      (set sites node (record b.done { waiting = [] })))
       (sym b.more) (after_calls made b.old b.done b.there b.begins))
 
   -- as the code has it: the world runs on
@@ -152,7 +161,7 @@ module _ (c : Config) (sites : List SiteView) (sent : List (List ℕ)) (passed n
       (sent' : List (List ℕ))
       → MatchResult result (λ n. HaveBegun node (made n) sites sent sites' sent')
       (λ e. (sites' ≡ sites) × (sent' ≡ sent))
-      → IsRunning c sites' sent' × IsPassed c (world_of sites' sent') passed
+      → IsRunning c opened sites' sent' × IsPassed c (world_of sites' sent') passed
   block_running (Ok n) made sites' sent' b =
       let a = after_begun (made n) sites' sent' b in (a.running, a.passes)
   block_running (Err e) made sites' sent' b =
@@ -163,8 +172,9 @@ module _ (c : Config) (sites : List SiteView) (sent : List (List ℕ)) (passed n
       (sent' : List (List ℕ))
       → MatchResult result (λ n. HaveBegun node (made n) sites sent sites' sent')
       (λ e. (sites' ≡ sites) × (sent' ≡ sent))
-      → MatchResult result (λ n. BeginsBlock node (made n) (run_of c sites sent) (run_of c sites' sent'))
-      (λ e. run_of c sites' sent' ≡ run_of c sites sent)
+      → MatchResult result (λ n. BeginsBlock node (made n) (run_of c opened sites sent)
+      (run_of c opened sites' sent'))
+      (λ e. run_of c opened sites' sent' ≡ run_of c opened sites sent)
   block_begun (Ok n) made sites' sent' b = (after_begun (made n) sites' sent' b).block
   block_begun (Err e) made sites' sent' b = (stayed sites' sent' b.0 b.1).block
 
@@ -215,15 +225,15 @@ row_refused kind addr zero bytes s e some want spent = absurd (some refl)
 row_refused kind addr (suc n) bytes s e some want spent = (want, spent)
 
 -- so it is of the world
-module _ (c : Config) (sites : List SiteView) (sent : List (List ℕ)) (node : ℕ)
-    (h : IsRunning c sites sent) where
+module _ (c : Config) (opened : Opening) (sites : List SiteView) (sent : List (List ℕ)) (node : ℕ)
+    (h : IsRunning c opened sites sent) where
   refused_there : (made : List Call) (s : SiteView) (e : Fault) → slice_get sites node ≡ Some s
-      → IsRefusedRow made s e → IsRefusedBlock node made (run_of c sites sent) e
+      → IsRefusedRow made s e → IsRefusedBlock node made (run_of c opened sites sent) e
   refused_there [] s e there why = why
   refused_there (call ∷ more) s e there why =
       let handed : SiteView = site_handed ((call ∷ more) ∷ []) s in
       subst (λ (r : Run). IsRefusedBy r.config r.world e (Some (move.Turn node)))
-      (handed_run c sites sent node s there ((call ∷ more) ∷ []) h)
+      (handed_run c opened sites sent node s there ((call ∷ more) ∷ []) h)
       (turn_refused c (set sites node handed) sent node handed (move.Turn node) e
       (set-there sites node handed s there) refl why.1 why.0)
 
@@ -232,10 +242,11 @@ module _ (c : Config) (sites : List SiteView) (sent : List (List ℕ)) (node : �
       → ((s : SiteView) → slice_get sites node ≡ Some s → made s ≡ wanted s.node)
       → IfErr result (λ e. IfSome (slice_get sites node) (λ s. IsRefusedRow (made s) s e))
       → IfErr result (λ e. IfSome (slice_get (map (λ (s : SiteView). s.node) sites) node)
-      (λ n. IsRefusedBlock node (wanted n) (run_of c sites sent) e))
+      (λ n. IsRefusedBlock node (wanted n) (run_of c opened sites sent) e))
   block_refused (Ok n) made wanted same says = tt
   block_refused (Err e) made wanted same says =
       node_says sites node (λ s. IsRefusedRow (made s) s e)
-      (λ n. IsRefusedBlock node (wanted n) (run_of c sites sent) e)
-      (λ s at why. subst (λ calls. IsRefusedBlock node calls (run_of c sites sent) e) (same s at)
+      (λ n. IsRefusedBlock node (wanted n) (run_of c opened sites sent) e)
+      (λ s at why. subst (λ calls. IsRefusedBlock node calls (run_of c opened sites sent) e)
+      (same s at)
       (refused_there (made s) s e at why)) says

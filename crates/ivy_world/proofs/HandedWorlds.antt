@@ -6,6 +6,7 @@ use Rattle.std.proofs.lemmas.Option.{same_Some, slice_get-map}
 use Rattle.ivy_model.specs.declared.Call.{Call}
 use Rattle.ivy_model.specs.declared.Config.{Config}
 use Rattle.ivy_model.specs.declared.Fault.{Fault}
+use Rattle.ivy_host.specs.declared.opening.Opening.{Opening}
 use Rattle.ivy_moves.specs.Carrying.{IsChangedBy, node_changed}
 use Rattle.ivy_moves.specs.stated.Nodes.{Node}
 use Rattle.ivy_moves.specs.Parts.{parts_of}
@@ -18,7 +19,7 @@ use Rattle.ivy_link.specs.stated.Linked.{peer_at}
 use Rattle.ivy_host.specs.Handing.{handing}
 use Rattle.ivy_host.specs.stated.Hosts.{Host, host_rules}
 use Rattle.ivy_host.specs.stated.Managers.{Managed, managed_ops}
-use Rattle.ivy_host.specs.stated.Openings.{opening}
+use Rattle.ivy_host.specs.stated.Openings.{managed_start, opening}
 use Rattle.ivy_site.specs.Handed.{site_handed}
 use Rattle.ivy_site.specs.SiteView.{SiteView}
 use Rattle.ivy_site.specs.Sites.{early_at, IsMadeByEvents}
@@ -39,9 +40,10 @@ map_changed f g (x ∷ xs) zero old new there is =
 map_changed f g (x ∷ xs) (suc i) old new there is =
     ap (λ l. f x ∷ l) (map_changed f g xs i old new there is)
 
-module _ (c : Config) (sites : List SiteView) (sent : List (List ℕ)) (node : ℕ) (old : SiteView)
+module _ (c : Config) (opened : Opening) (sites : List SiteView) (sent : List (List ℕ)) (node : ℕ)
+    (old : SiteView)
     (there : slice_get sites node ≡ Some old) (more : List (List Call))
-    (h : IsRunning c sites sent) where
+    (h : IsRunning c opened sites sent) where
   abbrev new : SiteView
   new = site_handed more old
 
@@ -62,10 +64,11 @@ module _ (c : Config) (sites : List SiteView) (sent : List (List ℕ)) (node : �
   more_there i apart = ap (λ b. if b then more else []) (ne_eqb i node apart)
 
   -- the world that they are
-  pub handed_run : run_of c sites' sent ≡ run_handed node more (run_of c sites sent)
+  pub handed_run : run_of c opened sites' sent ≡ run_handed node more (run_of c opened sites sent)
   handed_run =
       λ k. record {
         config = c;
+        opened = opened;
         programs = map_changed (λ (s : SiteView). s.node.core.process.program) (handed more) sites
             node old new there refl k;
         world = record {
@@ -123,17 +126,18 @@ module _ (c : Config) (sites : List SiteView) (sent : List (List ℕ)) (node : �
   }
 
   -- the world runs on
-  pub handed_running : IsRunning c sites' sent
+  pub handed_running : IsRunning c opened sites' sent
   handed_running =
-      let start = opening_handed managed_ops c more_at (programs_of sites) (programs_of sites')
+      let start = opening_handed (managed_start opened) c more_at (programs_of sites)
+      (programs_of sites')
       programs_handed in
       let over = carry_over (host_rules managed_ops) c (λ i. handing (more_at i))
-      (λ i. unseen managed_ops (more_at i)) (opening managed_ops c (programs_of sites))
+      (λ i. unseen managed_ops (more_at i)) (opening (managed_start opened) c (programs_of sites))
       (world_of sites sent)
       (λ j. parts_of (host_rules managed_ops) c h.reached.0
-      (opening managed_ops c (programs_of sites)) (world_of sites sent) h.reached.1 j)
+      (opening (managed_start opened) c (programs_of sites)) (world_of sites sent) h.reached.1 j)
       (record { moves = h.reached.0; leads = h.reached.1; are = λ j. refl })
-      (opening managed_ops c (programs_of sites')) start in
+      (opening (managed_start opened) c (programs_of sites')) start in
       record {
         limits = h.limits;
         count = length-set sites node new ∙ h.count;
@@ -141,7 +145,8 @@ module _ (c : Config) (sites : List SiteView) (sent : List (List ℕ)) (node : �
             (h.nodes.none_waits node old there) (handed_made more old made);
         reached = (
           over.1.moves,
-          subst (λ w. IsLedTo c (opening managed_ops c (programs_of sites')) over.1.moves w)
+          subst (λ w. IsLedTo c (opening (managed_start opened) c (programs_of sites')) over.1.moves
+              w)
               (changed-one (λ i. handing (more_at i)) (world_of sites sent) over.0
               (world_of sites' sent) over.2 world_changed)
               over.1.leads,
@@ -210,8 +215,10 @@ pub record AreAfter (sites : List SiteView) (node : ℕ) (more : List (List Call
       (λ s. end ≡ set sites node (site_handed more s)))
   pub err : OnErr r (end ≡ sites)
 
-module _ (c : Config) (sites : List SiteView) (sent : List (List ℕ)) (passed node : ℕ)
-    (more : List (List Call)) (h : IsRunning c sites sent) (p : IsPassed c (world_of sites sent) passed)
+module _ (c : Config) (opened : Opening) (sites : List SiteView) (sent : List (List ℕ))
+    (passed node : ℕ)
+    (more : List (List Call)) (h : IsRunning c opened sites sent)
+    (p : IsPassed c (world_of sites sent) passed)
     (l : node < length sites) where
   old : SiteView
   old = (there_is sites node l).0
@@ -222,30 +229,31 @@ module _ (c : Config) (sites : List SiteView) (sent : List (List ℕ)) (passed n
 
   pub after_running : (r : Result (Unit {0}) Fault) (end : List SiteView)
       → AreAfter sites node more r end
-      → IsRunning c end sent × IsPassed c (world_of end sent) passed
+      → IsRunning c opened end sent × IsPassed c (world_of end sent) passed
   after_running (Ok u) end a =
       let is : end ≡ set sites node (site_handed more old) = rw there at a.ok in
-      subst (λ ss. IsRunning c ss sent × IsPassed c (world_of ss sent) passed) (sym is) (
-        handed_running c sites sent node old there more h,
-        handed_passed c sites sent node old there more h passed p,
+      subst (λ ss. IsRunning c opened ss sent × IsPassed c (world_of ss sent) passed) (sym is) (
+        handed_running c opened sites sent node old there more h,
+        handed_passed c opened sites sent node old there more h passed p,
       )
   after_running (Err e) end a =
-      subst (λ ss. IsRunning c ss sent × IsPassed c (world_of ss sent) passed) (sym a.err) (h, p)
+      subst (λ ss. IsRunning c opened ss sent × IsPassed c (world_of ss sent) passed) (sym a.err)
+      (h, p)
 
   pub after_run : (r : Result (Unit {0}) Fault) (end : List SiteView)
       → AreAfter sites node more r end
-      → OnOk r (run_of c end sent ≡ run_handed node more (run_of c sites sent))
+      → OnOk r (run_of c opened end sent ≡ run_handed node more (run_of c opened sites sent))
   after_run (Ok u) end a =
       let is : end ≡ set sites node (site_handed more old) = rw there at a.ok in
-      ap (λ ss. run_of c ss sent) is ∙ handed_run c sites sent node old there more h
+      ap (λ ss. run_of c opened ss sent) is ∙ handed_run c opened sites sent node old there more h
   after_run (Err e) end a = tt
 
 -- where it was refused the world is as it was
-pub after_refusal : (c : Config) (sites : List SiteView) (sent : List (List ℕ))
+pub after_refusal : (c : Config) (opened : Opening) (sites : List SiteView) (sent : List (List ℕ))
     (r : Result (Unit {0}) Fault) (end : List SiteView) → OnErr r (end ≡ sites)
-    → OnErr r (run_of c end sent ≡ run_of c sites sent)
-after_refusal c sites sent (Ok u) end same = tt
-after_refusal c sites sent (Err e) end same = ap (λ ss. run_of c ss sent) same
+    → OnErr r (run_of c opened end sent ≡ run_of c opened sites sent)
+after_refusal c opened sites sent (Ok u) end same = tt
+after_refusal c opened sites sent (Err e) end same = ap (λ ss. run_of c opened ss sent) same
 
 free_of : (o : Option SiteView)
     → IfSome (option_map (λ (s : SiteView). s.node) o) (λ n. IsFree n.core.process)

@@ -11,6 +11,7 @@ use Rattle.ivy_model.specs.declared.Fault.{Fault}
 use Rattle.std.specs.Prelude.{IfSome}
 use Rattle.ivy_model.specs.declared.Record.{Record}
 use Rattle.ivy_model.specs.Wants.{RanOut}
+use Rattle.ivy_host.specs.declared.opening.Opening.{Opening}
 use Rattle.ivy_host.specs.stated.Managers.{Managed, managed_ops}
 use Rattle.ivy_wire.specs.stated.Data.{Frame}
 use Rattle.ivy_link.specs.declared.Verdict.{Verdict}
@@ -383,11 +384,13 @@ delivery_refused c sites sent index i old bytes step fault limits h spell there 
     (spent s))))) want)
 
 -- what a site of the world was answered can be read
-pub history_shown : (c : Config) (sites : List SiteView) (sent : List (List ℕ)) (run : Run)
-    → run_of c sites sent ≡ run → AreSites c sites → (i : ℕ) (s : SiteView) → slice_get sites i ≡ Some s
+pub history_shown : (c : Config) (opened : Opening) (sites : List SiteView) (sent : List (List ℕ))
+    (run : Run)
+    → run_of c opened sites sent ≡ run → AreSites c sites → (i : ℕ) (s : SiteView) → slice_get sites
+    i ≡ Some s
     → (h : List Record) → h ≡ read_of (keeps_history s.keep) s.node.core.history
     → IfSome (slice_get run.world.nodes i) (λ (n : Node (Host Managed)). h ≡ n.core.history)
-history_shown c sites sent run same are i s there h read =
+history_shown c opened sites sent run same are i s there h read =
     let is : h ≡ s.node.core.history =
     read ∙ ap (λ k. read_of (keeps_history k) s.node.core.history) (are.keep i s there) in
     subst (λ o. IfSome o (λ (n : Node (Host Managed)). h ≡ n.core.history))

@@ -42,7 +42,7 @@ pub record SettlesSoFar (old now : Run) (made : ℕ) : Type 0 where
   pub led : IsLedTo old.config old.world moves now.world
 
 pub none_made : (r : Run) → SettlesSoFar r r 0
-none_made r = record { moves = []; count = refl; same = (refl, refl); led = refl }
+none_made r = record { moves = []; count = refl; same = (refl, refl, refl); led = refl }
 
 -- one more
 pub one_made : (old now new : Run) (made : ℕ) → SettlesSoFar old now made → HasMadeOne now new
@@ -53,7 +53,7 @@ one_made old now new made h one same =
     record {
       moves = h.moves ++ one.0 ∷ [];
       count = length-append h.moves (one.0 ∷ []) ∙ ap (λ n. n + 1) h.count;
-      same = (same.0 ∙ h.same.0, same.1 ∙ h.same.1);
+      same = (same.0 ∙ h.same.0, same.1 ∙ h.same.1, same.2 ∙ h.same.2);
       led = leads_one (host_rules managed_ops) old.config old.world now.world new.world h.moves
           one.0 h.led step;
     }

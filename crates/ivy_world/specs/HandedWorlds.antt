@@ -30,6 +30,7 @@ changed_at (suc i) f (x ∷ xs) = x ∷ changed_at i f xs
 abbrev pub run_handed : ℕ → List (List Call) → Run → Run
 run_handed node more r = record {
   config = r.config;
+  opened = r.opened;
   programs = changed_at node (handed more) r.programs;
   world = record r.world { nodes = changed_at node (node_changed (handing more)) r.world.nodes };
 }

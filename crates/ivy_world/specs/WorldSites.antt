@@ -4,10 +4,11 @@ use Rattle.ivy_model.specs.declared.Call.{Call}
 use Rattle.ivy_model.specs.declared.Fault.{Fault}
 use Rattle.ivy_model.specs.declared.Fault.TheVariants.{Memory, BadConfig}
 use Rattle.ivy_site.specs.Handed.{site_handed}
-use Rattle.ivy_site.specs.Sites.{first_keeping, early_at, IsMadeByEvents, IsSpentTurn}
+use Rattle.ivy_site.specs.Sites.{first_opened, early_at, IsMadeByEvents, IsSpentTurn}
 use Rattle.ivy_model.specs.declared.Config.{Config}
 use Rattle.ivy_model.specs.stated.Config.{IsConfig}
 use Rattle.ivy_model.specs.Wants.{RanOut}
+use Rattle.ivy_host.specs.declared.opening.Opening.{Opening}
 use Rattle.ivy_host.specs.stated.Managers.{Managed, managed_ops}
 use Rattle.ivy_program.specs.stated.Programs.{Program}
 use Rattle.ivy_moves.specs.declared.keep.Keep.TheVariants.{History}
@@ -49,25 +50,31 @@ pub record AfterMove (c : Config) (sites sites' : List SiteView) (sent sent' : L
   pub programs : programs_of sites' ≡ programs_of sites
 
 -- the sites of the programs as they begin, from this number on
-abbrev pub first_sites_from : Config → ℕ → List Program → List SiteView
-first_sites_from c me [] = []
-first_sites_from c me (p ∷ ps) = first_keeping History c me p ∷ first_sites_from c (me + 1) ps
+abbrev pub first_sites_from : Opening → Config → ℕ → List Program → List SiteView
+first_sites_from opened c me [] = []
+first_sites_from opened c me (p ∷ ps) =
+    first_opened opened History c me p ∷ first_sites_from opened c (me + 1) ps
 
--- that world, under this configuration, with its programs
-abbrev pub run_of : Config → List SiteView → List (List ℕ) → Run
-run_of c sites sent =
-    record { config = c; programs = programs_of sites; world = world_of sites sent }
+-- that world, under this configuration and this opening, with its programs
+abbrev pub run_of : Config → Opening → List SiteView → List (List ℕ) → Run
+run_of c opened sites sent = record {
+  config = c;
+  opened = opened;
+  programs = programs_of sites;
+  world = world_of sites sent;
+}
 
 -- the sites are those of a world that some moves led to from its opening
-pub record IsRunning (c : Config) (sites : List SiteView) (sent : List (List ℕ)) : Type 0 where
+pub record IsRunning (c : Config) (opened : Opening) (sites : List SiteView)
+    (sent : List (List ℕ)) : Type 0 where
   pub limits : IsConfig c
   pub count : length sites ≡ c.nodes
   pub nodes : AreSites c sites
-  pub reached : IsReached (run_of c sites sent)
+  pub reached : IsReached (run_of c opened sites sent)
 
 -- the sites of the programs as they begin, and no string waits
-abbrev pub AreFirst : Config → List Program → List SiteView → Type 0
-AreFirst c programs sites = sites ≡ first_sites_from c 0 programs
+abbrev pub AreFirst : Opening → Config → List Program → List SiteView → Type 0
+AreFirst opened c programs sites = sites ≡ first_sites_from opened c 0 programs
 
 -- own code at the site in this place makes these calls together and has a turn, if there are any,
 -- and the strings that wait there then are put on the wire

@@ -8,6 +8,6 @@ mod round;
 mod world;
 
 pub use ivy_moves::{Keep, Move};
-pub use ivy_site::{Program, Site, Turn, Verdict, parse};
+pub use ivy_site::{Opening, Program, Site, Turn, Verdict, parse};
 pub use rest::Rest;
 pub use world::World;

@@ -10,11 +10,10 @@ ghost use Rattle.ivy_moves.specs.stated.Worlds.{Moves, is_named};
 ghost use Rattle.ivy_host.specs.stated.Hosts.{host_rules};
 ghost use Rattle.ivy_host.specs.stated.Holding.{AllSpell};
 ghost use Rattle.proof_worlds.specs.stated.Keeping.{Keeps};
-ghost use Rattle.ivy_host.specs.stated.Openings.{opening};
 ghost use Rattle.ivy_model.specs.Rows.{calls_of, numbers_in, row};
 ghost use Rattle.ivy_site.specs.Calls.{MayCallTogether, row_together, words_together};
 ghost use Rattle.ivy_world.specs.HandedWorlds.{BeginsBlock, IsRefusedBlock, own_code, run_handed};
-ghost use Rattle.ivy_world.specs.stated.Runs.{made_of, IsRefusedBy, IsNamedUnless, IsSameRun, IsRefusedAt, IsNamedAt, IsExplainedOn};
+ghost use Rattle.ivy_world.specs.stated.Runs.{made_of, opened_run, IsRefusedBy, IsNamedUnless, IsSameRun, IsRefusedAt, IsNamedAt, IsExplainedOn};
 ghost use Rattle.proof_worlds.specs.stated.Reached.{IsLedTo, IsReached};
 ghost use Rattle.ivy_site.specs.Handed.{site_handed};
 ghost use Rattle.ivy_site.specs.Sites.{await_in};
@@ -30,7 +29,7 @@ use ivy_link::MOST_AHEAD;
 use ivy_model::{Call, Config, Fault, MOST_NODES, Record, Row};
 use ivy_moves::{Keep, Move};
 use ivy_program::Program;
-use ivy_site::{Site, Turn};
+use ivy_site::{Opening, Site, Turn};
 use ivy_wire::Bytes;
 use std::alloc::Allocator;
 use std::marker::Model;
@@ -49,6 +48,7 @@ const MOST_DELIVERED: usize = MOST_SENT + MOST_SENT * MOST_AHEAD;
 #[derive(Drop)]
 pub struct World<A: Allocator> {
     config: Config,
+    opening: Opening,
     sites: Vec<Site<A>, A>,
     sent: Vec<Bytes<A>, A>,
     /// No string before this place is under way any more.
@@ -69,9 +69,9 @@ impl<A: Allocator> Model for World<A> {
 
     ghost coded = { Prim.hlevel (codes, nodes_code, heap_state_code) };
 
-    ghost view = { λ w. run_of w.config w.sites.items w.sent.items };
+    ghost view = { λ w. run_of w.config w.opening w.sites.items w.sent.items };
 
-    ghost invariant = { λ w. IsRunning w.config w.sites.items w.sent.items × IsPassed w.config (world_of w.sites.items w.sent.items) w.passed };
+    ghost invariant = { λ w. IsRunning w.config w.opening w.sites.items w.sent.items × IsPassed w.config (world_of w.sites.items w.sent.items) w.passed };
 }
 
 /// Moves the strings that wait at a site behind all that were sent.
@@ -144,17 +144,18 @@ fn make<A: Allocator + Copy>(
 fn first_sites<A: Allocator + Copy>(
     alloc: A,
     config: &Config,
+    opening: Opening,
     programs: Vec<Program<A>, A>,
 ) -> Result<Vec<Site<A>, A>, Fault>
     requires limits { IsConfig config.now }
     requires each { length programs.items ≡ config.now.nodes }
-    ensures first { IfOk result (λ sites. AreFirst config.now programs.items sites.items) }
+    ensures first { IfOk result (λ sites. AreFirst opening config.now programs.items sites.items) }
     ensures memory { IfErr result IsMemory }
 {
     let mut sites = Vec::with_capacity(alloc, programs.len())?;
     let mut me = 0u8;
     for program in programs {
-        sites.push(Site::keeping(alloc, config, me, program, Keep::History)?)?;
+        sites.push(Site::opened(alloc, config, me, opening, program, Keep::History)?)?;
         me += 1;
     }
     Ok(sites)
@@ -204,14 +205,18 @@ fn begin_block<A: Allocator + Copy>(
 }
 
 /// The sites of own code, as many as there are nodes.
-fn open_sites<A: Allocator + Copy>(alloc: A, config: &Config) -> Result<Vec<Site<A>, A>, Fault>
+fn open_sites<A: Allocator + Copy>(
+    alloc: A,
+    config: &Config,
+    opening: Opening,
+) -> Result<Vec<Site<A>, A>, Fault>
     requires limits { IsConfig config.now }
-    ensures first { IfOk result (λ sites. AreFirst config.now (own_code config.now.nodes) sites.items) }
+    ensures first { IfOk result (λ sites. AreFirst opening config.now (own_code config.now.nodes) sites.items) }
     ensures memory { IfErr result IsMemory }
 {
     let mut sites = Vec::with_capacity(alloc, usize::from(config.nodes))?;
     for me in 0..config.nodes {
-        sites.push(Site::open_keeping(alloc, config, me, Keep::History)?)?;
+        sites.push(Site::open_by(alloc, config, me, opening, Keep::History)?)?;
     }
     Ok(sites)
 }
@@ -221,7 +226,7 @@ impl<A: Allocator + Copy> World<A> {
     ///
     /// It is 2 exactly where the configuration is out of the narrow limits, or there are not as many programs as nodes.
     pub fn new(alloc: A, config: Config, programs: Vec<Program<A>, A>) -> Result<World<A>, Fault>
-        ensures opens { IfOk result (λ world. world ≡ record { config = config; programs = programs.items; world = opening managed_ops config programs.items }) }
+        ensures opens { IfOk result (λ world. world ≡ opened_run Opening.Configured config programs.items) }
         ensures bad { IsErrOf result Fault.BadConfig ↔ ¬ (IsNarrow config × (length programs.items ≡ config.nodes)) }
         ensures want { IfErr result IsWorldWant }
     {
@@ -233,7 +238,23 @@ impl<A: Allocator + Copy> World<A> {
     ///
     /// It is 2 exactly where the configuration is out of the wide limits, or there are not as many programs as nodes.
     pub fn wide(alloc: A, config: Config, programs: Vec<Program<A>, A>) -> Result<World<A>, Fault>
-        ensures opens { IfOk result (λ world. world ≡ record { config = config; programs = programs.items; world = opening managed_ops config programs.items }) }
+        ensures opens { IfOk result (λ world. world ≡ opened_run Opening.Configured config programs.items) }
+        ensures bad { IsErrOf result Fault.BadConfig ↔ ¬ (IsConfig config × (length programs.items ≡ config.nodes)) }
+        ensures want { IfErr result IsWorldWant }
+    {
+        World::opened(alloc, config, Opening::Configured, programs)
+    }
+
+    /// The same, of nodes that begin so: by the manager that the configuration names, or by steady hints [1, 2].
+    ///
+    /// It is 2 exactly where the configuration is out of the wide limits, or there are not as many programs as nodes.
+    pub fn opened(
+        alloc: A,
+        config: Config,
+        opening: Opening,
+        programs: Vec<Program<A>, A>,
+    ) -> Result<World<A>, Fault>
+        ensures opens { IfOk result (λ world. world ≡ opened_run opening config programs.items) }
         ensures bad { IsErrOf result Fault.BadConfig ↔ ¬ (IsConfig config × (length programs.items ≡ config.nodes)) }
         ensures want { IfErr result IsWorldWant }
     {
@@ -241,9 +262,10 @@ impl<A: Allocator + Copy> World<A> {
         if programs.len() != usize::from(config.nodes) {
             return Err(Fault::BadConfig);
         }
-        let sites = first_sites(alloc, &config, programs)?;
+        let sites = first_sites(alloc, &config, opening, programs)?;
         Ok(World {
             config,
+            opening,
             sites,
             sent: Vec::new(alloc),
             passed: 0,
@@ -254,18 +276,37 @@ impl<A: Allocator + Copy> World<A> {
     ///
     /// It is 2 exactly where the configuration is out of the wide limits.
     pub fn open(alloc: A, config: Config) -> Result<World<A>, Fault>
-        ensures opens { IfOk result (λ world. world ≡ record { config = config; programs = own_code config.nodes; world = opening managed_ops config (own_code config.nodes) }) }
+        ensures opens { IfOk result (λ world. world ≡ opened_run Opening.Configured config (own_code config.nodes)) }
+        ensures bad { IsErrOf result Fault.BadConfig ↔ ¬ IsConfig config }
+        ensures want { IfErr result IsWorldWant }
+    {
+        World::open_by(alloc, config, Opening::Configured)
+    }
+
+    /// The same, of nodes that begin so: by the manager that the configuration names, or by steady hints [1, 2].
+    ///
+    /// It is 2 exactly where the configuration is out of the wide limits.
+    pub fn open_by(alloc: A, config: Config, opening: Opening) -> Result<World<A>, Fault>
+        ensures opens { IfOk result (λ world. world ≡ opened_run opening config (own_code config.nodes)) }
         ensures bad { IsErrOf result Fault.BadConfig ↔ ¬ IsConfig config }
         ensures want { IfErr result IsWorldWant }
     {
         config.check_wide()?;
-        let sites = open_sites(alloc, &config)?;
+        let sites = open_sites(alloc, &config, opening)?;
         Ok(World {
             config,
+            opening,
             sites,
             sent: Vec::new(alloc),
             passed: 0,
         })
+    }
+
+    /// How the nodes began: by the manager of the configuration, or by steady hints. It takes no memory.
+    pub fn opening(&self) -> Opening
+        ensures { result ≡ self.now.opened }
+    {
+        self.opening
     }
 
     /// Every string ever sent, in the order sent. It takes no memory.
@@ -457,6 +498,7 @@ impl<A: Allocator + Copy> World<A> {
         ensures nodes { length self.now.world.nodes ≡ self.now.config.nodes }
         ensures reached { IsReached self.now }
     {
+        // for the proof: what holds of every value of this type.
         let _ = &self.config;
     }
 

@@ -1,5 +1,5 @@
 -- What is printed of logs that are the parts of one run.
-use Rattle.std.specs.Prelude.{ℕ, List, ◌++◌, map, Option}
+use Rattle.std.specs.Prelude.{ℕ, Bool, List, ◌++◌, map, Option}
 use Rattle.std.specs.List.{AllZip}
 use Rattle.std.specs.Io.KnownBytes.{Appends}
 use Rattle.ivy_model.specs.declared.Config.{Config}
@@ -13,7 +13,7 @@ use Rattle.ivy_logs.specs.declared.log.LogKind.{LogKind}
 use Rattle.ivy_logs.specs.declared.log.LogKind.TheVariants.{OfProgram}
 use Rattle.ivy_logs.specs.Entries.{LogEntry, SpellsLog, events_in}
 use Rattle.ivy_site.specs.SiteView.{SiteView}
-use Rattle.ivy_join.specs.Joined.{AreHeads, AreJoined, AreNoParts, SaysNoParts}
+use Rattle.ivy_join.specs.Joined.{opening_by, AreHeads, AreJoined, AreNoParts, SaysNoParts}
 use Rattle.ivynode.specs.declared.failure.Failure.{Failure}
 use Rattle.ivynode.specs.declared.failure.Failure.TheVariants.{Unjoined}
 
@@ -45,18 +45,20 @@ ends_in sites = numbered_texts end_in 0 sites
 -- nodes printed in that run was printed, and which of their programs have ended there
 pub record PrintsRun (programs : List Program) (heads : List LogHead) (logs : List (List LogEntry))
     (old new : Option (List ℕ)) : Type 0 where
+  pub steady : Bool
   pub config : Config
-  pub own : AreHeads config 0 heads
+  pub own : AreHeads steady config 0 heads
   pub sites : List SiteView
-  pub joined : AreJoined config programs (lists_of logs) sites
+  pub joined : AreJoined config (opening_by steady) programs (lists_of logs) sites
   pub printed : Appends old new (outputs_text (outputs_in sites) ++ ends_in sites)
 
 -- the logs are those of all nodes of one configuration, and the parts of no run of these programs under it
 pub record AreOfNoRun (programs : List Program) (heads : List LogHead) (logs : List (List LogEntry)) : Type 0
   where
+    pub steady : Bool
     pub config : Config
-    pub own : AreHeads config 0 heads
-    pub none : AreNoParts config programs (lists_of logs)
+    pub own : AreHeads steady config 0 heads
+    pub none : AreNoParts config (opening_by steady) programs (lists_of logs)
 
 -- the failure says that logs are not the parts of a run
 abbrev pub IsNoRun : Failure → Type 0
@@ -66,15 +68,16 @@ IsNoRun failure = ⊥
 -- programs and logs, each as some text spells it, were joined: the logs are the parts of one run of the
 -- programs. What the nodes printed in that run was printed, and which of their programs have ended there
 pub record PrintsJoined (old new : Option (List ℕ)) : Type 0 where
+  pub steady : Bool
   pub config : Config
   pub programs : List Program
   pub spelled : AreSpelled programs
   pub heads : List LogHead
   pub logs : List (List LogEntry)
   pub said : AllZip (IsSpelled OfProgram) heads logs
-  pub own : AreHeads config 0 heads
+  pub own : AreHeads steady config 0 heads
   pub sites : List SiteView
-  pub joined : AreJoined config programs (lists_of logs) sites
+  pub joined : AreJoined config (opening_by steady) programs (lists_of logs) sites
   pub printed : Appends old new (outputs_text (outputs_in sites) ++ ends_in sites)
 
 -- programs and logs, each as some text spells it, do not belong together: the logs are those of all nodes of one

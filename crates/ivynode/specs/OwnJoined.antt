@@ -11,7 +11,7 @@ use Rattle.ivy_logs.specs.declared.log.LogHead.{LogHead}
 use Rattle.ivy_logs.specs.declared.log.LogKind.TheVariants.{OfOwnCode}
 use Rattle.ivy_logs.specs.Entries.{LogEntry, answers_in}
 use Rattle.ivy_site.specs.SiteView.{SiteView}
-use Rattle.ivy_join.specs.Joined.{AreHeads}
+use Rattle.ivy_join.specs.Joined.{opening_by, AreHeads}
 use Rattle.ivy_join.specs.OwnJoined.{AreAllTold, AreAnswered, AreOwnJoined}
 use Rattle.ivynode.specs.Joined.{IsSpelled}
 
@@ -48,13 +48,14 @@ all_open_in logs sites = numbered_texts open_in 0 (zip logs sites)
 -- printed, and then which nodes have a call in progress, or lack an answer in their log. Where no node was named so,
 -- one flat memory could have given the answers in the logs
 pub record PrintsOwnJoined (old new : Option (List ℕ)) : Type 0 where
+  pub steady : Bool
   pub config : Config
   pub heads : List LogHead
   pub logs : List (List LogEntry)
   pub spelled : AllZip (IsSpelled OfOwnCode) heads logs
-  pub own : AreHeads config 0 heads
+  pub own : AreHeads steady config 0 heads
   pub sites : List SiteView
-  pub joined : AreOwnJoined config logs sites
+  pub joined : AreOwnJoined config (opening_by steady) logs sites
   pub told : all_open_in logs sites ≡ [] → AreAllTold logs sites
   pub answered : AreAllTold logs sites → AreAnswered config logs
   pub printed : Appends old new (all_answered_in sites ++ all_open_in logs sites)

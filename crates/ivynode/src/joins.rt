@@ -8,7 +8,7 @@ ghost use Rattle.ivynode.specs.Joined.{AreOfNoRun, AreRefused, AreSpelled, IsNoR
 ghost use Rattle.ivynode.specs.OwnJoined.{PrintsOwnJoined, all_answered_in, all_open_in, answered_line, is_whole, open_line};
 
 use crate::failure::Failure;
-use ivy_join::{Joined, Unjoined, join, join_own};
+use ivy_join::{Joined, Unjoined, join_opened, join_own_opened};
 use ivy_logs::{Log, LogKind, count_answers, parse_log};
 use ivy_model::Fault;
 use ivy_program::{Program, parse};
@@ -170,7 +170,7 @@ fn join_logs<W: Write>(
     let Some(first) = logs.first() else {
         return Err(Failure::Unjoined(Unjoined::Missing(0)));
     };
-    let joined = join(alloc, first.head.config, programs, logs)?;
+    let joined = join_opened(alloc, first.head.steady, first.head.config, programs, logs)?;
     print_joined(&joined, out)?;
     Ok(())
 }
@@ -264,7 +264,7 @@ pub(crate) fn join_own_files<R: Files + AllocGlobal, W: Write>(
     let Some(first) = logs.first() else {
         return Err(Failure::Unjoined(Unjoined::Missing(0)));
     };
-    let joined = join_own(rt.alloc(), first.head.config, &logs)?;
+    let joined = join_own_opened(rt.alloc(), first.head.steady, first.head.config, &logs)?;
     print_own(&joined, &logs, out)?;
     Ok(())
 }

@@ -38,7 +38,8 @@ Usage:
   ivynode router [options]        hands lines from standard input on, and mistreats them
 
 Options of run:
-  --pages N, --page-size N, --manager fixed|dynamic    as for ivy; 16, 256, dynamic
+  --pages N, --page-size N      as for ivy; 16, 256
+  --manager fixed|dynamic|steady    how the owner of a page is found; dynamic
   --log LOG        the node's log; where it has lines, the node is made again from them
   --sync           each line of the log is on the disk before what follows from it goes out
   --pulse-ms M     the time between pulses, 1 to 60000; 20

@@ -8,7 +8,8 @@ use crate::misuse::Misuse;
 use crate::request::Asked;
 use crate::standing::{Calls, Standing};
 use ivy_explain::Listing;
-use ivy_logs::{Log as OldLog, LogKind, parse_log, sum_of_run};
+use ivy_join::opening_by;
+use ivy_logs::{Log as OldLog, LogHead, LogKind, parse_log, sum_opened};
 use ivy_model::{Call, Config, Fault, LEAST_NODES, LEAST_PAGES, MOST_NODES, MOST_PAGES};
 use ivy_moves::Keep;
 use ivy_process::{
@@ -135,11 +136,11 @@ struct Part {
 }
 
 /// Why a log is not the one of this node, where it is not.
-fn other_in(old: &OldLog<Global>, config: &Config, me: u8, sum: u64) -> Option<OtherLog> {
-    if old.head.me != me {
+fn other_in(old: &OldLog<Global>, head: &LogHead, sum: u64) -> Option<OtherLog> {
+    if old.head.me != head.me {
         return Some(OtherLog::Node(old.head.me));
     }
-    if old.head.config != *config {
+    if old.head != *head {
         return Some(OtherLog::Config);
     }
     if old.sum.is_some_and(|other| other != sum) {
@@ -165,8 +166,12 @@ fn past_of(
         Ok(old) => old,
         Err(fault) => return Err(fault_in(alloc, name, fault)),
     };
-    let me = node_number(&part.config, asked.node)?;
-    match other_in(&old, &part.config, me, part.sum) {
+    let head = LogHead {
+        me: node_number(&part.config, asked.node)?,
+        config: part.config,
+        steady: asked.steady,
+    };
+    match other_in(&old, &head, part.sum) {
         Some(why) => Err(other_log(alloc, name, why)),
         None => Ok(Some(old)),
     }
@@ -188,10 +193,13 @@ fn node_of(
         program,
     } = part;
     let me = node_number(&config, asked.node)?;
+    let opening = opening_by(asked.steady);
     let mut node = match past {
-        Some(past) => Node::restart(alloc, &config, me, program, asked.limits, past)?,
+        Some(past) => {
+            Node::restart_opened(alloc, &config, me, opening, program, asked.limits, past)?
+        }
         None => {
-            let node = Node::start(alloc, &config, me, program, asked.limits)?;
+            let node = Node::start_opened(alloc, &config, me, opening, program, asked.limits)?;
             node.begin_log_of_run(sum, log)?;
             node
         }
@@ -240,7 +248,8 @@ fn first_site(
     let programs = programs_in(alloc, asked.file, text)?;
     let program = program_of(programs, asked.node)?;
     let me = node_number(config, asked.node)?;
-    Ok(Site::keeping(alloc, config, me, program, Keep::Nothing)?)
+    let opening = opening_by(asked.steady);
+    Ok(Site::opened(alloc, config, me, opening, program, Keep::Nothing)?)
 }
 
 /// The configuration that is asked for, of so many nodes. The failure names the limit that it is out of.
@@ -266,7 +275,7 @@ fn part_of(alloc: Global, asked: &Asked<'_>, text: &str) -> Result<Part, Failure
 {
     let programs = programs_in(alloc, asked.file, text)?;
     let config = config_of(asked, programs.len())?;
-    let sum = sum_of_run(&config, &programs);
+    let sum = sum_opened(asked.steady, &config, &programs);
     let program = program_of(programs, asked.node)?;
     Ok(Part {
         config,

@@ -47,6 +47,8 @@ pub(crate) enum Help {
 pub(crate) struct Asked<'a> {
     pub(crate) file: &'a str,
     pub(crate) node: u64,
+    /// Whether it begins with steady hints, in place of the manager of the settings.
+    pub(crate) steady: bool,
     pub(crate) settings: Settings,
     pub(crate) log: Option<&'a str>,
     pub(crate) is_synced: bool,
@@ -192,19 +194,21 @@ fn word_of<'a>(alloc: Global, word: &'a str, known: Known) -> Result<Word<'a>, M
     }
 }
 
-fn manager_of(word: Option<&str>) -> Result<Kind, Misuse> {
+/// The manager that a configuration names, and whether nodes begin with steady hints in its place: these are dynamic there.
+fn manager_of(word: Option<&str>) -> Result<(Kind, bool), Misuse> {
     match word {
-        None | Some("dynamic") => Ok(Kind::Dynamic),
-        Some("fixed") => Ok(Kind::Fixed),
-        Some(_) => Err(Misuse::Option("--manager", "is `fixed` or `dynamic`")),
+        None | Some("dynamic") => Ok((Kind::Dynamic, false)),
+        Some("fixed") => Ok((Kind::Fixed, false)),
+        Some("steady") => Ok((Kind::Dynamic, true)),
+        Some(_) => Err(Misuse::Option("--manager", "is `fixed`, `dynamic` or `steady`")),
     }
 }
 
-fn settings_of(words: &Words<'_>) -> Result<Settings, Misuse> {
+fn settings_of(words: &Words<'_>, manager: Kind) -> Result<Settings, Misuse> {
     Ok(Settings {
         pages: words.number("--pages", 16, 0, MOST)?,
         page_size: words.number("--page-size", 256, 0, MOST)?,
-        manager: manager_of(words.value("--manager")?)?,
+        manager,
     })
 }
 
@@ -224,10 +228,12 @@ fn asked_of<'a>(words: &Words<'a>) -> Result<Asked<'a>, Misuse> {
     let Some(node) = parse_number(node) else {
         return Err(Misuse::Words("the node is no number"));
     };
+    let (manager, steady) = manager_of(words.value("--manager")?)?;
     Ok(Asked {
         file,
         node,
-        settings: settings_of(words)?,
+        steady,
+        settings: settings_of(words, manager)?,
         log: words.value("--log")?,
         is_synced: words.value("--sync")?.is_some(),
         limits: limits_of(words)?,

@@ -1,7 +1,9 @@
+pub mod Missing
+pub mod WaitRanks
 pub mod Bases
 pub mod Unlocking
-pub mod Aims
 pub mod Leading
+pub mod Aims
 pub mod ReadWriteRounds
 pub mod HeapRounds
 pub mod Calls

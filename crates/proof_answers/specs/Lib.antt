@@ -1,3 +1,5 @@
 pub mod answers
 pub mod fairness
 pub mod sweeps
+pub mod late
+pub mod steady

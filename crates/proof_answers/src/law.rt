@@ -5,10 +5,13 @@ ghost use Rattle.proof_answers.specs.answers.Undropped.{NothingIsDropped};
 ghost use Rattle.proof_answers.specs.fairness.Fairness.{CallsAnswered, HeapCallsAnswered};
 ghost use Rattle.proof_answers.specs.sweeps.FewUnderWay.{FewAreUnderWay};
 ghost use Rattle.proof_answers.specs.sweeps.Sweeps.{SweepsAreRounds, SweepsDeliver};
+ghost use Rattle.proof_answers.specs.late.LateLaws.{LateNodesStayLate};
+ghost use Rattle.proof_answers.specs.steady.SendsOn.{FewSendOn};
+ghost use Rattle.proof_answers.specs.steady.Steady.{SteadyCallsAnswered};
 
 /// Nothing that is undelivered is ever dropped. This is a fact, and the call does nothing.
 ///
-/// In each world that moves lead to from the opening of some programs, under either manager: of what a node sent
+/// In each world that moves lead to from an opening of some programs, under each manager: of what a node sent
 /// another one, all but what it keeps was delivered there, and no more than it sent.
 pub fn nothing_is_dropped()
     ensures { NothingIsDropped }
@@ -16,7 +19,7 @@ pub fn nothing_is_dropped()
 
 /// What a pulse achieves whose strings are delivered in order. This is a fact, and the call does nothing.
 ///
-/// In each world that moves lead to from the opening of some programs, under either manager: a node pulses another one,
+/// In each world that moves lead to from an opening of some programs, under each manager: a node pulses another one,
 /// and then the strings of the pulse are delivered there, in the order in which they were sent, whatever other moves
 /// are made between. Then all is delivered that the node did not keep at the pulse, and of what it kept the first 32.
 /// It says nothing of a string that is never delivered.
@@ -26,7 +29,7 @@ pub fn pulses_deliver()
 
 /// What two pulses achieve, back and there. This is a fact, and the call does nothing.
 ///
-/// In each world that moves lead to from the opening of some programs, under either manager: a node pulses another one,
+/// In each world that moves lead to from an opening of some programs, under each manager: a node pulses another one,
 /// by which it sends a string, and then that one pulses it, and each time the strings are delivered in order, whatever
 /// other moves are made between. Then all is delivered to the first node that the other one had sent at its pulse, or
 /// 32 more than had been delivered at the first pulse. A node to which a message is repeated owes an acknowledgement,
@@ -37,7 +40,7 @@ pub fn pulses_move_on()
 
 /// Some call is answered: the nodes together are lock-free. This is a fact, and the call does nothing.
 ///
-/// In each world that moves lead to from the opening of some programs, under either manager, let a node's call be due:
+/// In each world that moves lead to from an opening of some programs, under each manager, let a node's call be due:
 /// in progress, and if it is an await, its count was advanced often enough. A round of that node is any list of moves in
 /// which it has a turn, and by whose end each message is delivered that a node had sent at its beginning. Then there is
 /// a number so that as many rounds as that, whatever they are, make some node's history longer. So a call is passed over
@@ -49,19 +52,20 @@ pub fn some_call_is_answered()
 
 /// Each due call is answered under managing nodes. This is a fact, and the call does nothing.
 ///
-/// In each world that moves lead to from the opening of some programs, under managing nodes, let a call be in progress
-/// at a node that, where it is an await, waits for no more advances of its count than the nodes were told. A round of
-/// that node is any list of moves in which it has a turn, and by whose end each message is delivered that a node had
-/// sent at its beginning. Then 6 N + 3 rounds of N nodes, whatever the others do in them, make the node's history
-/// longer. So nobody is passed over for ever. It says nothing of a message that is never delivered, or of a node that
-/// has no turn; nor of nodes that hint at each other, where others that are answered may pass a call over for ever.
+/// In each world that moves lead to from a configured opening of some programs, under managing nodes, let a call be in
+/// progress at a node that, where it is an await, waits for no more advances of its count than the nodes were told. A
+/// round of that node is any list of moves in which it has a turn, and by whose end each message is delivered that a
+/// node had sent at its beginning. Then 6 N + 3 rounds of N nodes, whatever the others do in them, make the node's
+/// history longer. So nobody is passed over for ever. It says nothing of a message that is never delivered, or of a
+/// node that has no turn; nor of nodes that hint at each other, where others that are answered may pass a call over for
+/// ever.
 pub fn calls_are_answered()
     ensures { CallsAnswered }
 {}
 
 /// Each call of the heap is answered in three rounds. This is a fact, and the call does nothing.
 ///
-/// In each world that moves lead to from the opening of some programs, under either manager, let an allocation or a free
+/// In each world that moves lead to from an opening of some programs, under each manager, let an allocation or a free
 /// be in progress at a node. Then three rounds of that node, as above, make its history longer, whatever the others do
 /// in them. Node 0, which keeps the heap, has no such call in progress: it is answered in the turn that makes it.
 pub fn heap_calls_are_answered()
@@ -70,7 +74,7 @@ pub fn heap_calls_are_answered()
 
 /// Few messages are under way. This is a fact, and the call does nothing.
 ///
-/// In each world that moves lead to from the opening of some programs, under either manager: of what a node sent
+/// In each world that moves lead to from an opening of some programs, under each manager: of what a node sent
 /// another one, at most as many messages as there are nodes were not delivered there yet. For of each node's call, or of
 /// its order to give a copy up, one message at most is under way between two nodes.
 pub fn few_are_under_way()
@@ -79,7 +83,7 @@ pub fn few_are_under_way()
 
 /// What three sweeps of pulses achieve. This is a fact, and the call does nothing.
 ///
-/// In each world that moves lead to from the opening of some programs, under either manager: a sweep is any list of moves
+/// In each world that moves lead to from an opening of some programs, under each manager: a sweep is any list of moves
 /// in which each node pulses each other one, and the strings of each pulse are delivered, in the order in which they were
 /// sent, whatever other moves are made between. After three of them each message is delivered that a node had sent
 /// another one before the first. It says nothing where a string that a pulse sent is lost.
@@ -92,4 +96,34 @@ pub fn sweeps_deliver()
 /// They are one of each node that has a turn in them, as the law of the calls that are answered speaks of rounds.
 pub fn sweeps_are_rounds()
     ensures { SweepsAreRounds }
+{}
+
+/// Who comes after a request comes after it until it is served. This is a fact, and the call does nothing.
+///
+/// Nodes hint at each other, their hints stay where a copy is ended, and requests are sent on where a copy is awaited.
+/// Each step of the table of coherence events leaves late nodes late while the request is not served. It leaves each of
+/// the request's chain where it was, or that node is late then which served it. Hints stay steady, and what a reader
+/// sends on comes after its own request.
+pub fn late_nodes_stay_late()
+    ensures { LateNodesStayLate }
+{}
+
+/// Each due call is answered under steady hints. This is a fact, and the call does nothing.
+///
+/// In each world that moves lead to from an opening with steady hints, let a call be in progress at a node that, where
+/// it is an await, waits for no more advances of its count than the nodes were told. A round of that node is any list
+/// of moves in which it has a turn, and by whose end each message is delivered that a node had sent at its beginning.
+/// Then 4 N + 1 rounds of N nodes, whatever the others do in them, make the node's history longer. So nobody is passed
+/// over for ever. It says nothing of a message that is never delivered, or of a node that has no turn.
+pub fn steady_calls_are_answered()
+    ensures { SteadyCallsAnswered }
+{}
+
+/// Few nodes send a request on under steady hints. This is a fact, and the call does nothing.
+///
+/// Of each world with messages in order that steps lead to from an opening with steady hints, and of whatever steps
+/// lead on from it while a node's request for a page is out: no node sends the request on twice in them, the node that
+/// asks never does, and of N nodes no more than N - 2 do.
+pub fn few_nodes_send_on()
+    ensures { FewSendOn }
 {}

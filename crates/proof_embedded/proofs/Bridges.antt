@@ -5,6 +5,7 @@ use Rattle.ivy_model.specs.declared.Config.{Config}
 use Rattle.ivy_model.specs.stated.Config.{IsConfig}
 use Rattle.ivy_pagetable.specs.stated.Tables.{entry_at, page_at}
 use Rattle.ivy_program.specs.stated.Programs.{Program}
+use Rattle.ivy_host.specs.declared.opening.Opening.{Opening}
 use Rattle.ivy_moves.proofs.Places.{set-cases}
 use Rattle.ivy_site.specs.SiteView.{SiteView}
 use Rattle.proof_worlds.specs.consistency.Alone.{bytes_in, entries_in}
@@ -33,26 +34,27 @@ pub none_added : (c : Config) (l : LentWorld) (made : List Made) (rest : List le
 none_added c l made rest g =
     subst (λ ms. GoesOnLent c l ms rest) (ap (λ x. made ++ x) g.1 ∙ append-nil made) g.2
 
-module _ (c : Config) (limits : IsConfig c) (ps : List Program) (few : length ps ≡ c.nodes) where
+module _ (o : Opening) (c : Config) (limits : IsConfig c) (ps : List Program)
+    (few : length ps ≡ c.nodes) where
   -- the world of a moment, with these lendings and images
   abbrev pub world_at : (ℕ → ℕ → Lending) → (ℕ → ℕ → List ℕ) → (d : Driven)
-      → IsMoment c limits ps few d → LentWorld
+      → IsMoment o c limits ps few d → LentWorld
   world_at loans image d m = lent_world c loans image (along ps d.nodes) m.sent
 
   module _ (loans : ℕ → ℕ → Lending) (image : ℕ → ℕ → List ℕ) (d : Driven)
-      (m : IsMoment c limits ps few d) where
+      (m : IsMoment o c limits ps few d) where
     entry_now : (i : ℕ) (e : Embedded) → slice_get d.nodes i ≡ Some e → (page : ℕ)
         → entries_in (world_at loans image d m).world i page
         ≡ entry_at (table_of (core_of e.site)) page
     entry_now i e at page =
-        let p = program_at c limits ps few d m i e at in
+        let p = program_at o c limits ps few d m i e at in
         entry_is (along ps d.nodes) m.sent i page (as_run p.0 [] e.site)
         (along_there ps d.nodes i p.0 e p.1 at)
 
     bytes_now : (i : ℕ) (e : Embedded) → slice_get d.nodes i ≡ Some e → (page : ℕ)
         → bytes_in (world_at loans image d m).world i page ≡ bytes_at e page
     bytes_now i e at page =
-        let p = program_at c limits ps few d m i e at in
+        let p = program_at o c limits ps few d m i e at in
         bytes_are (along ps d.nodes) m.sent i page (as_run p.0 [] e.site)
         (along_there ps d.nodes i p.0 e p.1 at)
 
@@ -72,7 +74,7 @@ module _ (c : Config) (limits : IsConfig c) (ps : List Program) (few : length ps
 
   -- node i lends, or takes back, by this call
   module _ (i : ℕ) (old new : Mapped) (call : IsCalled i old new)
-      (m : IsMoment c limits ps few old.driven) (next : IsMoment c limits ps few new.driven)
+      (m : IsMoment o c limits ps few old.driven) (next : IsMoment o c limits ps few new.driven)
       (loans : ℕ → ℕ → Lending) (image : ℕ → ℕ → List ℕ)
       (same : (j q : ℕ) → loans j q ≡ lent_in old j q)
       (shows : (j q : ℕ) → lent_in old j q ≢ Unlent → image j q ≡ old.image j q) where
@@ -245,7 +247,7 @@ module _ (c : Config) (limits : IsConfig c) (ps : List Program) (few : length ps
 
   -- a program accesses an image, and the nodes stay
   module _ (a : Access) (old new : Mapped) (point : IsPointed c a old new)
-      (m : IsMoment c limits ps few old.driven) (loans : ℕ → ℕ → Lending) (image : ℕ → ℕ → List ℕ)
+      (m : IsMoment o c limits ps few old.driven) (loans : ℕ → ℕ → Lending) (image : ℕ → ℕ → List ℕ)
       (same : (j q : ℕ) → loans j q ≡ lent_in old j q)
       (shows : (j q : ℕ) → lent_in old j q ≢ Unlent → image j q ≡ old.image j q) where
     abbrev pub pointed_image : ℕ → ℕ → List ℕ

@@ -15,7 +15,8 @@ use Rattle.ivy_model.specs.Rows.{calls_of, numbers_in, row}
 use Rattle.ivy_program.specs.stated.Programs.{Program, Called}
 use Rattle.ivy_host.specs.stated.Hosts.{Host, host_rules, answered_by}
 use Rattle.ivy_host.specs.stated.Managers.{Managed, managed_ops}
-use Rattle.ivy_host.specs.stated.Openings.{opening}
+use Rattle.ivy_host.specs.declared.opening.Opening.{Opening}
+use Rattle.ivy_host.specs.stated.Openings.{managed_start, opening}
 use Rattle.ivy_moves.specs.stated.Explained.{IsUntorn}
 use Rattle.ivy_moves.specs.stated.Nodes.{pulsing}
 use Rattle.ivy_moves.specs.stated.Worlds.{World}
@@ -29,8 +30,8 @@ use Rattle.ivy_site.specs.declared.turn.Turn.TheVariants.{Moved}
 use Rattle.ivy_site.specs.Calls.{AreAnswered, AreTaken, BeginsRow}
 use Rattle.ivy_site.specs.Handed.{site_handed}
 use Rattle.ivy_site.specs.SiteView.{SiteView, after_pulse_to}
-use Rattle.ivy_site.specs.Sites.{SiteTurns, AfterDelivery, first_keeping}
-use Rattle.ivy_embedded.specs.Nodes.{Embedded, first_embedded, strings_of, waiting_in}
+use Rattle.ivy_site.specs.Sites.{SiteTurns, AfterDelivery, first_opened}
+use Rattle.ivy_embedded.specs.Nodes.{Embedded, opened_embedded, strings_of, waiting_in}
 use Rattle.ivy_embedded.specs.Exports.{AfterBegin, AfterCall, ChangesWaiting, Takes}
 use Rattle.ivy_embedded.specs.declared.status.TheConstants.{DONE, SHORT_BUFFER, NO_FRAME}
 use Rattle.proof_worlds.specs.stated.Keeping.{Keeps}
@@ -50,150 +51,162 @@ seen e = with_strings [] e.site
 
 -- the nodes are those of a world that runs, and whatever was taken out of them or waits there was
 -- sent
-record AreDriven (c : Config) (past : List Driven) (nodes : List Embedded)
+record AreDriven (c : Config) (o : Opening) (past : List Driven) (nodes : List Embedded)
     (strings : List (List ℕ)) : Type 0 where
   sent : List (List ℕ)
-  running : RunsWith c past (map seen nodes) sent
+  running : RunsWith c o past (map seen nodes) sent
   taken : (bytes : List ℕ) → Contains strings bytes → Contains sent bytes
   waits : (i : ℕ) (e : Embedded) → slice_get nodes i ≡ Some e → (bytes : List ℕ)
       → Contains (waiting_in e) bytes → Contains sent bytes
 
 -- one site of a world goes on
 
-module _ (c : Config) (past : List Driven) (sites : List SiteView) (sent : List (List ℕ)) (i : ℕ) (old : SiteView)
-    (there : slice_get sites i ≡ Some (with_strings [] old)) (h : RunsWith c past sites sent) where
-  -- the site went on: it has these strings more, and the world runs on
-  record Further (new : SiteView) : Type 0 where
-    more : List (List ℕ)
-    waiting : new.waiting ≡ old.waiting ++ more
-    running : RunsWith c past (set sites i (with_strings [] new)) (sent ++ more)
+module _ (c : Config) (o : Opening) (past : List Driven) (sites : List SiteView)
+    (sent : List (List ℕ)) (i : ℕ) (old : SiteView)
+    (there : slice_get sites i ≡ Some (with_strings [] old)) (h : RunsWith c o past sites sent)
+  where
+    -- the site went on: it has these strings more, and the world runs on
+    record Further (new : SiteView) : Type 0 where
+      more : List (List ℕ)
+      waiting : new.waiting ≡ old.waiting ++ more
+      running : RunsWith c o past (set sites i (with_strings [] new)) (sent ++ more)
 
-  here : (new : SiteView) (more : List (List ℕ)) (step : Move)
-      → AfterMove c sites (set sites i (with_strings [] new)) sent (sent ++ more) step
-      → RunsWith c past (set sites i (with_strings [] new)) (sent ++ more)
-  here new more step m =
-      runs_with c past sites (set sites i (with_strings [] new)) sent (sent ++ more) step h m.are
-      (length-set sites i (with_strings [] new) ∙ h.count) m.programs m.made
+    here : (new : SiteView) (more : List (List ℕ)) (step : Move)
+        → AfterMove c sites (set sites i (with_strings [] new)) sent (sent ++ more) step
+        → RunsWith c o past (set sites i (with_strings [] new)) (sent ++ more)
+    here new more step m =
+        runs_with c o past sites (set sites i (with_strings [] new)) sent (sent ++ more) step h m.are
+        (length-set sites i (with_strings [] new) ∙ h.count) m.programs m.made
 
-  stayed : (new : SiteView) → new ≡ old → Further new
-  stayed new same = record {
-    more = [];
-    waiting = ap (λ (s : SiteView). s.waiting) same ∙ sym (append-nil old.waiting);
-    running = subst (RunsWith c past (set sites i (with_strings [] new))) (sym (append-nil sent))
-        (subst (λ ss. RunsWith c past ss sent)
-        (sym (set_same sites i (with_strings [] old) there)
-        ∙ ap (λ s. set sites i (with_strings [] s)) (sym same)) h);
-  }
+    stayed : (new : SiteView) → new ≡ old → Further new
+    stayed new same = record {
+      more = [];
+      waiting = ap (λ (s : SiteView). s.waiting) same ∙ sym (append-nil old.waiting);
+      running = subst (RunsWith c o past (set sites i (with_strings [] new))) (sym (append-nil sent))
+          (subst (λ ss. RunsWith c o past ss sent)
+          (sym (set_same sites i (with_strings [] old) there)
+          ∙ ap (λ s. set sites i (with_strings [] s)) (sym same)) h);
+    }
 
-  turned : (new : SiteView) → SiteTurns old new → Further new
-  turned new t =
-      let k = turn_carries old new t in record {
-        more = k.more;
-        waiting = k.waiting;
-        running = here new k.more (move.Turn i)
-            (went_there c sites (set sites i (with_strings [] new)) sent (sent ++ k.more) (move.Turn i)
-            (turn_went c sites sent i (with_strings [] old) (with_strings k.more new)
-            (with_strings [] new) Moved (move.Turn i) (sent ++ k.more) h.nodes there (k.goes []) refl
-            refl refl));
-      }
+    turned : (new : SiteView) → SiteTurns old new → Further new
+    turned new t =
+        let k = turn_carries old new t in record {
+          more = k.more;
+          waiting = k.waiting;
+          running = here new k.more (move.Turn i)
+              (went_there c sites (set sites i (with_strings [] new)) sent (sent ++ k.more) (move.Turn i)
+              (turn_went c sites sent i (with_strings [] old) (with_strings k.more new)
+              (with_strings [] new) Moved (move.Turn i) (sent ++ k.more) h.nodes there (k.goes []) refl
+              refl refl));
+        }
 
-  turned_once : (new : SiteView) → (new ≡ old) ⊎ SiteTurns old new → Further new
-  turned_once new w = ⊎_elim (stayed new) (turned new) w
+    turned_once : (new : SiteView) → (new ≡ old) ⊎ SiteTurns old new → Further new
+    turned_once new w = ⊎_elim (stayed new) (turned new) w
 
-  delivered : (new : SiteView) (bytes : List ℕ) (v : Verdict) → Contains sent bytes
-      → AfterDelivery bytes v old new → Further new
-  delivered new bytes v in_sent d =
-      let k = delivery_carries bytes v old new d in record {
-        more = k.more;
-        waiting = k.waiting;
-        running = here new k.more (move.Deliver in_sent.0 i)
-            (delivery_went c sites sent in_sent.0 i (with_strings [] old) (with_strings k.more new)
-            (with_strings [] new) bytes v (move.Deliver in_sent.0 i) (sent ++ k.more) h.limits h.nodes
-            there (slice_get_read sent (length sent) in_sent.0 bytes refl in_sent.1 (sym in_sent.2))
-            (k.goes []) refl refl refl);
-      }
+    delivered : (new : SiteView) (bytes : List ℕ) (v : Verdict) → Contains sent bytes
+        → AfterDelivery bytes v old new → Further new
+    delivered new bytes v in_sent d =
+        let k = delivery_carries bytes v old new d in record {
+          more = k.more;
+          waiting = k.waiting;
+          running = here new k.more (move.Deliver in_sent.0 i)
+              (delivery_went c sites sent in_sent.0 i (with_strings [] old) (with_strings k.more new)
+              (with_strings [] new) bytes v (move.Deliver in_sent.0 i) (sent ++ k.more) h.limits h.nodes
+              there (slice_get_read sent (length sent) in_sent.0 bytes refl in_sent.1 (sym in_sent.2))
+              (k.goes []) refl refl refl);
+        }
 
-  pulsed : (new : SiteView) (to : ℕ) → to < old.config.nodes → to ≢ old.me
-      → new ≡ after_pulse_to old to (pulsing old.node to) → Further new
-  pulsed new to within other p =
-      let k = pulse_carries to old new p in
-      let config : old.config ≡ c = h.nodes.config i (with_strings [] old) there in
-      let me : old.me ≡ i = h.nodes.me i (with_strings [] old) there in
-      let inside : to < length sites =
-      subst (λ n. to < n) (ap (λ (k : Config). k.nodes) config ∙ sym h.count) within in
-      let apart : i ≢ to = λ e. other (sym e ∙ sym me) in record {
-        more = k.more;
-        waiting = k.waiting;
-        running = here new k.more (move.Pulse i to)
-            (went_there c sites (set sites i (with_strings [] new)) sent (sent ++ k.more)
-            (move.Pulse i to)
-            (pulse_went c sites sent i to (with_strings [] old) (with_strings k.more new)
-            (with_strings [] new) (move.Pulse i to) (sent ++ k.more) h.nodes there inside apart
-            (k.goes []) refl refl refl));
-      }
+    pulsed : (new : SiteView) (to : ℕ) → to < old.config.nodes → to ≢ old.me
+        → new ≡ after_pulse_to old to (pulsing old.node to) → Further new
+    pulsed new to within other p =
+        let k = pulse_carries to old new p in
+        let config : old.config ≡ c = h.nodes.config i (with_strings [] old) there in
+        let me : old.me ≡ i = h.nodes.me i (with_strings [] old) there in
+        let inside : to < length sites =
+        subst (λ n. to < n) (ap (λ (k : Config). k.nodes) config ∙ sym h.count) within in
+        let apart : i ≢ to = λ e. other (sym e ∙ sym me) in record {
+          more = k.more;
+          waiting = k.waiting;
+          running = here new k.more (move.Pulse i to)
+              (went_there c sites (set sites i (with_strings [] new)) sent (sent ++ k.more)
+              (move.Pulse i to)
+              (pulse_went c sites sent i to (with_strings [] old) (with_strings k.more new)
+              (with_strings [] new) (move.Pulse i to) (sent ++ k.more) h.nodes there inside apart
+              (k.goes []) refl refl refl));
+        }
 
 -- the calls are handed in first
-module _ (c : Config) (past : List Driven) (sites : List SiteView) (sent : List (List ℕ)) (i : ℕ) (old : SiteView)
-    (there : slice_get sites i ≡ Some (with_strings [] old)) (h : RunsWith c past sites sent) where
-  handed : (calls : List Call) (new : SiteView)
-      → (new ≡ site_handed (calls ∷ []) old) ⊎ SiteTurns (site_handed (calls ∷ []) old) new
-      → Further c past sites sent i old there h new
-  handed calls new w =
-      let mid : SiteView = site_handed (calls ∷ []) old in
-      let after : List SiteView = set sites i (with_strings [] mid) in
-      let at : slice_get after i ≡ Some (with_strings [] mid) =
-      set-there sites i (with_strings [] mid) (with_strings [] old) there in
-      let f = turned_once c past after sent i mid at
-      (handed_with c past sites sent i (with_strings [] old) there (calls ∷ []) h) new w in record {
-        more = f.more;
-        waiting = f.waiting;
-        running = subst (λ ss. RunsWith c past ss (sent ++ f.more))
-            (set-set sites i (with_strings [] mid) (with_strings [] new)) f.running;
-      }
+module _ (c : Config) (o : Opening) (past : List Driven) (sites : List SiteView)
+    (sent : List (List ℕ)) (i : ℕ) (old : SiteView)
+    (there : slice_get sites i ≡ Some (with_strings [] old)) (h : RunsWith c o past sites sent)
+  where
+    handed : (calls : List Call) (new : SiteView)
+        → (new ≡ site_handed (calls ∷ []) old) ⊎ SiteTurns (site_handed (calls ∷ []) old) new
+        → Further c o past sites sent i old there h new
+    handed calls new w =
+        let mid : SiteView = site_handed (calls ∷ []) old in
+        let after : List SiteView = set sites i (with_strings [] mid) in
+        let at : slice_get after i ≡ Some (with_strings [] mid) =
+        set-there sites i (with_strings [] mid) (with_strings [] old) there in
+        let f = turned_once c o past after sent i mid at
+        (handed_with c o past sites sent i (with_strings [] old) there (calls ∷ []) h) new w in
+        record {
+          more = f.more;
+          waiting = f.waiting;
+          running = subst (λ ss. RunsWith c o past ss (sent ++ f.more))
+              (set-set sites i (with_strings [] mid) (with_strings [] new)) f.running;
+        }
 
-  -- together, with a turn in which the first begins, or there are none
-  together : (calls : List Call) (new : SiteView) → BeginsRow calls old new
-      → Further c past sites sent i old there h new
-  together [] new same = stayed c past sites sent i old there h new same
-  together (call ∷ calls) new b = handed (call ∷ calls) new (inr b.turns)
+    -- together, with a turn in which the first begins, or there are none
+    together : (calls : List Call) (new : SiteView) → BeginsRow calls old new
+        → Further c o past sites sent i old there h new
+    together [] new same = stayed c o past sites sent i old there h new same
+    together (call ∷ calls) new b = handed (call ∷ calls) new (inr b.turns)
 
 -- one step of the site, and then others
-followed : (c : Config) (past : List Driven) (sites : List SiteView) (sent : List (List ℕ)) (i : ℕ) (old mid new : SiteView)
-    (there : slice_get sites i ≡ Some (with_strings [] old)) (h : RunsWith c past sites sent)
-    (first : Further c past sites sent i old there h mid)
-    → Further c past (set sites i (with_strings [] mid)) (sent ++ first.more) i mid
+followed : (c : Config) (o : Opening) (past : List Driven) (sites : List SiteView)
+    (sent : List (List ℕ)) (i : ℕ) (old mid new : SiteView)
+    (there : slice_get sites i ≡ Some (with_strings [] old)) (h : RunsWith c o past sites sent)
+    (first : Further c o past sites sent i old there h mid)
+    → Further c o past (set sites i (with_strings [] mid)) (sent ++ first.more) i mid
     (set-there sites i (with_strings [] mid) (with_strings [] old) there) first.running new
-    → Further c past sites sent i old there h new
-followed c past sites sent i old mid new there h first rest = record {
+    → Further c o past sites sent i old there h new
+followed c o past sites sent i old mid new there h first rest = record {
   more = first.more ++ rest.more;
   waiting = rest.waiting ∙ (ap (λ l. l ++ rest.more) first.waiting
       ∙ append_assoc old.waiting first.more rest.more);
-  running = subst (λ ss. RunsWith c past ss (sent ++ (first.more ++ rest.more)))
+  running = subst (λ ss. RunsWith c o past ss (sent ++ (first.more ++ rest.more)))
       (set-set sites i (with_strings [] mid) (with_strings [] new))
-      (subst (RunsWith c past (set (set sites i (with_strings [] mid)) i (with_strings [] new)))
+      (subst (RunsWith c o past (set (set sites i (with_strings [] mid)) i (with_strings [] new)))
       (append_assoc sent first.more rest.more) rest.running);
 }
 
 -- calls of a row are handed in one after another
-answered : (c : Config) (past : List Driven) (sites : List SiteView) (sent : List (List ℕ)) (i : ℕ) (rs : List Record)
+answered : (c : Config) (o : Opening) (past : List Driven) (sites : List SiteView)
+    (sent : List (List ℕ)) (i : ℕ) (rs : List Record)
     (old new : SiteView) (there : slice_get sites i ≡ Some (with_strings [] old))
-    (h : RunsWith c past sites sent) → AreAnswered rs old new → Further c past sites sent i old there h new
-answered c past sites sent i [] old new there h same = stayed c past sites sent i old there h new same
-answered c past sites sent i (r ∷ rs) old new there h a =
-    let first = handed c past sites sent i old there h (r.call ∷ []) a.0 (inr a.1.turns) in
-    followed c past sites sent i old a.0 new there h first
-    (answered c past (set sites i (with_strings [] a.0)) (sent ++ first.more) i rs a.0 new
+    (h : RunsWith c o past sites sent) → AreAnswered rs old new
+    → Further c o past sites sent i old there h new
+answered c o past sites sent i [] old new there h same =
+    stayed c o past sites sent i old there h new same
+answered c o past sites sent i (r ∷ rs) old new there h a =
+    let first = handed c o past sites sent i old there h (r.call ∷ []) a.0 (inr a.1.turns) in
+    followed c o past sites sent i old a.0 new there h first
+    (answered c o past (set sites i (with_strings [] a.0)) (sent ++ first.more) i rs a.0 new
     (set-there sites i (with_strings [] a.0) (with_strings [] old) there) first.running a.2)
 
 -- and their replies are taken so, each in a turn
-replied : (c : Config) (past : List Driven) (sites : List SiteView) (sent : List (List ℕ)) (i : ℕ) (rs : List Record)
+replied : (c : Config) (o : Opening) (past : List Driven) (sites : List SiteView)
+    (sent : List (List ℕ)) (i : ℕ) (rs : List Record)
     (old new : SiteView) (there : slice_get sites i ≡ Some (with_strings [] old))
-    (h : RunsWith c past sites sent) → AreTaken rs old new → Further c past sites sent i old there h new
-replied c past sites sent i [] old new there h same = stayed c past sites sent i old there h new same
-replied c past sites sent i (r ∷ rs) old new there h a =
-    let first = turned c past sites sent i old there h a.0 a.1.turns in
-    followed c past sites sent i old a.0 new there h first
-    (replied c past (set sites i (with_strings [] a.0)) (sent ++ first.more) i rs a.0 new
+    (h : RunsWith c o past sites sent) → AreTaken rs old new
+    → Further c o past sites sent i old there h new
+replied c o past sites sent i [] old new there h same =
+    stayed c o past sites sent i old there h new same
+replied c o past sites sent i (r ∷ rs) old new there h a =
+    let first = turned c o past sites sent i old there h a.0 a.1.turns in
+    followed c o past sites sent i old a.0 new there h first
+    (replied c o past (set sites i (with_strings [] a.0)) (sent ++ first.more) i rs a.0 new
     (set-there sites i (with_strings [] a.0) (with_strings [] old) there) first.running a.2)
 
 -- what waits at a node with more strings
@@ -217,13 +230,14 @@ done_none status done none = omega (arith, done, none)
 
 -- one of the nodes goes on
 
-module _ (c : Config) (past : List Driven) (nodes : List Embedded) (strings : List (List ℕ)) (i : ℕ) (s : Embedded)
-    (there : slice_get nodes i ≡ Some s) (d : AreDriven c past nodes strings) where
+module _ (c : Config) (o : Opening) (past : List Driven) (nodes : List Embedded)
+    (strings : List (List ℕ)) (i : ℕ) (s : Embedded)
+    (there : slice_get nodes i ≡ Some s) (d : AreDriven c o past nodes strings) where
   seen_there : slice_get (map seen nodes) i ≡ Some (seen s)
   seen_there = slice_get-map seen nodes i ∙ ap (option_map seen) there
 
   abbrev Goes : SiteView → Type 0
-  Goes new = Further c past (map seen nodes) d.sent i s.site seen_there d.running new
+  Goes new = Further c o past (map seen nodes) d.sent i s.site seen_there d.running new
 
   -- what waits at the nodes was sent, where it was at the one before or is among what was sent
   -- since
@@ -236,7 +250,8 @@ module _ (c : Config) (past : List Driven) (nodes : List Embedded) (strings : Li
       ⊎_elim (λ p. own bytes (subst (λ (x : Embedded). Contains (waiting_in x) bytes) p.1 has))
       (λ q. before bytes (d.waits j e q bytes has)) (set-cases nodes i j t e at)
 
-  further : (t : Embedded) → t.first ≡ s.first → Goes t.site → AreDriven c past (set nodes i t) strings
+  further : (t : Embedded) → t.first ≡ s.first → Goes t.site
+      → AreDriven c o past (set nodes i t) strings
   further t first f =
       let more = waits_more s t f.more first f.waiting in
       let before : (bytes : List ℕ) → Contains d.sent bytes → Contains (d.sent ++ f.more) bytes =
@@ -247,52 +262,52 @@ module _ (c : Config) (past : List Driven) (nodes : List Embedded) (strings : Li
       (Contains-append_cases (waiting_in s) f.more bytes
       (subst (λ l. Contains l bytes) more has)) in record {
         sent = d.sent ++ f.more;
-        running = subst (λ ss. RunsWith c past ss (d.sent ++ f.more)) (sym (map-set seen nodes i t))
-            f.running;
+        running = subst (λ ss. RunsWith c o past ss (d.sent ++ f.more))
+            (sym (map-set seen nodes i t)) f.running;
         taken = λ bytes has. before bytes (d.taken bytes has);
         waits = waits_on t (d.sent ++ f.more) before own;
       }
 
-  unchanged : (t : Embedded) → t ≡ s → AreDriven c past (set nodes i t) strings
+  unchanged : (t : Embedded) → t ≡ s → AreDriven c o past (set nodes i t) strings
   unchanged t same =
-      subst (λ ns. AreDriven c past ns strings)
+      subst (λ ns. AreDriven c o past ns strings)
       (sym (set_same nodes i s there) ∙ ap (set nodes i) (sym same)) d
 
   -- by what a turn that has a call comes to
   begun : (call : Call) (progress : Option reply.Reply) (t : Embedded)
       → AfterBegin call progress s.site t.site → Goes t.site
   begun call None t a =
-      handed c past (map seen nodes) d.sent i s.site seen_there d.running (call ∷ []) t.site
+      handed c o past (map seen nodes) d.sent i s.site seen_there d.running (call ∷ []) t.site
       (⊎_elim inl (λ w. inr w.0) a)
   begun call (Some r) t a =
-      handed c past (map seen nodes) d.sent i s.site seen_there d.running (call ∷ []) t.site
+      handed c o past (map seen nodes) d.sent i s.site seen_there d.running (call ∷ []) t.site
       (inr a.turns)
 
   polled : (progress : Option reply.Reply) (t : Embedded) → AfterCall progress s.site t.site
       → Goes t.site
   polled None t a =
-      turned_once c past (map seen nodes) d.sent i s.site seen_there d.running t.site
+      turned_once c o past (map seen nodes) d.sent i s.site seen_there d.running t.site
       (⊎_elim (λ idle. inl idle.1) (λ w. inr w.0) a)
   polled (Some r) t a =
-      turned c past (map seen nodes) d.sent i s.site seen_there d.running t.site a.2.turns
+      turned c o past (map seen nodes) d.sent i s.site seen_there d.running t.site a.2.turns
 
   carried : (kind : Row) (addr words : ℕ) (bytes : List ℕ) (t : Embedded)
       → AreAnswered (row kind s.site.me addr (numbers_in words bytes)) s.site t.site → Goes t.site
   carried kind addr words bytes t a =
-      answered c past (map seen nodes) d.sent i (row kind s.site.me addr (numbers_in words bytes)) s.site
-      t.site seen_there d.running a
+      answered c o past (map seen nodes) d.sent i
+      (row kind s.site.me addr (numbers_in words bytes)) s.site t.site seen_there d.running a
 
   begun_row : (kind : Row) (addr words : ℕ) (bytes : List ℕ) (t : Embedded)
       → BeginsRow (calls_of (row kind 0 addr (numbers_in words bytes))) s.site t.site → Goes t.site
   begun_row kind addr words bytes t b =
-      together c past (map seen nodes) d.sent i s.site seen_there d.running
+      together c o past (map seen nodes) d.sent i s.site seen_there d.running
       (calls_of (row kind 0 addr (numbers_in words bytes))) t.site b
 
   taken_row : (kind : Row) (addr words : ℕ) (bytes : List ℕ) (t : Embedded)
       → AreTaken (row kind s.site.me addr (numbers_in words bytes)) s.site t.site → Goes t.site
   taken_row kind addr words bytes t a =
-      replied c past (map seen nodes) d.sent i (row kind s.site.me addr (numbers_in words bytes)) s.site
-      t.site seen_there d.running a
+      replied c o past (map seen nodes) d.sent i (row kind s.site.me addr (numbers_in words bytes))
+      s.site t.site seen_there d.running a
 
   -- a string was taken out, or none was
   seen_same : (t : Embedded) → ChangesWaiting s t → seen t ≡ seen s
@@ -301,10 +316,10 @@ module _ (c : Config) (past : List Driven) (nodes : List Embedded) (strings : Li
   less_waits : (t : Embedded) (more : List (List ℕ)) → ChangesWaiting s t
       → ((bytes : List ℕ) → Contains (waiting_in t) bytes → Contains (waiting_in s) bytes)
       → ((bytes : List ℕ) → Contains more bytes → Contains d.sent bytes)
-      → AreDriven c past (set nodes i t) more
+      → AreDriven c o past (set nodes i t) more
   less_waits t more same fewer taken = record {
     sent = d.sent;
-    running = subst (λ ss. RunsWith c past ss d.sent)
+    running = subst (λ ss. RunsWith c o past ss d.sent)
         (sym (map-set seen nodes i t ∙ ap (set (map seen nodes) i) (seen_same t same)
         ∙ set_same (map seen nodes) i (seen s) seen_there)) d.running;
     taken = taken;
@@ -314,7 +329,7 @@ module _ (c : Config) (past : List Driven) (nodes : List Embedded) (strings : Li
   -- the one that stood in the buffer waited there
   gave : (t : Embedded) (string : List ℕ) (more : List (List ℕ)) → ChangesWaiting s t
       → waiting_in s ≡ string ∷ waiting_in t
-      → (more ≡ strings ++ string ∷ []) ⊎ (more ≡ strings) → AreDriven c past (set nodes i t) more
+      → (more ≡ strings ++ string ∷ []) ⊎ (more ≡ strings) → AreDriven c o past (set nodes i t) more
   gave t string more same gives is =
       let fewer : (bytes : List ℕ) → Contains (waiting_in t) bytes → Contains (waiting_in s) bytes =
       λ bytes has. subst (λ l. Contains l bytes) (sym gives)
@@ -330,14 +345,14 @@ module _ (c : Config) (past : List Driven) (nodes : List Embedded) (strings : Li
       (λ none. d.taken bytes (subst (λ l. Contains l bytes) none has)) is)
 
   kept_strings : (t : Embedded) (more : List (List ℕ)) → ChangesWaiting s t
-      → waiting_in t ≡ waiting_in s → more ≡ strings → AreDriven c past (set nodes i t) more
+      → waiting_in t ≡ waiting_in s → more ≡ strings → AreDriven c o past (set nodes i t) more
   kept_strings t more same waiting none =
       less_waits t more same (λ bytes has. subst (λ l. Contains l bytes) waiting has)
       (λ bytes has. d.taken bytes (subst (λ l. Contains l bytes) none has))
 
   took : (status len dest : ℕ) (buffer : List ℕ) (t : Embedded) (more : List (List ℕ))
       → Takes status buffer len dest s t → TakesOut status buffer len strings more
-      → AreDriven c past (set nodes i t) more
+      → AreDriven c o past (set nodes i t) more
   took status len dest buffer t more h out =
       let either : (more ≡ strings ++ take len buffer ∷ []) ⊎ (more ≡ strings) =
       ⊎_elim (λ p. inl p.1) (λ p. inr p.1) out in
@@ -350,7 +365,7 @@ module _ (c : Config) (past : List Driven) (nodes : List Embedded) (strings : Li
 
   -- each request makes moves of its node, or none
   did : (request : Request) (t : Embedded) (more : List (List ℕ)) → Does request strings s t more
-      → AreDriven c past (set nodes i t) more
+      → AreDriven c o past (set nodes i t) more
   did (Begin kind width place operand expected) t more h =
       rw h.0 (⊎_elim
       (λ does. further t does.4.0 (begun does.0 does.2 t does.4.1))
@@ -379,53 +394,58 @@ module _ (c : Config) (past : List Driven) (nodes : List Embedded) (strings : Li
   did (Deliver bytes) t more h =
       rw h.0 (⊎_elim
       (λ does. further t does.3.0
-      (delivered c past (map seen nodes) d.sent i s.site seen_there d.running t.site bytes does.1
+      (delivered c o past (map seen nodes) d.sent i s.site seen_there d.running t.site bytes does.1
       (d.taken bytes h.1) does.3.1))
       (λ refused. unchanged t refused.1) h.2.2)
   did NextFrame t more h = took h.0 h.1 h.2 h.3 t more h.4 h.5
   did (Pulse to) t more h =
       rw h.0 (⊎_elim
       (λ does. further t does.3.0
-      (pulsed c past (map seen nodes) d.sent i s.site seen_there d.running t.site to does.1 does.2 does.3.1))
+      (pulsed c o past (map seen nodes) d.sent i s.site seen_there d.running t.site to does.1 does.2
+      does.3.1))
       (λ refused. unchanged t refused.1) h.1.1)
 
 -- one request, and one after another
 
-asked : (c : Config) (past : List Driven) (request : ℕ × Request) (old new : Driven)
-    → Asks request.0 request.1 old new → AreDriven c past old.nodes old.strings
-    → AreDriven c past new.nodes new.strings
-asked c past request old new a d =
-    subst (λ ns. AreDriven c past ns new.strings) (sym a.nodes)
-    (did c past old.nodes old.strings request.0 a.before a.there d request.1 a.after new.strings a.does)
+asked : (c : Config) (o : Opening) (past : List Driven) (request : ℕ × Request) (old new : Driven)
+    → Asks request.0 request.1 old new → AreDriven c o past old.nodes old.strings
+    → AreDriven c o past new.nodes new.strings
+asked c o past request old new a d =
+    subst (λ ns. AreDriven c o past ns new.strings) (sym a.nodes)
+    (did c o past old.nodes old.strings request.0 a.before a.there d request.1 a.after new.strings
+    a.does)
 
 pub nodes_seen : (nodes : List Embedded) → map (λ (s : SiteView). s.node) (map seen nodes) ≡ map node_in nodes
 nodes_seen [] = refl
 nodes_seen (e ∷ es) = ap (λ l. e.site.node ∷ l) (nodes_seen es)
 
 -- the nodes as they are now are a point of their past from now on
-now : (c : Config) (past : List Driven) (d : Driven) → AreDriven c past d.nodes d.strings
-    → AreDriven c (d ∷ past) d.nodes d.strings
-now c past d h = record {
+now : (c : Config) (o : Opening) (past : List Driven) (d : Driven)
+    → AreDriven c o past d.nodes d.strings
+    → AreDriven c o (d ∷ past) d.nodes d.strings
+now c o past d h = record {
   sent = h.sent;
   running = record {
     limits = h.running.limits;
     count = h.running.count;
     nodes = h.running.nodes;
-    reached = reaches_now c past (opening managed_ops c (programs_of (map seen d.nodes)))
+    reached = reaches_now c past (opening (managed_start o) c (programs_of (map seen d.nodes)))
         (world_of (map seen d.nodes) h.sent) d (sym (nodes_seen d.nodes)) h.running.reached;
   };
   taken = h.taken;
   waits = h.waits;
 }
 
-driven_on : (c : Config) (past : List Driven) (requests : List (ℕ × Request)) (old end : Driven)
-    → (led : DrivesTo old requests end) → AreDriven c past old.nodes old.strings
-    → AreDriven c (moments past requests old end led) end.nodes end.strings
-driven_on c past [] old end same d =
-    subst (λ (x : Driven). AreDriven c (old ∷ past) x.nodes x.strings) (sym same) (now c past old d)
-driven_on c past (request ∷ requests) old end h d =
-    driven_on c (old ∷ past) requests h.0 end h.2
-    (asked c (old ∷ past) request old h.0 h.1 (now c past old d))
+driven_on : (c : Config) (o : Opening) (past : List Driven) (requests : List (ℕ × Request))
+    (old end : Driven)
+    → (led : DrivesTo old requests end) → AreDriven c o past old.nodes old.strings
+    → AreDriven c o (moments past requests old end led) end.nodes end.strings
+driven_on c o past [] old end same d =
+    subst (λ (x : Driven). AreDriven c o (old ∷ past) x.nodes x.strings) (sym same)
+    (now c o past old d)
+driven_on c o past (request ∷ requests) old end h d =
+    driven_on c o (old ∷ past) requests h.0 end h.2
+    (asked c o (old ∷ past) request old h.0 h.1 (now c o past old d))
 
 -- the nodes as they begin
 
@@ -438,28 +458,29 @@ unfolding no_programs
 so_many zero = refl
 so_many (suc left) = ap suc (so_many left)
 
-first_seen : (c : Config) (me left : ℕ)
-    → map seen (first_from c me left) ≡ first_sites_from c me (no_programs left)
+first_seen : (o : Opening) (c : Config) (me left : ℕ)
+    → map seen (first_from o c me left) ≡ first_sites_from o c me (no_programs left)
 unfolding no_programs
-first_seen c me zero = refl
-first_seen c me (suc left) =
-    ap (λ l. first_keeping History c me (Called []) ∷ l) (first_seen c (me + 1) left)
+first_seen o c me zero = refl
+first_seen o c me (suc left) =
+    ap (λ l. first_opened o History c me (Called []) ∷ l) (first_seen o c (me + 1) left)
 
-pub none_waits : (c : Config) (me left i : ℕ) (e : Embedded) → slice_get (first_from c me left) i ≡ Some e
-    → waiting_in e ≡ []
-none_waits c me zero i e at = absurd (none-some e at)
-none_waits c me (suc left) zero e at =
-    ap waiting_in (sym (same_Some (first_embedded c me) e at))
-none_waits c me (suc left) (suc i) e at = none_waits c (me + 1) left i e at
+pub none_waits : (o : Opening) (c : Config) (me left i : ℕ) (e : Embedded)
+    → slice_get (first_from o c me left) i ≡ Some e → waiting_in e ≡ []
+none_waits o c me zero i e at = absurd (none-some e at)
+none_waits o c me (suc left) zero e at =
+    ap waiting_in (sym (same_Some (opened_embedded o c me) e at))
+none_waits o c me (suc left) (suc i) e at = none_waits o c (me + 1) left i e at
 
-first_driven : (c : Config) → IsConfig c → AreDriven c [] (first_from c 0 c.nodes) []
-first_driven c limits = record {
+first_driven : (c : Config) (o : Opening) → IsConfig c
+    → AreDriven c o [] (first_from o c 0 c.nodes) []
+first_driven c o limits = record {
   sent = [];
-  running = runs_first c (map seen (first_from c 0 c.nodes)) []
-      (first_running-of c (no_programs c.nodes) (map seen (first_from c 0 c.nodes)) [] limits
-      (so_many c.nodes) (first_seen c 0 c.nodes) refl);
+  running = runs_first c o (map seen (first_from o c 0 c.nodes)) []
+      (first_running-of o c (no_programs c.nodes) (map seen (first_from o c 0 c.nodes)) [] limits
+      (so_many c.nodes) (first_seen o c 0 c.nodes) refl);
   taken = λ bytes has. has;
-  waits = λ i e at bytes has. subst (λ l. Contains l bytes) (none_waits c 0 c.nodes i e at) has;
+  waits = λ i e at bytes has. subst (λ l. Contains l bytes) (none_waits o c 0 c.nodes i e at) has;
 }
 
 -- what is promised of a world that runs
@@ -468,22 +489,28 @@ programs_seen : (nodes : List Embedded) → programs_of (map seen nodes) ≡ map
 programs_seen [] = refl
 programs_seen (e ∷ es) = ap (λ l. program_in e ∷ l) (programs_seen es)
 
-of_one_run : (c : Config) (past : List Driven) (d : Driven) → AreDriven c past d.nodes d.strings
-    → AreOfOneRun c past d
-of_one_run c past d h =
+of_one_run : (c : Config) (o : Opening) (past : List Driven) (d : Driven)
+    → AreDriven c o past d.nodes d.strings
+    → AreOfOneRun o c past d
+of_one_run c o past d h =
     let sites = map seen d.nodes in
-    let runs = running_of c past sites h.sent h.running in
+    let runs = running_of c o past sites h.sent h.running in
     let r = h.running.reached in
-    let first : World (Host Managed) = opening managed_ops c (programs_of sites) in
-    let each = running_each c sites h.sent runs in
+    let first : World (Host Managed) = opening (managed_start o) c (programs_of sites) in
+    let each = running_each c o sites h.sent runs in
     let whole =
     explained_whole (host_rules managed_ops) c answered_by [] first (world_of sites h.sent) [] r.moves
-    (explained-along c (programs_of sites) h.running.limits each r.moves) r.leads in
+    (explained-along o c (programs_of sites) h.running.limits each r.moves) r.leads in
     record {
       world = world_of sites h.sent;
-      keeps = subst (λ ps. Keeps (record { config = c; programs = ps; world = world_of sites h.sent }))
+      keeps = subst (λ ps. Keeps (record {
+        config = c;
+        opened = o;
+        programs = ps;
+        world = world_of sites h.sent;
+      }))
           (programs_seen d.nodes)
-          (keeps-reached (run_of c sites h.sent) h.running.limits each runs.reached);
+          (keeps-reached (run_of c o sites h.sent) h.running.limits each runs.reached);
       nodes = nodes_seen d.nodes;
       sent = h.taken;
       order = whole.0;
@@ -497,6 +524,6 @@ of_one_run c past d h =
     }
 
 pub driven_nodes_are_of_one_run : DrivenNodesAreOfOneRun
-driven_nodes_are_of_one_run c limits requests d led =
-    of_one_run c (moments [] requests (opened c) d led) d
-    (driven_on c [] requests (opened c) d led (first_driven c limits))
+driven_nodes_are_of_one_run o c limits requests d led =
+    of_one_run c o (moments [] requests (opened o c) d led) d
+    (driven_on c o [] requests (opened o c) d led (first_driven c o limits))

@@ -12,10 +12,11 @@ use Rattle.ivy_moves.specs.declared.Move.{Move}
 use Rattle.ivy_moves.specs.stated.Worlds.{World}
 use Rattle.ivy_host.specs.stated.Hosts.{Host}
 use Rattle.ivy_host.specs.stated.Managers.{Managed, managed_ops}
-use Rattle.ivy_host.specs.stated.Openings.{opening}
+use Rattle.ivy_host.specs.declared.opening.Opening.{Opening}
+use Rattle.ivy_host.specs.stated.Openings.{managed_start, opening}
 use Rattle.ivy_host.proofs.WellBehaved.{first-asking}
 use Rattle.ivy_site.specs.SiteView.{SiteView}
-use Rattle.ivy_site.specs.Sites.{first_keeping}
+use Rattle.ivy_site.specs.Sites.{first_opened}
 use Rattle.ivy_site.proofs.Made.{first_made}
 use Rattle.ivy_world.specs.WorldSites.{first_sites_from, world_of}
 use Rattle.ivy_world.proofs.Worlds.{first_run-of, first_running-of}
@@ -24,7 +25,7 @@ use Rattle.proof_worlds.specs.stated.RunState.{Run}
 use Rattle.proof_worlds.proofs.headline.Headline.{keeps-reached}
 use Rattle.ivy_embedded.specs.declared.lending.Lending.TheVariants as mark
 use Rattle.ivy_embedded.specs.Lending.{LendsSoundly, lending_at, lending_in}
-use Rattle.ivy_embedded.specs.Nodes.{Embedded, first_embedded}
+use Rattle.ivy_embedded.specs.Nodes.{Embedded, opened_embedded}
 use Rattle.ivy_embedded.proofs.Lenders.{first_lender, soundly}
 use Rattle.proof_lent.specs.Lent.{Lending, Unlent, Access, Made}
 use Rattle.proof_lent.specs.LentWorlds as worlds
@@ -80,9 +81,10 @@ module _ (c : Config) where
       ∙ ap (λ x. made ++ x) (sym (map_append (made_as c l.lent) on.1.0 then.0)) in
       (on.1.0 ++ then.0, subst (λ ms. GoesOnLent c end ms rest) whole then.1)
 
-module _ (c : Config) (limits : IsConfig c) (ps : List Program) (few : length ps ≡ c.nodes) where
+module _ (o : Opening) (c : Config) (limits : IsConfig c) (ps : List Program)
+    (few : length ps ≡ c.nodes) where
   abbrev Moment : Driven → Type 0
-  Moment d = IsMoment c limits ps few d
+  Moment d = IsMoment o c limits ps few d
 
   -- the lendings and images of a world are those of this moment, as far as programs see them
   record AreSeen (m : Mapped) (loans : ℕ → ℕ → Lending) (image : ℕ → ℕ → List ℕ) : Type 0 where
@@ -91,12 +93,12 @@ module _ (c : Config) (limits : IsConfig c) (ps : List Program) (few : length ps
 
   memory_now : (m : Mapped) (at : Moment m.driven) (loans : ℕ → ℕ → Lending) (image : ℕ → ℕ → List ℕ)
       → AreSeen m loans image → (made : List Made)
-      → IsOfOneMemory c (world_at c limits ps few loans image m.driven at) made
+      → IsOfOneMemory c (world_at o c limits ps few loans image m.driven at) made
       → AreOfOneMemory c m made
   memory_now m at loans image seen made g = record {
     legal = g.legal;
     parts = λ i e there.
-        (let p = program_at c limits ps few m.driven at i e there in
+        (let p = program_at o c limits ps few m.driven at i e there in
         g.parts i (as_run p.0 [] e.site).node
         (slice_get-map (λ (s : SiteView). s.node) (along ps m.driven.nodes) i
         ∙ ap (option_map (λ (s : SiteView). s.node)) (along_there ps m.driven.nodes i p.0 e p.1 there)));
@@ -112,8 +114,8 @@ module _ (c : Config) (limits : IsConfig c) (ps : List Program) (few : length ps
     seen : AreSeen mid loans' image'
     way : List worlds.Happening → List worlds.Happening
     over : (made : List Made) (rest : List worlds.Happening)
-        → GoesOnLent c (world_at c limits ps few loans image mid.driven next) made (way rest)
-        → GoesOnLent c (world_at c limits ps few loans' image' mid.driven next) made rest
+        → GoesOnLent c (world_at o c limits ps few loans image mid.driven next) made (way rest)
+        → GoesOnLent c (world_at o c limits ps few loans' image' mid.driven next) made rest
 
   module _ (old new : Mapped) (i : ℕ) (s t : Embedded) (there : slice_get old.driven.nodes i ≡ Some s)
       (nodes : new.driven.nodes ≡ set old.driven.nodes i t) (next : Moment new.driven)
@@ -149,22 +151,22 @@ module _ (c : Config) (limits : IsConfig c) (ps : List Program) (few : length ps
       let sound = at.sound i h.call.before h.call.there in
       let within : page < length (h.call.before).lent =
       (let inside = may.can.inside in let long = sound.each in omega (arith, inside, long)) in
-      let then = world_at c limits ps few (lent_in new) (with_image image i page (new.image i page))
-      new.driven next in
+      let then = world_at o c limits ps few (lent_in new)
+      (with_image image i page (new.image i page)) new.driven next in
       record {
         loans' = lent_in new;
         image' = with_image image i page (new.image i page);
         seen = record {
           same = λ j p. refl;
-          shows = lent_shows c limits ps few i old new h.call at next loans image seen.same seen.shows
-              page to does.4 within h.images number may h.shown;
+          shows = lent_shows o c limits ps few i old new h.call at next loans image seen.same
+              seen.shows page to does.4 within h.images number may h.shown;
         };
         way = λ rest. worlds.Lent i page (lending_of to) ∷ rest;
         over = λ made rest g.
             none_added c then made rest
             (g.1 then
-            (lends_page c limits ps few i old new h.call at next loans image seen.same seen.shows page to
-            does.4 within h.images number may h.shown));
+            (lends_page o c limits ps few i old new h.call at next loans image seen.same seen.shows
+            page to does.4 within h.images number may h.shown));
       }))
       (λ refused.
       no_bridge old new i h.call.before h.call.after h.call.there h.call.nodes next loans image seen
@@ -181,21 +183,21 @@ module _ (c : Config) (limits : IsConfig c) (ps : List Program) (few : length ps
       let more = does.3 in
       let within = lent_within (h.call.before).lent page
       (λ e. more_lent (lending_at h.call.before page) on more (ap lending_of e)) in
-      let then = world_at c limits ps few (lent_in new) image new.driven next in
+      let then = world_at o c limits ps few (lent_in new) image new.driven next in
       record {
         loans' = lent_in new;
         image' = image;
         seen = record {
           same = λ j p. refl;
-          shows = back_shows c limits ps few i old new h.call at next loans image seen.same seen.shows
-              page on does.4 within h.images more h.stored;
+          shows = back_shows o c limits ps few i old new h.call at next loans image seen.same
+              seen.shows page on does.4 within h.images more h.stored;
         };
         way = λ rest. worlds.GivenBack i page (lending_of on) ∷ rest;
         over = λ made rest g.
             none_added c then made rest
             (g.1 then
-            (gives_back c limits ps few i old new h.call at next loans image seen.same seen.shows page on
-            does.4 within h.images more h.stored));
+            (gives_back o c limits ps few i old new h.call at next loans image seen.same seen.shows
+            page on does.4 within h.images more h.stored));
       }))
       (λ refused.
       no_bridge old new i h.call.before h.call.after h.call.there h.call.nodes next loans image seen
@@ -240,13 +242,14 @@ module _ (c : Config) (limits : IsConfig c) (ps : List Program) (few : length ps
   abbrev Follows : (m : Mapped) (hs : List Happening) (end : Mapped) → HappenTo c m hs end
       → (at : Moment m.driven) → (ℕ → ℕ → Lending) → (ℕ → ℕ → List ℕ) → Type 0
   Follows m hs end led at loans image = (rest : List worlds.Happening)
-      × ((made : List Made) → GoesOnLent c (world_at c limits ps few loans image m.driven at) made rest
+      × ((made : List Made)
+      → GoesOnLent c (world_at o c limits ps few loans image m.driven at) made rest
       → GrowAsOneMemory c m made hs end led)
 
   follow_node : (h : Happening) → IsOfNode h → (hs : List Happening) (m end : Mapped)
       (led : HappenTo c m (h ∷ hs) end) (at : Moment m.driven) (loans : ℕ → ℕ → Lending)
       (image : ℕ → ℕ → List ℕ) (seen : AreSeen m loans image)
-      (gone : HasGone c limits ps few loans image m.driven (led.0).driven at seen.same)
+      (gone : HasGone o c limits ps few loans image m.driven (led.0).driven at seen.same)
       (on : Bridge led.0 gone.next loans image)
       → Follows led.0 hs end led.2 gone.next on.loans' on.image'
       → Follows m (h ∷ hs) end led at loans image
@@ -254,19 +257,19 @@ module _ (c : Config) (limits : IsConfig c) (ps : List Program) (few : length ps
     with_moves gone.moves (on.way rest.0),
     λ made g.
         (let adv =
-        advance c gone.moves (world_at c limits ps few loans image m.driven at)
-        (world_at c limits ps few loans image (led.0).driven gone.next) made (on.way rest.0) gone.leads
-        g in
+        advance c gone.moves (world_at o c limits ps few loans image m.driven at)
+        (world_at o c limits ps few loans image (led.0).driven gone.next) made (on.way rest.0)
+        gone.leads g in
         let same : loans ≡ lent_in m = λ k i p. seen.same i p k in (
           memory_now m at loans image seen made
-              (head_of c (world_at c limits ps few loans image m.driven at) made
+              (head_of c (world_at o c limits ps few loans image m.driven at) made
               (with_moves gone.moves (on.way rest.0)) g),
           (
             map (made_as c (lent_in m)) adv.0,
             adds_records h of m adv.0,
             rest.1 (made ++ map (made_as c (lent_in m)) adv.0)
                 (subst (λ f. GoesOnLent c
-                (world_at c limits ps few on.loans' on.image' (led.0).driven gone.next)
+                (world_at o c limits ps few on.loans' on.image' (led.0).driven gone.next)
                 (made ++ map (made_as c f) adv.0) rest.0) same
                 (on.over (made ++ map (made_as c loans) adv.0) rest.0 adv.1)),
           ),
@@ -277,22 +280,23 @@ module _ (c : Config) (limits : IsConfig c) (ps : List Program) (few : length ps
       (is : ps ≡ map program_in end.driven.nodes) (at : Moment m.driven) (loans : ℕ → ℕ → Lending)
       (image : ℕ → ℕ → List ℕ) (same : (i p : ℕ) → loans i p ≡ lent_in m i p) where
     touch : ((led.0).driven ≡ m.driven) ⊎ IsTouched c m.driven (led.0).driven
-    touch = touched c limits h m led.0 led.1 (kept_now c limits ps few m.driven at)
+    touch = touched c limits h m led.0 led.1 (kept_now o c limits ps few m.driven at)
 
-    goes : HasGone c limits ps few loans image m.driven (led.0).driven at same
+    goes : HasGone o c limits ps few loans image m.driven (led.0).driven at same
     goes =
-        gone_on c limits ps few loans image m.driven (led.0).driven at same
+        gone_on o c limits ps few loans image m.driven (led.0).driven at same
         (subst (λ x. AllExtend x (led.0).driven) (sym is)
         (extended c limits hs led.0 end led.2
-        (kept_on c limits m.driven (led.0).driven (kept_now c limits ps few m.driven at) touch))) touch
+        (kept_on c limits m.driven (led.0).driven (kept_now o c limits ps few m.driven at) touch)))
+        touch
 
   module _ (a : Access) (m mid : Mapped) (point : IsPointed c a m mid) (at : Moment m.driven)
       (loans : ℕ → ℕ → Lending) (image : ℕ → ℕ → List ℕ) (seen : AreSeen m loans image) where
     stays : (next : Moment mid.driven) × (next.sent ≡ at.sent)
-    stays = still_next c limits ps few m.driven mid.driven point.driven at
+    stays = still_next o c limits ps few m.driven mid.driven point.driven at
 
     abbrev image_then : ℕ → ℕ → List ℕ
-    image_then = pointed_image c limits ps few a m mid point at loans image seen.same seen.shows
+    image_then = pointed_image o c limits ps few a m mid point at loans image seen.same seen.shows
 
     lent_still : (j p : ℕ) → lent_in mid j p ≡ lent_in m j p
     lent_still j p = ap (λ (d : Driven). lent_by (slice_get d.nodes j) p) point.driven
@@ -301,12 +305,12 @@ module _ (c : Config) (limits : IsConfig c) (ps : List Program) (few : length ps
     seen_then = record {
       same = λ j p. seen.same j p ∙ sym (lent_still j p);
       shows = λ j p some.
-          pointed_shows c limits ps few a m mid point at loans image seen.same seen.shows j p
+          pointed_shows o c limits ps few a m mid point at loans image seen.same seen.shows j p
           (λ e. some (lent_still j p ∙ e));
     }
 
-    world_then : world_at c limits ps few loans image_then mid.driven stays.0
-        ≡ world_at c limits ps few loans image_then m.driven at
+    world_then : world_at o c limits ps few loans image_then mid.driven stays.0
+        ≡ world_at o c limits ps few loans image_then m.driven at
     world_then = λ k. lent_world c loans image_then (along ps (point.driven k).nodes) (stays.1 k)
 
     follow_point : (hs : List Happening) (end : Mapped) (led : HappenTo c mid hs end)
@@ -315,8 +319,8 @@ module _ (c : Config) (limits : IsConfig c) (ps : List Program) (few : length ps
     follow_point hs end led rest = (
       worlds.Accessed a ∷ rest.0,
       λ made g.
-          (let on = g.1 (world_at c limits ps few loans image_then m.driven at)
-          (touches c limits ps few a m mid point at loans image seen.same seen.shows) in (
+          (let on = g.1 (world_at o c limits ps few loans image_then m.driven at)
+          (touches o c limits ps few a m mid point at loans image seen.same seen.shows) in (
             memory_now m at loans image seen made g.0,
             (
               on.0,
@@ -351,13 +355,13 @@ module _ (c : Config) (limits : IsConfig c) (ps : List Program) (few : length ps
       at_end hs led.0 end led.2 is
       (goes h hs m end led is at (lent_in m) m.image (λ i p. refl)).next
 
-  pub one_world : (d : Driven) → ps ≡ map program_in d.nodes → Moment d → AreOfOneWorld c d
+  pub one_world : (d : Driven) → ps ≡ map program_in d.nodes → Moment d → AreOfOneWorld c o d
   one_world d is at =
       let w : World (Host Managed) = world_of (along ps d.nodes) at.sent in
       record {
         world = w;
-        keeps = subst (λ qs. Keeps (record { config = c; programs = qs; world = w })) is
-            (keeps-reached (record { config = c; programs = ps; world = w }) limits few
+        keeps = subst (λ qs. Keeps (record { config = c; opened = o; programs = qs; world = w })) is
+            (keeps-reached (record { config = c; opened = o; programs = ps; world = w }) limits few
             (at.before, at.led));
         nodes = ap (λ qs. map (λ (s : SiteView). s.node) (along qs d.nodes)) is
             ∙ ap (map (λ (s : SiteView). s.node)) (along_own d.nodes) ∙ nodes_seen d.nodes;
@@ -366,77 +370,86 @@ module _ (c : Config) (limits : IsConfig c) (ps : List Program) (few : length ps
 
 -- the nodes as they begin
 
-first_along : (c : Config) (me : ℕ) (ps : List Program) (left : ℕ) → length ps ≡ left
-    → along ps (first_from c me left) ≡ first_sites_from c me ps
-first_along c me [] zero few = refl
-first_along c me [] (suc left) few = refl
-first_along c me (p ∷ ps) zero few = absurd (omega (arith, few))
-first_along c me (p ∷ ps) (suc left) few =
-    ap (λ l. first_keeping History c me p ∷ l) (first_along c (me + 1) ps left (omega (arith, few)))
+first_along : (o : Opening) (c : Config) (me : ℕ) (ps : List Program) (left : ℕ) → length ps ≡ left
+    → along ps (first_from o c me left) ≡ first_sites_from o c me ps
+first_along o c me [] zero few = refl
+first_along o c me [] (suc left) few = refl
+first_along o c me (p ∷ ps) zero few = absurd (omega (arith, few))
+first_along o c me (p ∷ ps) (suc left) few =
+    ap (λ l. first_opened o History c me p ∷ l)
+    (first_along o c (me + 1) ps left (omega (arith, few)))
 
-first_length : (c : Config) (me left : ℕ) → length (first_from c me left) ≡ left
-first_length c me zero = refl
-first_length c me (suc left) = ap suc (first_length c (me + 1) left)
+first_length : (o : Opening) (c : Config) (me left : ℕ) → length (first_from o c me left) ≡ left
+first_length o c me zero = refl
+first_length o c me (suc left) = ap suc (first_length o c (me + 1) left)
 
-first_is : (c : Config) (me left i : ℕ) (e : Embedded)
-    → slice_get (first_from c me left) i ≡ Some e → e ≡ first_embedded c (me + i)
-first_is c me zero i e at = absurd (none-some e at)
-first_is c me (suc left) zero e at =
-    sym (same_Some (first_embedded c me) e at)
-    ∙ ap (first_embedded c) (let n : me ≡ me + 0 = omega arith in n)
-first_is c me (suc left) (suc i) e at =
-    first_is c (me + 1) left i e at
-    ∙ ap (first_embedded c) (let n : me + 1 + i ≡ me + suc i = omega arith in n)
+first_is : (o : Opening) (c : Config) (me left i : ℕ) (e : Embedded)
+    → slice_get (first_from o c me left) i ≡ Some e → e ≡ opened_embedded o c (me + i)
+first_is o c me zero i e at = absurd (none-some e at)
+first_is o c me (suc left) zero e at =
+    sym (same_Some (opened_embedded o c me) e at)
+    ∙ ap (opened_embedded o c) (let n : me ≡ me + 0 = omega arith in n)
+first_is o c me (suc left) (suc i) e at =
+    first_is o c (me + 1) left i e at
+    ∙ ap (opened_embedded o c) (let n : me + 1 + i ≡ me + suc i = omega arith in n)
 
-first_node : (c : Config) (i : ℕ)
-    → IsNodeSite c i [] (with_strings [] (first_embedded c i).site)
-first_node c i = record {
+first_node : (o : Opening) (c : Config) (i : ℕ)
+    → IsNodeSite c i [] (with_strings [] (opened_embedded o c i).site)
+first_node o c i = record {
   config = refl;
   me = refl;
-  made = first_made History c i (Called []);
+  made = first_made o History c i (Called []);
   early = λ bytes has. has;
-  own = record { called = tt; asking = first-asking managed_ops c i (Called []) };
+  own = record { called = tt; asking = first-asking managed_ops (managed_start o) c i (Called []) };
 }
 
-first_sound : (c : Config) (i : ℕ) → LendsSoundly (first_embedded c i)
-first_sound c i =
-    soundly (first_embedded c i) 0
-    (first_lender c i (first_embedded c i).site (first_embedded c i).lent refl refl)
+first_sound : (o : Opening) (c : Config) (i : ℕ) → LendsSoundly (opened_embedded o c i)
+first_sound o c i =
+    soundly (opened_embedded o c i) 0
+    (first_lender o c i (opened_embedded o c i).site (opened_embedded o c i).lent refl refl)
 
 unlent_all : (n p : ℕ) → lending_in (replicate n mark.Unlent) p ≡ mark.Unlent
 unlent_all zero p = refl
 unlent_all (suc n) zero = refl
 unlent_all (suc n) (suc p) = unlent_all n p
 
-first_unlent : (c : Config) (i p : ℕ) → lent_by (slice_get (opened c).nodes i) p ≡ Unlent
-first_unlent c i p = by (slice_get (opened c).nodes i) refl
+first_unlent : (o : Opening) (c : Config) (i p : ℕ)
+    → lent_by (slice_get (opened o c).nodes i) p ≡ Unlent
+first_unlent o c i p = by (slice_get (opened o c).nodes i) refl
   where
-    by : (o : Option Embedded) → slice_get (opened c).nodes i ≡ o → lent_by o p ≡ Unlent
+    by : (found : Option Embedded) → slice_get (opened o c).nodes i ≡ found
+        → lent_by found p ≡ Unlent
     by None is = refl
     by (Some e) is =
-        ap (λ (x : Embedded). lending_of (lending_in x.lent p)) (first_is c 0 c.nodes i e is)
+        ap (λ (x : Embedded). lending_of (lending_in x.lent p)) (first_is o c 0 c.nodes i e is)
         ∙ ap lending_of (unlent_all c.pages p)
 
-module _ (c : Config) (limits : IsConfig c) (ps : List Program) (few : length ps ≡ c.nodes) where
+module _ (o : Opening) (c : Config) (limits : IsConfig c) (ps : List Program)
+    (few : length ps ≡ c.nodes) where
   abbrev first_sites : List SiteView
-  first_sites = along ps (opened c).nodes
+  first_sites = along ps (opened o c).nodes
 
-  first_world : world_of first_sites [] ≡ opening managed_ops c ps
+  first_world : world_of first_sites [] ≡ opening (managed_start o) c ps
   first_world =
-      ap (λ (r : Run). r.world) (first_run-of c ps first_sites [] (first_along c 0 ps c.nodes few) refl)
+      ap (λ (r : Run). r.world)
+      (first_run-of o c ps first_sites [] (first_along o c 0 ps c.nodes few) refl)
 
-  first_moment : (at : IsMoment c limits ps few (opened c)) × (at.sent ≡ [])
+  first_moment : (at : IsMoment o c limits ps few (opened o c)) × (at.sent ≡ [])
   first_moment = (
     record {
       sent = [];
-      are = (first_running-of c ps first_sites [] limits few (first_along c 0 ps c.nodes few) refl).nodes;
-      each = few ∙ sym (first_length c 0 c.nodes);
+      are = (first_running-of o c ps first_sites [] limits few (first_along o c 0 ps c.nodes few)
+          refl).nodes;
+      each = few ∙ sym (first_length o c 0 c.nodes);
       real = λ i e at. subst (λ (x : Embedded). IsNodeSite c i [] (with_strings [] x.site))
-          (sym (first_is c 0 c.nodes i e at ∙ ap (first_embedded c) (let n : 0 + i ≡ i = omega arith in n)))
-          (first_node c i);
-      sound = λ i e at. subst LendsSoundly (sym (first_is c 0 c.nodes i e at)) (first_sound c (0 + i));
+          (sym (first_is o c 0 c.nodes i e at
+          ∙ ap (opened_embedded o c) (let n : 0 + i ≡ i = omega arith in n)))
+          (first_node o c i);
+      sound = λ i e at. subst LendsSoundly (sym (first_is o c 0 c.nodes i e at))
+          (first_sound o c (0 + i));
       taken = λ bytes has. has;
-      waits = λ i e at bytes has. subst (λ l. Contains l bytes) (none_waits c 0 c.nodes i e at) has;
+      waits = λ i e at bytes has.
+          subst (λ l. Contains l bytes) (none_waits o c 0 c.nodes i e at) has;
       before = [];
       led = first_world;
     },
@@ -467,34 +480,36 @@ many_end c (h ∷ hs) m end led =
 
 -- from the opening on
 
-abbrev start_of : Config → (ℕ → ℕ → List ℕ) → Mapped
-start_of c image = record { driven = opened c; image = image }
+abbrev start_of : Opening → Config → (ℕ → ℕ → List ℕ) → Mapped
+start_of o c image = record { driven = opened o c; image = image }
 
-from_opening : (c : Config) → IsConfig c → (image : ℕ → ℕ → List ℕ) (hs : List Happening)
-    (end : Mapped) (led : HappenTo c (start_of c image) hs end)
-    → GrowAsOneMemory c (start_of c image) [] hs end led × AreOfOneWorld c end.driven
-from_opening c limits image hs end led =
+from_opening : (o : Opening) (c : Config) → IsConfig c → (image : ℕ → ℕ → List ℕ)
+    (hs : List Happening) (end : Mapped) (led : HappenTo c (start_of o c image) hs end)
+    → GrowAsOneMemory c (start_of o c image) [] hs end led × AreOfOneWorld c o end.driven
+from_opening o c limits image hs end led =
     let ps : List Program = map program_in end.driven.nodes in
     let few : length ps ≡ c.nodes =
     length-map end.driven.nodes program_in
-    ∙ (many_end c hs (start_of c image) end led ∙ first_length c 0 c.nodes) in
-    let first = first_moment c limits ps few in
-    let loans = lent_in (start_of c image) in
-    let g = grows c limits ps few hs (start_of c image) end led refl first.0 loans image
+    ∙ (many_end c hs (start_of o c image) end led ∙ first_length o c 0 c.nodes) in
+    let first = first_moment o c limits ps few in
+    let loans = lent_in (start_of o c image) in
+    let g = grows o c limits ps few hs (start_of o c image) end led refl first.0 loans image
     (record { same = λ i p. refl; shows = λ i p some. refl }) in
-    let opens : world_of (along ps (opened c).nodes) (first.0).sent ≡ opening managed_ops c ps =
-    ap (world_of (along ps (opened c).nodes)) first.1 ∙ first_world c limits ps few in (
+    let opens : world_of (along ps (opened o c).nodes) (first.0).sent
+    ≡ opening (managed_start o) c ps =
+    ap (world_of (along ps (opened o c).nodes)) first.1 ∙ first_world o c limits ps few in (
       g.1 []
-          (lent_pages_are_flat c limits ps few (world_at c limits ps few loans image (opened c) first.0) opens
-          (first_unlent c) g.0),
-      one_world c limits ps few end.driven refl
-          (at_end c limits ps few hs (start_of c image) end led refl first.0),
+          (lent_pages_are_flat o c limits ps few
+          (world_at o c limits ps few loans image (opened o c) first.0) opens
+          (first_unlent o c) g.0),
+      one_world o c limits ps few end.driven refl
+          (at_end o c limits ps few hs (start_of o c image) end led refl first.0),
     )
 
 pub nodes_that_lend_are_flat : NodesThatLendAreFlat
-nodes_that_lend_are_flat c limits start opens hs end =
-    let same : start ≡ start_of c start.image =
+nodes_that_lend_are_flat o c limits start opens hs end =
+    let same : start ≡ start_of o c start.image =
     λ k. record { driven = opens k; image = start.image } in
     subst (λ (m : Mapped). (led : HappenTo c m hs end)
-    → GrowAsOneMemory c m [] hs end led × AreOfOneWorld c end.driven) (sym same)
-    (λ led. from_opening c limits start.image hs end led)
+    → GrowAsOneMemory c m [] hs end led × AreOfOneWorld c o end.driven) (sym same)
+    (λ led. from_opening o c limits start.image hs end led)

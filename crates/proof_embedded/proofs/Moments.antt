@@ -13,7 +13,8 @@ use Rattle.ivy_moves.proofs.Leading.{leads_on}
 use Rattle.ivy_moves.proofs.Places.{set-cases, set-there, set_same}
 use Rattle.ivy_host.specs.stated.Hosts.{host_rules}
 use Rattle.ivy_host.specs.stated.Managers.{managed_ops}
-use Rattle.ivy_host.specs.stated.Openings.{opening}
+use Rattle.ivy_host.specs.declared.opening.Opening.{Opening}
+use Rattle.ivy_host.specs.stated.Openings.{managed_start, opening}
 use Rattle.ivy_world.specs.WorldSites.{AreSites, world_of}
 use Rattle.proof_worlds.specs.stated.Reached.{IsLedTo}
 use Rattle.ivy_embedded.specs.Lending.{LendsSoundly, lending_in}
@@ -35,7 +36,8 @@ use Rattle.proof_embedded.proofs.Quiet.{asked_quiet, sound_quiet}
 use Rattle.proof_embedded.proofs.Running.{ran, sent_more}
 use Rattle.proof_embedded.proofs.Touching.{AllExtend, AreKept, IsTouched, emptied_same, out_from, waits_fewer}
 
-module _ (c : Config) (limits : IsConfig c) (ps : List Program) (few : length ps ≡ c.nodes) where
+module _ (o : Opening) (c : Config) (limits : IsConfig c) (ps : List Program)
+    (few : length ps ≡ c.nodes) where
   -- of programs that make these calls in the end
   pub record IsMoment (d : Driven) : Type 0 where
     pub sent : List (List ℕ)
@@ -48,7 +50,7 @@ module _ (c : Config) (limits : IsConfig c) (ps : List Program) (few : length ps
     pub waits : (i : ℕ) (e : Embedded) → slice_get d.nodes i ≡ Some e → (bytes : List ℕ)
         → Contains (waiting_in e) bytes → Contains sent bytes
     pub before : List Move
-    pub led : IsLedTo c (opening managed_ops c ps) before (world_of (along ps d.nodes) sent)
+    pub led : IsLedTo c (opening (managed_start o) c ps) before (world_of (along ps d.nodes) sent)
 
   pub kept_now : (d : Driven) → IsMoment d → AreKept c d
   kept_now d m i e at = record {
@@ -92,7 +94,7 @@ module _ (c : Config) (limits : IsConfig c) (ps : List Program) (few : length ps
       waits = subst (λ (x : Driven). (i : ℕ) (e : Embedded) → slice_get x.nodes i ≡ Some e
           → (bytes : List ℕ) → Contains (waiting_in e) bytes → Contains m.sent bytes) (sym is) m.waits;
       before = m.before;
-      led = subst (λ (x : Driven). IsLedTo c (opening managed_ops c ps) m.before
+      led = subst (λ (x : Driven). IsLedTo c (opening (managed_start o) c ps) m.before
           (world_of (along ps x.nodes) m.sent)) (sym is) m.led;
     },
     refl,
@@ -168,7 +170,7 @@ module _ (c : Config) (limits : IsConfig c) (ps : List Program) (few : length ps
               (λ here. waits bytes (subst (λ (x : Embedded). Contains (waiting_in x) bytes) here.1 has))
               (λ old. more bytes (m.waits j e old bytes has)) (at_old j e at);
           before = m.before ++ moves;
-          led = leads_on (host_rules managed_ops) c (opening managed_ops c ps)
+          led = leads_on (host_rules managed_ops) c (opening (managed_start o) c ps)
               (world_of (along ps d.nodes) m.sent) (world_of (along ps d'.nodes) sent) m.before moves m.led
               (world_leads moves (lent_world c lent image (along ps d.nodes) m.sent)
               (lent_world c lent image (along ps d'.nodes) sent) leads);

@@ -22,7 +22,8 @@ use Rattle.ivy_moves.proofs.Unseen.{events-over}
 use Rattle.ivy_host.specs.Handing.{handing}
 use Rattle.ivy_host.specs.stated.Hosts.{Host, host_rules, answered_by}
 use Rattle.ivy_host.specs.stated.Managers.{Managed, managed_ops}
-use Rattle.ivy_host.specs.stated.Openings.{opening}
+use Rattle.ivy_host.specs.declared.opening.Opening.{Opening}
+use Rattle.ivy_host.specs.stated.Openings.{managed_start, opening}
 use Rattle.ivy_host.proofs.HandedHosts.{opening_handed, unseen}
 use Rattle.ivy_site.specs.Handed.{site_handed}
 use Rattle.ivy_site.specs.SiteView.{SiteView}
@@ -181,16 +182,18 @@ module _ (c : Config) where
   }
 
 -- the sites run, and those nodes are points of the run
-pub record RunsWith (c : Config) (past : List Driven) (sites : List SiteView) (sent : List (List ℕ))
-    : Type 0 where
+pub record RunsWith (c : Config) (o : Opening) (past : List Driven) (sites : List SiteView)
+    (sent : List (List ℕ)) : Type 0 where
   pub limits : IsConfig c
   pub count : length sites ≡ c.nodes
   pub nodes : AreSites c sites
-  pub reached : Reaches c past (opening managed_ops c (programs_of sites)) (world_of sites sent)
+  pub reached : Reaches c past (opening (managed_start o) c (programs_of sites))
+      (world_of sites sent)
 
-pub running_of : (c : Config) (past : List Driven) (sites : List SiteView) (sent : List (List ℕ))
-    → RunsWith c past sites sent → IsRunning c sites sent
-running_of c past sites sent h = record {
+pub running_of : (c : Config) (o : Opening) (past : List Driven) (sites : List SiteView)
+    (sent : List (List ℕ))
+    → RunsWith c o past sites sent → IsRunning c o sites sent
+running_of c o past sites sent h = record {
   limits = h.limits;
   count = h.count;
   nodes = h.nodes;
@@ -198,9 +201,10 @@ running_of c past sites sent h = record {
 }
 
 -- of no past
-pub runs_first : (c : Config) (sites : List SiteView) (sent : List (List ℕ)) → IsRunning c sites sent
-    → RunsWith c [] sites sent
-runs_first c sites sent h = record {
+pub runs_first : (c : Config) (o : Opening) (sites : List SiteView) (sent : List (List ℕ))
+    → IsRunning c o sites sent
+    → RunsWith c o [] sites sent
+runs_first c o sites sent h = record {
   limits = h.limits;
   count = h.count;
   nodes = h.nodes;
@@ -208,46 +212,47 @@ runs_first c sites sent h = record {
     moves = h.reached.0;
     leads = h.reached.1;
     points =
-        All-nil (ArePoints c h.reached.0 (opening managed_ops c (programs_of sites))
+        All-nil (ArePoints c h.reached.0 (opening (managed_start o) c (programs_of sites))
         (world_of sites sent) h.reached.1);
   };
 }
 
 -- one move more
-pub runs_with : (c : Config) (past : List Driven) (sites sites' : List SiteView)
-    (sent sent' : List (List ℕ)) (step : Move) → RunsWith c past sites sent → AreSites c sites'
+pub runs_with : (c : Config) (o : Opening) (past : List Driven) (sites sites' : List SiteView)
+    (sent sent' : List (List ℕ)) (step : Move) → RunsWith c o past sites sent → AreSites c sites'
     → length sites' ≡ c.nodes → programs_of sites' ≡ programs_of sites
-    → Moves R c (world_of sites sent) step (world_of sites' sent') → RunsWith c past sites' sent'
-runs_with c past sites sites' sent sent' step h are count programs made = record {
+    → Moves R c (world_of sites sent) step (world_of sites' sent') → RunsWith c o past sites' sent'
+runs_with c o past sites sites' sent sent' step h are count programs made = record {
   limits = h.limits;
   count = count;
   nodes = are;
-  reached = subst (λ ps. Reaches c past (opening managed_ops c ps) (world_of sites' sent'))
+  reached = subst (λ ps. Reaches c past (opening (managed_start o) c ps) (world_of sites' sent'))
       (sym programs)
-      (reaches_more c past (opening managed_ops c (programs_of sites)) (world_of sites sent)
+      (reaches_more c past (opening (managed_start o) c (programs_of sites)) (world_of sites sent)
       (world_of sites' sent') h.reached step made);
 }
 
 -- calls are handed in
-pub handed_with : (c : Config) (past : List Driven) (sites : List SiteView) (sent : List (List ℕ))
-    (node : ℕ) (old : SiteView) → slice_get sites node ≡ Some old → (more : List (List Call))
-    → RunsWith c past sites sent → RunsWith c past (set sites node (site_handed more old)) sent
-handed_with c past sites sent node old there more h =
-    let runs = running_of c past sites sent h in
+pub handed_with : (c : Config) (o : Opening) (past : List Driven) (sites : List SiteView)
+    (sent : List (List ℕ)) (node : ℕ) (old : SiteView) → slice_get sites node ≡ Some old
+    → (more : List (List Call))
+    → RunsWith c o past sites sent → RunsWith c o past (set sites node (site_handed more old)) sent
+handed_with c o past sites sent node old there more h =
+    let runs = running_of c o past sites sent h in
     let sites' : List SiteView = set sites node (site_handed more old) in
-    let each : ℕ → List (List Call) = more_at c sites sent node old there more runs in
-    let base = handed_running c sites sent node old there more runs in
+    let each : ℕ → List (List Call) = more_at c o sites sent node old there more runs in
+    let base = handed_running c o sites sent node old there more runs in
     let over =
-    reaches_handed c past each (opening managed_ops c (programs_of sites)) (world_of sites sent)
-    (opening managed_ops c (programs_of sites')) h.reached
-    (opening_handed managed_ops c each (programs_of sites) (programs_of sites')
-    (programs_handed c sites sent node old there more runs)) in
+    reaches_handed c past each (opening (managed_start o) c (programs_of sites))
+    (world_of sites sent) (opening (managed_start o) c (programs_of sites')) h.reached
+    (opening_handed (managed_start o) c each (programs_of sites) (programs_of sites')
+    (programs_handed c o sites sent node old there more runs)) in
     record {
       limits = h.limits;
       count = base.count;
       nodes = base.nodes;
-      reached = subst (Reaches c past (opening managed_ops c (programs_of sites')))
+      reached = subst (Reaches c past (opening (managed_start o) c (programs_of sites')))
           (changed-one (λ i. handing (each i)) (world_of sites sent) over.0 (world_of sites' sent)
-          over.1 (world_changed c sites sent node old there more runs))
+          over.1 (world_changed c o sites sent node old there more runs))
           over.2;
     }

@@ -8,10 +8,11 @@ use Rattle.ivy_program.specs.stated.Programs.{Program}
 use Rattle.ivy_moves.specs.stated.Explained.{IsUntorn, IsExplainedBy}
 use Rattle.ivy_moves.specs.stated.Nodes.{Node}
 use Rattle.ivy_moves.specs.stated.Worlds.{World}
+use Rattle.ivy_host.specs.declared.opening.Opening.{Opening}
 use Rattle.ivy_host.specs.stated.Hosts.{Host, host_rules, answered_by}
 use Rattle.ivy_host.specs.stated.Managers.{Managed, managed_ops}
 use Rattle.ivy_embedded.specs.Blocks.{RefusesBlock, RefusesStores, StoresNoneRead}
-use Rattle.ivy_embedded.specs.Nodes.{Embedded, first_embedded}
+use Rattle.ivy_embedded.specs.Nodes.{Embedded, opened_embedded}
 use Rattle.ivy_embedded.specs.Exports.{Answers, Begins, BeginsBlock, CarriesOut, Delivers, IsRequest, Polls, Pulses, RefusesCall, RefusesPoll, RefusesPulse, RefusesString, TakesAt, TakesBlock, marks_at}
 use Rattle.ivy_embedded.specs.declared.status.TheConstants.{DONE}
 use Rattle.proof_worlds.specs.stated.Keeping.{Keeps}
@@ -94,14 +95,14 @@ DrivesTo d [] end = end ≡ d
 DrivesTo d (request ∷ requests) end =
     (mid : Driven) × Asks request.0 request.1 d mid × DrivesTo mid requests end
 
--- nodes from this number on, so many, none of which made a call yet
-abbrev pub first_from : Config → ℕ → ℕ → List Embedded
-first_from c me zero = []
-first_from c me (suc left) = first_embedded c me ∷ first_from c (me + 1) left
+-- nodes from this number on, so many, which all began so, and none of which made a call yet
+abbrev pub first_from : Opening → Config → ℕ → ℕ → List Embedded
+first_from o c me zero = []
+first_from o c me (suc left) = opened_embedded o c me ∷ first_from o c (me + 1) left
 
--- all nodes of a configuration, and no string was taken out
-abbrev pub opened : Config → Driven
-opened c = record { nodes = first_from c 0 c.nodes; strings = [] }
+-- all nodes of a configuration, by one opening, and no string was taken out
+abbrev pub opened : Opening → Config → Driven
+opened o c = record { nodes = first_from o c 0 c.nodes; strings = [] }
 
 abbrev pub node_in : Embedded → Node (Host Managed)
 node_in e = e.site.node
@@ -122,12 +123,18 @@ abbrev pub AreUntorn : List Record → Driven → Type 0
 AreUntorn order d = (i : ℕ) (e : Embedded) → slice_get d.nodes i ≡ Some e
     → IsUntorn order i (answered_by (node_in e).core)
 
--- they are the nodes of a world that moves lead to from the opening of programs that make the
+-- they are the nodes of a world that moves lead to from this opening of programs that make the
 -- calls begun, all that is promised of such a world holds of it, and the strings were sent in it; an
 -- order explains it, and tears no calls apart that a node had in progress together at such a moment
-pub record AreOfOneRun (c : Config) (past : List Driven) (d : Driven) : Type 0 where
+pub record AreOfOneRun (o : Opening) (c : Config) (past : List Driven) (d : Driven)
+    : Type 0 where
   pub world : World (Host Managed)
-  pub keeps : Keeps (record { config = c; programs = map program_in d.nodes; world = world })
+  pub keeps : Keeps (record {
+    config = c;
+    opened = o;
+    programs = map program_in d.nodes;
+    world = world;
+  })
   pub nodes : world.nodes ≡ map node_in d.nodes
   pub sent : (bytes : List ℕ) → Contains d.strings bytes → Contains world.sent bytes
   pub order : List Record
@@ -135,5 +142,7 @@ pub record AreOfOneRun (c : Config) (past : List Driven) (d : Driven) : Type 0 w
   pub untorn : All (AreUntorn order) past
 
 abbrev pub DrivenNodesAreOfOneRun : Type 0
-DrivenNodesAreOfOneRun = (c : Config) → IsConfig c → (requests : List (ℕ × Request)) (d : Driven)
-    → (led : DrivesTo (opened c) requests d) → AreOfOneRun c (moments [] requests (opened c) d led) d
+DrivenNodesAreOfOneRun = (o : Opening) (c : Config) → IsConfig c
+    → (requests : List (ℕ × Request)) (d : Driven)
+    → (led : DrivesTo (opened o c) requests d)
+    → AreOfOneRun o c (moments [] requests (opened o c) d led) d

@@ -8,6 +8,7 @@ use Rattle.ivy_model.specs.stated.Explains.{part, IsOwed}
 use Rattle.ivy_model.specs.stated.Memory.{Memory, first}
 use Rattle.ivy_pagetable.specs.stated.Tables.{page_at}
 use Rattle.ivy_moves.specs.stated.Worlds.{World}
+use Rattle.ivy_host.specs.declared.opening.Opening.{Opening}
 use Rattle.ivy_host.specs.stated.Hosts.{Host, answered_by}
 use Rattle.ivy_host.specs.stated.Managers.{Managed}
 use Rattle.ivy_embedded.specs.declared.lending.Lending.{Lending as Mark}
@@ -179,17 +180,23 @@ module _ (c : Config) where
       × ((more : List Made) × AddsMade h m more
       × GrowAsOneMemory led.0 (made ++ more) hs end led.2)
 
-  -- the nodes are those of a world that moves lead to from the opening of programs that make the
+  -- the nodes are those of a world that moves lead to from this opening of programs that make the
   -- calls begun, all that is promised of such a world holds of it, and the strings were sent in it
-  pub record AreOfOneWorld (d : Driven) : Type 0 where
+  pub record AreOfOneWorld (o : Opening) (d : Driven) : Type 0 where
     pub world : World (Host Managed)
-    pub keeps : Keeps (record { config = c; programs = map program_in d.nodes; world = world })
+    pub keeps : Keeps (record {
+      config = c;
+      opened = o;
+      programs = map program_in d.nodes;
+      world = world;
+    })
     pub nodes : world.nodes ≡ map node_in d.nodes
     pub sent : (bytes : List ℕ) → Contains d.strings bytes → Contains world.sent bytes
 
--- The law: of nodes that a program drives from their opening on, with whatever accesses to what they
+-- The law: of nodes that a program drives from an opening on, with whatever accesses to what they
 -- lend between the calls, all calls and accesses are of one flat memory, in the order of time.
 abbrev pub NodesThatLendAreFlat : Type 0
-NodesThatLendAreFlat = (c : Config) → IsConfig c → (start : Mapped) → start.driven ≡ opened c
-    → (happenings : List Happening) (end : Mapped) → (led : HappenTo c start happenings end)
-    → GrowAsOneMemory c start [] happenings end led × AreOfOneWorld c end.driven
+NodesThatLendAreFlat = (o : Opening) (c : Config) → IsConfig c → (start : Mapped)
+    → start.driven ≡ opened o c → (happenings : List Happening) (end : Mapped)
+    → (led : HappenTo c start happenings end)
+    → GrowAsOneMemory c start [] happenings end led × AreOfOneWorld c o end.driven

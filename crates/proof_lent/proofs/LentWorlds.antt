@@ -35,7 +35,8 @@ use Rattle.ivy_moves.proofs.Leading.{leads_one}
 use Rattle.ivy_host.specs.stated.Hosts.{Host, host_rules, answered_by}
 use Rattle.ivy_host.specs.stated.Holding.{IsExclusive}
 use Rattle.ivy_host.specs.stated.Managers.{Managed, managed_ops}
-use Rattle.ivy_host.specs.stated.Openings.{opening}
+use Rattle.ivy_host.specs.declared.opening.Opening.{Opening}
+use Rattle.ivy_host.specs.stated.Openings.{managed_start, opening}
 use Rattle.proof_worlds.specs.consistency.Alone.{IsAlone, AreAlone, AreCurrent, entries_in, bytes_in, GoesOnAlone}
 use Rattle.proof_worlds.specs.stated.Nets.{entry_of}
 use Rattle.proof_worlds.proofs.headline.Headline.{alone-along, exclusive_along, nodes-led}
@@ -258,10 +259,10 @@ led_node c (z ∷ zs) old new led r (inl e) =
     subst (λ (q : Record). q.node < c.nodes) e led.1.node
 led_node c (z ∷ zs) old new led r (inr h) = led_node c zs led.0 new led.2 r h
 
-module _ (c : Config) (config : IsConfig c) (programs : List Program)
+module _ (opened : Opening) (c : Config) (config : IsConfig c) (programs : List Program)
     (many : length programs ≡ c.nodes) where
   abbrev start : World (Host Managed)
-  start = opening managed_ops c programs
+  start = opening (managed_start opened) c programs
 
   -- what holds of a world that lends, of what was made, and of what is to happen
   record Holds (l : LentWorld) (made : List Made) (hs : List Happening) : Type 0 where
@@ -305,7 +306,7 @@ module _ (c : Config) (config : IsConfig c) (programs : List Program)
     }
 
     exclusive : IsExclusive l.world
-    exclusive = exclusive_along c programs config many h.before l.world h.led
+    exclusive = exclusive_along opened c programs config many h.before l.world h.led
 
     -- what a node may read is the flat memory's
     current : (i p : ℕ) → p < c.pages → readable (entries_in l.world i p) ≡ true
@@ -385,9 +386,9 @@ module _ (c : Config) (config : IsConfig c) (programs : List Program)
           next.1 (in_contains next.0 r among);
       none = λ p w is read.
           (let below : r.node < c.nodes = led_node c next.0 h.memory then.1.0 leads_more r among in
-          let long = nodes-led c programs config many h.before l.world h.led in
+          let long = nodes-led opened c programs config many h.before l.world h.led in
           let longer =
-          nodes-led c programs config many (h.before ++ move ∷ []) mid.world led_there in
+          nodes-led opened c programs config many (h.before ++ move ∷ []) mid.world led_there in
           let n = some_at l.world.nodes r.node (omega (arith, below, long)) in
           let m = some_at mid.world.nodes r.node (omega (arith, below, longer)) in
           g.none r.node n.0 m.0 n.1 m.1 r.call (made_since r among n.0 m.0 n.1 m.1) p w is read);
@@ -557,8 +558,8 @@ module _ (c : Config) (config : IsConfig c) (programs : List Program)
   )
 
 pub lent_pages_are_flat : LentPagesAreFlat
-lent_pages_are_flat c config programs many first_world opened unlent hs =
-    goes_on c config programs many hs first_world []
+lent_pages_are_flat opened c config programs many first_world begun unlent hs =
+    goes_on opened c config programs many hs first_world []
     (record {
       memory = first c;
       leads = refl;
@@ -567,8 +568,9 @@ lent_pages_are_flat c config programs many first_world opened unlent hs =
       stands = first_stands c config (state_of c first_world (first c))
           (record { memory = refl; unlent = unlent });
       past = [];
-      chain = subst (λ w. GoesOnAlone (host_rules managed_ops) c [] w [] (moves_in c hs)) (sym opened)
-          (alone-along c programs config many (moves_in c hs));
+      chain = subst (λ w. GoesOnAlone (host_rules managed_ops) c [] w [] (moves_in c hs))
+          (sym begun)
+          (alone-along opened c programs config many (moves_in c hs));
       before = [];
-      led = opened;
+      led = begun;
     })

@@ -19,7 +19,8 @@ use Rattle.ivy_moves.specs.stated.Nodes.{Node}
 use Rattle.ivy_moves.specs.stated.Worlds.{World, Moves}
 use Rattle.ivy_host.specs.stated.Hosts.{Host, host_rules, answered_by}
 use Rattle.ivy_host.specs.stated.Managers.{Managed, managed_ops}
-use Rattle.ivy_host.specs.stated.Openings.{opening}
+use Rattle.ivy_host.specs.declared.opening.Opening.{Opening}
+use Rattle.ivy_host.specs.stated.Openings.{managed_start, opening}
 use Rattle.proof_worlds.specs.consistency.Alone.{entries_in, bytes_in}
 use Rattle.proof_lent.specs.Lent.{Lending, Unlent, ToRead, ToWrite, Access, writes, Does, IsInside, Made, Called, Kept, Pointed, MakesAll, IsApart}
 
@@ -164,10 +165,12 @@ module _ (c : Config) where
       × ((mid : LentWorld) → HappensTo h l mid
       → (more : List Made) × Adds h l more × GoesOnLent mid (made ++ more) hs)
 
--- The law: from the opening of any programs on, with nothing lent, whatever happens, all calls of nodes
--- and all accesses that their programs make by pointers are of one flat memory, in the order of time.
+-- The law: from each opening of any programs on, with nothing lent, whatever happens, all calls of
+-- nodes and all accesses that their programs make by pointers are of one flat memory, in the order
+-- of time.
 abbrev pub LentPagesAreFlat : Type 0
-LentPagesAreFlat = (c : Config) → IsConfig c → (programs : List Program)
+LentPagesAreFlat = (opened : Opening) (c : Config) → IsConfig c → (programs : List Program)
     → length programs ≡ c.nodes → (start : LentWorld)
-    → start.world ≡ opening managed_ops c programs → ((i p : ℕ) → start.lent i p ≡ Unlent)
+    → start.world ≡ opening (managed_start opened) c programs
+    → ((i p : ℕ) → start.lent i p ≡ Unlent)
     → (happenings : List Happening) → GoesOnLent c start [] happenings

@@ -16,12 +16,12 @@ pub fn mapped_accesses_are_flat()
 
 /// Worlds whose nodes lend pages go on as one flat memory does. This is a fact, and the call does nothing.
 ///
-/// From the opening of any programs, with nothing lent, any moves are made, and between them nodes lend pages, programs
-/// access bytes of what is lent to them, and pages are given back, in any order. All calls of the nodes and all accesses
-/// are of one flat memory, in the order of time: what was made grows at its end with each that happens. Each node's
-/// part of the calls is its history, then nothing, or a record of each call that it has in progress. A node's calls of
-/// pages that are lent to write there are its driver's: they stand in its part, and change nothing. No page is lent to
-/// write at one node and lent at all at another.
+/// From each opening of any programs, with nothing lent, any moves are made, and between them nodes lend pages,
+/// programs access bytes of what is lent to them, and pages are given back, in any order. All calls of the nodes and
+/// all accesses are of one flat memory, in the order of time: what was made grows at its end with each that happens.
+/// Each node's part of the calls is its history, then nothing, or a record of each call that it has in progress. A
+/// node's calls of pages that are lent to write there are its driver's: they stand in its part, and change nothing. No
+/// page is lent to write at one node and lent at all at another.
 ///
 /// It takes from each node that it may do itself with a page what it lends it for, before each move, loan and return;
 /// and that no call that writes is made of a page that is lent to read there. From whoever drives the nodes it takes

@@ -1,6 +1,7 @@
 pub mod Readers
 pub mod ReadersKept
 pub mod Onward
+pub mod OnwardTaken
 pub mod OnwardRows
 pub mod Ranks
 pub mod Restarts

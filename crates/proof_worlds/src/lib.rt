@@ -23,4 +23,7 @@
 
 mod law;
 
-pub use law::{deliveries_answer, deliveries_end, none_is_breached, words_are_carried_alone};
+pub use law::{
+    configured_begins_as_named, deliveries_answer, deliveries_end, none_is_breached,
+    words_are_carried_alone,
+};

@@ -26,6 +26,28 @@ static EACH_CALL: Calls<'static> = Calls {
     ],
 };
 
+/// Steady hints are moved by each call but the one that ends a copy.
+#[test]
+fn ended_copy_keeps_a_steady_hint(rt: HostRuntime) {
+    let mut manager = DynamicManager::steady(rt.alloc(), &HINTED, 1).expect(&rt, "memory");
+    check(&rt, &mut manager, &STEADY);
+}
+
+static STEADY: Calls<'static> = Calls {
+    page: 5,
+    first: [0; 8],
+    calls: &[
+        (Told::Invalidated(2), 0),
+        (Told::Forward(false, 2), 0),
+        (Told::Forward(true, 3), 3),
+        (Told::Invalidated(0), 3),
+        (Told::Replied(false, 2), 2),
+        (Told::Invalidated(0), 2),
+        (Told::Replied(true, 3), 1),
+        (Told::Given(2), 2),
+    ],
+};
+
 /// Node 0 gives page 5 to node 1, of which node 3 knows nothing: its request to write goes from
 /// hint to hint, 0 and then 1, and each of the two then hints at node 3.
 #[test]

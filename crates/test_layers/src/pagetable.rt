@@ -309,6 +309,16 @@ fn thirty_two_are_put_off(rt: HostRuntime) {
     assert!(rt; !table.put_off(1, message));
 }
 
+/// A waiting entry is marked once a request was sent on from it.
+#[test]
+fn a_request_was_sent_on(rt: HostRuntime) {
+    let mut waiting = Waiting::new(Word::Count { offset: 8 }, 3);
+    assert!(rt; !waiting.sent_on());
+    waiting.send_on();
+    assert!(rt; waiting.sent_on());
+    expect_same(&rt, waiting.call(), 3);
+}
+
 /// An owner that waits for acknowledgements reads its page, and does not write it yet.
 #[test]
 fn acknowledgements_are_missing(rt: HostRuntime) {

@@ -108,6 +108,7 @@ mod heap;
 mod rounds;
 mod schedules;
 mod settling;
+mod steady;
 mod stores;
 mod swaps;
 mod thirty_two_nodes;

@@ -4,7 +4,7 @@ use crate::digest::{Digest, MANAGERS};
 use anyhow::Error;
 use ivy_model::{Config, Fault, Kind};
 use ivy_replay::{Silence, Text, drawn_moves, ended_in, history_of, order_of, output_of};
-use ivy_world::{Move, Rest, World};
+use ivy_world::{Move, Opening, Rest, World};
 use std::alloc::Global;
 use std::io::Write;
 use test_support::programs;
@@ -71,6 +71,7 @@ fn text_of(alloc: Global, example: Example, manager: Kind) -> Text<'static> {
             page_size: 256,
             manager,
         },
+        opening: Opening::Configured,
         programs: example.text(),
     }
 }

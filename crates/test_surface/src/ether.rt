@@ -2,9 +2,10 @@
 //!
 //! Each call stands in a function that asks what the call asks, and no test makes an ether here: sites that are seated at one
 //! are tested in `test_programs` (`sessions::wire_turns`), and all of it by each session.
-ghost use Rattle.std.specs.Prelude.{◌≡◌, ◌<◌, length, None, Contains, true};
+ghost use Rattle.std.specs.Prelude.{◌≡◌, ◌<◌, [], length, replicate, None, Contains, true};
 ghost use Rattle.ivy_ether.specs.Programs.{MayGive, SendsFrom};
 ghost use Rattle.ivy_ether.specs.Rule.{times};
+ghost use Rattle.ivy_program.specs.stated.Programs.{Called};
 ghost use Rattle.ivy_seating.specs.Places.{IsFreshSeat};
 
 use crate::common::expect_same;
@@ -50,8 +51,8 @@ fn put<S: Setup, R: Wait>(
     frame: Bytes<Global>,
 ) -> bool
     requires pass { pass.old.ether ≡ ether.now }
-    requires events { MayGive S.config S.programs pass.old.known events.now.marks }
-    requires frame { SendsFrom S.config S.programs pass.old.known events.now.marks frame }
+    requires events { MayGive S.config S.opened S.programs pass.old.known events.now.marks }
+    requires frame { SendsFrom S.config S.opened S.programs pass.old.known events.now.marks frame }
 {
     is_sent(ether.put(rt, pass, events, frame))
 }
@@ -64,7 +65,7 @@ fn take<S: Setup, R: Wait>(
     events: &Events<Global>,
 ) -> Option<Bytes<Global>>
     requires pass { pass.old.ether ≡ ether.now }
-    requires events { MayGive S.config S.programs pass.old.known events.now.marks }
+    requires events { MayGive S.config S.opened S.programs pass.old.known events.now.marks }
 {
     frame_in(ether.take(rt, pass, events)?)
 }
@@ -78,7 +79,7 @@ fn put_back<S: Setup, R: Wait>(
     frame: Bytes<Global>,
 ) -> bool
     requires pass { pass.old.ether ≡ ether.now }
-    requires events { MayGive S.config S.programs pass.old.known events.now.marks }
+    requires events { MayGive S.config S.opened S.programs pass.old.known events.now.marks }
     requires frame { Contains pass.old.known.took frame }
 {
     is_sent(ether.put_back(rt, pass, events, frame))
@@ -92,7 +93,7 @@ fn put_report<S: Setup, R: Wait>(
     events: Events<Global>,
 ) -> bool
     requires pass { pass.old.ether ≡ ether.now }
-    requires events { MayGive S.config S.programs pass.old.known events.marks }
+    requires events { MayGive S.config S.opened S.programs pass.old.known events.marks }
 {
     ether.put_report(rt, pass, events).is_ok()
 }
@@ -120,6 +121,18 @@ fn new_ether<S: Setup>(
     requires programs { programs.now ≡ S.programs }
 {
     Ether::<S, Global>::new(alloc, config, programs, 1, 2).expect(rt, "memory")
+}
+
+/// A new ether for own code.
+fn open_ether<S: Setup>(
+    rt: &impl Abort,
+    alloc: Global,
+    config: &Config,
+) -> (Ether<S, Global>, Vec<Pass<Wired<Global>>, Global>)
+    requires config { config.now ≡ S.config }
+    requires programs { S.programs ≡ replicate S.config.nodes (Called []) }
+{
+    Ether::<S, Global>::open(alloc, config, 1, 2).expect(rt, "memory")
 }
 
 /// Issues the seat of a node. Whether the ether took it.
@@ -154,7 +167,7 @@ fn seat<'e, S: Setup>(
     site: Site<Global>,
     pass: Pass<Wired<Global>>,
 ) -> Seated<'e, S, Global>
-    requires { IsFreshSeat ether.now S.config S.programs site pass }
+    requires { IsFreshSeat ether.now S.config S.opened S.programs site pass }
 {
     Seated::new(ether, site, pass)
 }

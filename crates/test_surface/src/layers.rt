@@ -1,6 +1,7 @@
 //! `ivy_pagetable`, `ivy_coherence`, `ivy_event` and `ivy_alloc`: a node's pages, its faults, and the heap.
 ghost use Rattle.std.specs.Prelude.{◌≡◌};
 ghost use Rattle.ivy_pagetable.specs.stated.Words.{IsWord};
+ghost use Rattle.ivy_dynamic.specs.stated.Dynamic.{steady_hints};
 
 use crate::common::{PAIR, expect_same};
 use crate::managers::Watched;
@@ -8,9 +9,10 @@ use crate::posts::Counting;
 use crate::wire::ASKS;
 use ivy_alloc::Heap;
 use ivy_coherence::{Coherence, Need};
+use ivy_dynamic::DynamicManager;
 use ivy_event::{advance, await_at_least, read};
 use ivy_model::Fault;
-use ivy_pagetable::{Access, Entry, Out, PageTable, Word};
+use ivy_pagetable::{Access, Entry, Out, PageTable, Waiting, Word};
 use std::alloc::Global;
 use std::process::Abort;
 
@@ -145,4 +147,31 @@ fn heaps(rt: HostRuntime) {
     expect_same(&rt, heap.alloc(8), Ok(64));
     assert!(rt; heap.is_block(64));
     expect_same(&rt, heap.free(64), Ok(()));
+}
+
+/// The coherence of node 1 at the beginning, which sends requests on, under hints that are steady.
+fn sending_on(
+    rt: &(impl Abort + AllocGlobal),
+    manager: DynamicManager<Global>,
+) -> Coherence<DynamicManager<Global>, Global>
+    requires { manager ≡ steady_hints PAIR 1 }
+{
+    Coherence::sending_on(rt.alloc(), &PAIR, 1, manager).expect(rt, "memory")
+}
+
+/// Node 1 has no breach at the beginning, whichever way it treats requests.
+#[test]
+fn steady_coherence(rt: HostRuntime) {
+    let manager = DynamicManager::steady(rt.alloc(), &PAIR, 1).expect(&rt, "memory");
+    let coherence = sending_on(&rt, manager);
+    expect_same(&rt, coherence.breaches(), 0);
+    expect_same(&rt, coherence.answer(), None);
+}
+
+#[test]
+fn a_waiting_entry(rt: HostRuntime) {
+    let mut waiting = Waiting::new(LOAD, 1);
+    assert!(rt; !waiting.sent_on());
+    waiting.send_on();
+    assert!(rt; waiting.sent_on());
 }

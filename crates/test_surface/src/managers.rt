@@ -83,9 +83,11 @@ fn each_manager(rt: HostRuntime) {
     let alloc = rt.alloc();
     let mut fixed = FixedManager::new(alloc, &PAIR, 1).expect(&rt, "memory");
     let mut dynamic = DynamicManager::new(alloc, &PAIR, 1).expect(&rt, "memory");
+    let mut steady = DynamicManager::steady(alloc, &PAIR, 1).expect(&rt, "memory");
     let mut watched = Watched::new(alloc, &PAIR, 1).expect(&rt, "memory");
     expect_hop(&rt, &mut fixed, 0);
     expect_hop(&rt, &mut dynamic, 0);
+    expect_hop(&rt, &mut steady, 0);
     expect_hop(&rt, &mut watched, 0);
     expect_same(&rt, watched.forwarded, 1);
 }

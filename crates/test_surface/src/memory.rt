@@ -1,10 +1,12 @@
 //! `ivy_memory`: the calls of one node.
 ghost use Rattle.std.specs.Prelude.{◌≡◌, None};
+ghost use Rattle.ivy_dynamic.specs.stated.Dynamic.{steady_hints};
 
 use crate::common::{PAIR, expect_same};
 use crate::managers::Watched;
 use crate::posts::Counting;
 use crate::wire::ASKS;
+use ivy_dynamic::DynamicManager;
 use ivy_memory::{CallProgress, Memory};
 use ivy_model::{Call, Reply};
 use std::alloc::Global;
@@ -53,4 +55,22 @@ fn a_message(rt: HostRuntime) {
     let mut post = Counting::new(0);
     expect_same(&rt, memory.handle(1, ASKS, &mut post), Ok(()));
     expect_same(&rt, post.count(), 1);
+}
+
+/// The memory of node 1 at the beginning, which sends requests on, under hints that are steady.
+fn sending_on(
+    rt: &(impl Abort + AllocGlobal),
+    manager: DynamicManager<Global>,
+) -> Memory<DynamicManager<Global>, Global>
+    requires { manager ≡ steady_hints PAIR 1 }
+{
+    Memory::sending_on(rt.alloc(), &PAIR, 1, manager).expect(rt, "memory")
+}
+
+#[test]
+fn steady_memory(rt: HostRuntime) {
+    let manager = DynamicManager::steady(rt.alloc(), &PAIR, 1).expect(&rt, "memory");
+    let memory = sending_on(&rt, manager);
+    expect_same(&rt, memory.breaches(), 0);
+    expect_same(&rt, memory.asked(), None);
 }

@@ -3,7 +3,8 @@ ghost use Rattle.ivy_model.specs.stated.Legal.{HasWidth};
 
 use crate::common::{LOADS, PAIR, expect_same};
 use ivy_model::{Call, Fault, Reply, Row};
-use ivy_node::{Move, Rest, Site, Turn, Verdict, World, parse};
+use ivy_node::{Move, Opening, Rest, Site, Turn, Verdict, World, parse};
+use ivy_site::Keep;
 use std::alloc::Global;
 use std::process::Abort;
 
@@ -96,6 +97,38 @@ fn a_world(rt: HostRuntime) {
     expect_same(&rt, settle(&mut world), Ok(Rest::Still));
     expect_same(&rt, world.sent().len(), 3);
     expect_loaded(&rt, &world, node_of(MOVES[0]));
+}
+
+/// The same world where its nodes begin with steady hints.
+#[test]
+fn a_steady_world(rt: HostRuntime) {
+    let programs = parse(rt.alloc(), LOADS).expect(&rt, "programs");
+    let mut world = World::opened(rt.alloc(), PAIR, Opening::Steady, programs).expect(
+        &rt, "a world",
+    );
+    expect_same(&rt, play(&mut world, &MOVES), Ok(()));
+    expect_same(&rt, settle(&mut world), Ok(Rest::Still));
+    expect_same(&rt, world.opening(), Opening::Steady);
+    expect_loaded(&rt, &world, node_of(MOVES[0]));
+}
+
+/// Sites and worlds of own code say how they began.
+#[test]
+fn openings(rt: HostRuntime) {
+    let alloc = rt.alloc();
+    let mut programs = parse(alloc, LOADS).expect(&rt, "programs");
+    let program = programs.pop().expect(&rt, "a program");
+    let site = Site::opened(alloc, &PAIR, 1, Opening::Steady, program, Keep::All);
+    expect_same(&rt, opening_of(&rt, site), Opening::Steady);
+    let open = Site::open_by(alloc, &PAIR, 0, Opening::Configured, Keep::Nothing);
+    expect_same(&rt, opening_of(&rt, open), Opening::Configured);
+    let world = World::open_by(alloc, PAIR, Opening::Steady).expect(&rt, "a world");
+    expect_same(&rt, world.opening(), Opening::Steady);
+}
+
+/// How the site that was made began.
+fn opening_of(rt: &impl Abort, made: Result<Site<Global>, Fault>) -> Opening {
+    made.expect(rt, "memory").opening()
 }
 
 /// Own code at a node makes a call.

@@ -1,7 +1,8 @@
 //! `ivy_node`: a session, behind a gate of one's own.
 use crate::common::{LOADS, PAIR, expect_same};
 use ivy_model::Fault;
-use ivy_node::{Event, Gate, Limits, OpenGate, Report, Role, Session, parse};
+use ivy_node::ivy_session::Keep;
+use ivy_node::{Event, Gate, Limits, OpenGate, Opening, Report, Role, Session, parse};
 use ivy_wire::Bytes;
 use std::alloc::Global;
 use std::process::Abort;
@@ -68,6 +69,29 @@ fn a_session(rt: HostRuntime) {
     expect_loaded(&rt, &report, 1);
     assert!(rt; gate.programs.load(Ordering::SeqCst));
     assert!(rt; gate.wires.load(Ordering::SeqCst));
+}
+
+/// Runs the programs at nodes that begin with steady hints.
+fn run_steady<R: Threads + Wait + Sync + AllocGlobal + Abort>(
+    rt: &R,
+) -> Result<Report<Global>, Fault> {
+    let programs = parse(rt.alloc(), LOADS).expect(rt, "programs");
+    Session::run_opening(
+        rt,
+        rt.alloc(),
+        PAIR,
+        programs,
+        LIMITS,
+        &OpenGate,
+        Keep::All,
+        Opening::Steady,
+    )
+}
+
+#[test]
+fn a_steady_session(rt: HostRuntime) {
+    let report = run_steady(&rt).expect(&rt, "a report");
+    expect_loaded(&rt, &report, 1);
 }
 
 #[test]

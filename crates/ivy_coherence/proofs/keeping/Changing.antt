@@ -73,6 +73,7 @@ abbrev pub changed_to : {S : Type 0} → Coherent S → ℕ → Entry → List (
 changed_to c page e pages m lock more done done_more breaches = record {
   config = c.config;
   me = c.me;
+  sends_on = c.sends_on;
   table = record {
     page_size = c.table.page_size;
     entries = set c.table.entries page e;

@@ -27,8 +27,8 @@ use Rattle.ivy_pagetable.specs.stated.Manager.{Ops}
 use Rattle.ivy_coherence.specs.stated.Coherent.{Coherent}
 use Rattle.ivy_coherence.specs.stated.Serving.{serving, put_off_served, counted, served_by_owner, served_by_other, invalidations}
 use Rattle.ivy_coherence.specs.stated.MessageSteps.{CoherenceEffect, collected, still_collecting, is_none}
-use Rattle.ivy_coherence.specs.stated.MessageSteps.{is_order, breach, after_serving, unlocked, put_aside, put_by}
-use Rattle.ivy_coherence.specs.stated.MessageSteps.{given_up, asked, copy_came, page_came, acknowledged, handled}
+use Rattle.ivy_coherence.specs.stated.MessageSteps.{is_order, copy_reply, breach, after_serving, unlocked, put_aside, put_by}
+use Rattle.ivy_coherence.specs.stated.MessageSteps.{sent_on, given_up, asked, asked_reader, copy_came, page_came, acknowledged, handled}
 use Rattle.ivy_coherence.specs.stated.MessageSteps.{handled_as}
 use Rattle.ivy_coherence.specs.stated.PageFaults.{Begun, busy, hit, started, waiting_from, faulted, accessed, begun, begun_at}
 
@@ -109,6 +109,11 @@ pub record Rows {S : Type 0} (ops : Ops S) (c : Coherent S) (from origin call : 
       → entry_at c.table page ≡ e → can_put_off e ≡ true → IsPutOffAt kind e
       → P (asking kind page)
       (put_by ops c page e (record { kind = kind; origin = origin; call = call }))
+  -- a node that waits for a copy sends a request on
+  pub sent_on : (kind : Request) (page : ℕ) (s : WaitingState) → MayAsk c from origin kind
+      → entry_at c.table page ≡ entry.AwaitRead s → is_order kind ≡ false → c.sends_on ≡ true
+      → P (asking kind page)
+      (sent_on ops c page s (record { kind = kind; origin = origin; call = call }))
   pub given_up : (page : ℕ) (s : AwaitWriteState) → origin ≡ from
       → entry_at c.table page ≡ entry.AwaitWrite s
       → P (content.Inval page)
@@ -117,7 +122,7 @@ pub record Rows {S : Type 0} (ops : Ops S) (c : Coherent S) (from origin call : 
   pub copy : (page : ℕ) (bytes : List ℕ) (s : WaitingState) → origin ≡ c.me
       → entry_at c.table page ≡ entry.AwaitRead s → s.call ≡ call
       → P (content.ReadRep page bytes)
-      (unlocked ops c from page copying (Some request.Read) bytes s)
+      (unlocked ops c from page copying (copy_reply s) bytes s)
   -- the page comes, and no node has a copy; nodes have a copy
   pub alone : (page copies : ℕ) (bytes : List ℕ) (s : AwaitWriteState) → origin ≡ c.me
       → entry_at c.table page ≡ entry.AwaitWrite s → s.waiting.call ≡ call
@@ -247,20 +252,32 @@ module _ {S : Type 0} {ops : Ops S} {c : Coherent S} {from origin call : ℕ}
       (FullList kind page refl may (ap is_locked is ∙ locked)
       (subst (λ x. most_put_off ≤ length (put_offs x)) (sym is) (no_room e locked h))))
 
+  -- a request or an order where a copy is awaited
+  reader-row : (kind : Request) (page : ℕ) (w : WaitingState) → MayAsk c from origin kind
+      → entry_at c.table page ≡ entry.AwaitRead w → IsPutOffAt kind (entry.AwaitRead w)
+      → P (asking kind page)
+      (asked_reader ops c page w (record { kind = kind; origin = origin; call = call }))
+  reader-row kind page w may is at =
+      either (asking kind page) (c.sends_on && not (is_order kind)) _ _
+      (λ h.
+      let both = and_parts c.sends_on (not (is_order kind)) h in
+      rows.sent_on kind page w may is (not_true (is_order kind) both.1) both.0)
+      (λ h. put-row kind page (entry.AwaitRead w) may is refl at)
+
   asked-row : (kind : Request) (page : ℕ) (e : Entry) → MayAsk c from origin kind
       → entry_at c.table page ≡ e
       → P (asking kind page)
       (asked ops c page (record { kind = kind; origin = origin; call = call }) e)
   asked-row request.Invalidate page (entry.Idle i) may is = order-row page i i.owner may is refl
   asked-row request.Invalidate page (entry.AwaitRead w) may is =
-      put-row request.Invalidate page (entry.AwaitRead w) may is refl (w, refl)
+      reader-row request.Invalidate page w may is (w, refl)
   asked-row request.Invalidate page (entry.AwaitWrite w) may is = rows.given_up page w may is
   asked-row request.Invalidate page (entry.AwaitAcks w) may is =
       rows.breach (content.Inval page) (OrderAtOwner page refl may (ap is_owner is))
   asked-row request.Read page (entry.Idle i) may is =
       rows.served request.Read page i may is (λ h. absurd cc)
   asked-row request.Read page (entry.AwaitRead w) may is =
-      put-row request.Read page (entry.AwaitRead w) may is refl tt
+      reader-row request.Read page w may is tt
   asked-row request.Read page (entry.AwaitWrite w) may is =
       put-row request.Read page (entry.AwaitWrite w) may is refl tt
   asked-row request.Read page (entry.AwaitAcks w) may is =
@@ -268,7 +285,7 @@ module _ {S : Type 0} {ops : Ops S} {c : Coherent S} {from origin call : ℕ}
   asked-row request.Write page (entry.Idle i) may is =
       rows.served request.Write page i may is (λ h. absurd cc)
   asked-row request.Write page (entry.AwaitRead w) may is =
-      put-row request.Write page (entry.AwaitRead w) may is refl tt
+      reader-row request.Write page w may is tt
   asked-row request.Write page (entry.AwaitWrite w) may is =
       put-row request.Write page (entry.AwaitWrite w) may is refl tt
   asked-row request.Write page (entry.AwaitAcks w) may is =

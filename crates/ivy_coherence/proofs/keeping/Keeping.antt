@@ -1,6 +1,6 @@
 -- Each event keeps what holds of a node's coherence, and posts only what can be sent. For every
 -- manager that keeps the laws.
-use Rattle.std.proofs.Common.{◌≡◌, ◌≢◌, ℕ, ◌<◌, ◌≤◌, ◌^◌, inl, inr, Bool, true, false, List, [], ◌∷◌, length, map, cond, set, Option, Some, None, refl, sym, ap, ◌∙◌, subst, arith}
+use Rattle.std.proofs.Common.{◌≡◌, ◌≢◌, ℕ, ◌<◌, ◌≤◌, ◌^◌, inl, inr, Bool, true, false, List, [], ◌∷◌, length, map, cond, set, Option, Some, None, refl, sym, ap, ◌∙◌, subst, arith, if◌then◌else◌}
 use Rattle.std.specs.Prelude.{All}
 use Rattle.std.specs.List.{filter, range_with_len}
 use Rattle.std.specs.FinSet as nodes
@@ -22,7 +22,7 @@ use Rattle.ivy_pagetable.specs.stated.Accesses.{reads, suffices}
 use Rattle.ivy_model.specs.stated.Limits.{most_nodes}
 use Rattle.ivy_pagetable.specs.stated.NodeSets.{Nodes, nodes_of, nodes_with}
 use Rattle.ivy_pagetable.specs.stated.States.{IdleState, WaitingState, AwaitWriteState, AwaitAcksState}
-use Rattle.ivy_pagetable.specs.stated.Entries.{is_owner, is_locked, with_put_off, can_put_off, copying, owning}
+use Rattle.ivy_pagetable.specs.stated.Entries.{is_owner, is_locked, with_put_off, can_put_off, without, copying, owning}
 use Rattle.ivy_pagetable.specs.stated.Tables.{entry_at, page_at, with_page}
 use Rattle.ivy_pagetable.specs.stated.Words.{IsWord, carried_out}
 use Rattle.ivy_pagetable.specs.stated.Manager.{Ops}
@@ -30,16 +30,16 @@ use Rattle.ivy_pagetable.specs.Manager.{Laws}
 use Rattle.ivy_pagetable.proofs.Bits.{with_below}
 use Rattle.ivy_pagetable.proofs.Words.{length-carried_out}
 use Rattle.ivy_coherence.specs.stated.Coherent.{Coherent}
-use Rattle.ivy_coherence.specs.stated.Serving.{Serving, serving, told, put_off_served, invalidations}
-use Rattle.ivy_coherence.specs.stated.MessageSteps.{CoherenceEffect, collected, still_collecting, breach, after_serving, unlocked, put_by, given_up, asked, handled}
+use Rattle.ivy_coherence.specs.stated.Serving.{Serving, serving, told, served_by_other, put_off_served, invalidations}
+use Rattle.ivy_coherence.specs.stated.MessageSteps.{CoherenceEffect, collected, still_collecting, breach, after_serving, copy_reply, sending, unlocked, put_by, sent_on, given_up, asked, handled}
 use Rattle.ivy_coherence.specs.MessageSteps.{IsWaiting, IsCollecting}
-use Rattle.ivy_coherence.specs.stated.MessageSteps.{unlocked_as}
+use Rattle.ivy_coherence.specs.stated.MessageSteps.{unlocked_as, reply_as}
 use Rattle.ivy_coherence.specs.stated.PageFaults.{Begun, hit, faulted, waiting_from, begun}
 use Rattle.ivy_coherence.specs.stated.IdleSound.{CanBeServed, AreOthers, IsSoundIdle}
 use Rattle.ivy_coherence.specs.stated.Several.{all_carried}
 use Rattle.ivy_coherence.specs.stated.Sound.{WaitAlong, IsSoundEntry, IsSound}
 use Rattle.ivy_coherence.proofs.batches.Along.{put_along, length-all_carried, kept_along, idle_along, freed_along, locked_along, more_fits}
-use Rattle.ivy_coherence.proofs.keeping.IdleServing.{IsServing, all_none, all_one, parcel_fits, fewer_others, copying-sound, owning-sound, keeps_all, all_served-keeps}
+use Rattle.ivy_coherence.proofs.keeping.IdleServing.{IsServing, all_none, all_one, parcel_fits, fewer_others, without-sound, copying-sound, owning-sound, keeps_all, all_served-keeps}
 use Rattle.ivy_coherence.proofs.keeping.EventTable.{Rows, AccessRows, MayAsk, asking-fits, asker_foreign, handled-by_rows, fault-by_rows, begun-by_rows}
 use Rattle.ivy_coherence.proofs.keeping.Changing.{AreLocks, change-sound, same_pages, other_page, same_locks, unlocks, locks, place, managed}
 use Rattle.ivy_coherence.proofs.keeping.SoundEntries.{idle-sound, reading-sound, writing-sound, collecting-sound, owner_put, locked_put, put_entry-sound, entry_is, entry-sound}
@@ -140,6 +140,14 @@ module _ {S : Type 0} {ops : Ops S} where
     fits = all_none (FitsParcel c.config c.me);
   }
 
+-- a node that does not own the page does not after it served a message either
+idle_then : {S : Type 0} (ops : Ops S) (me page : ℕ) (bytes : List ℕ) (v : Serving S)
+    (origin call : ℕ) (kind : Request) → v.idle.owner ≡ false
+    → (served_by_other ops me page bytes v origin call kind).idle.owner ≡ false
+idle_then ops me page bytes v origin call request.Read free = free
+idle_then ops me page bytes v origin call request.Write free = free
+idle_then ops me page bytes v origin call request.Invalidate free = refl
+
 module _ {S : Type 0} {ops : Ops S} (laws : Laws ops) where
   -- served at an entry that no word waits at
   pub idle_asked-keeps : (c : Coherent S) (page : ℕ) (q : PutOff) (i : IdleState) → IsSound ops c
@@ -165,6 +173,46 @@ module _ {S : Type 0} {ops : Ops S} (laws : Laws ops) where
               away = h.away;
               locks = same_locks c page false s (sym (ap is_locked is));
               along = idle_along c page i (entry.Idle v.idle) s is;
+            }),
+        h.fits,
+      )
+
+  -- sent on by a node that waits for a copy
+  sent_on-keeps : (c : Coherent S) (page : ℕ) (w : WaitingState) (q : PutOff) → IsSound ops c
+      → page < c.config.pages → entry_at c.table page ≡ entry.AwaitRead w
+      → CanBeServed c.config c.me q → Keeps ops c (sent_on ops c page w q)
+  sent_on-keeps c page w q s inside is can =
+      let good : IsSoundEntry c.config c.me (entry.AwaitRead w) =
+      entry_is c page (entry.AwaitRead w) s is in
+      let word = good.reading w refl in
+      let bytes : List ℕ = page_at c.table page in
+      let start : Serving S = serving without c.manager c.breaches [] in
+      let h : IsServing ops c.config c.me page c.manager
+      (put_off_served ops c.me q.origin page bytes without c.manager c.breaches None (q ∷ []))
+      = all_served-keeps laws c.config c.me page bytes c.manager
+      (place c page bytes s inside (s.sized page inside)) start (q ∷ [])
+      (record {
+        keeps = keeps_all c.manager page;
+        hop = s.hop page inside;
+        away = λ o. s.away page inside (ap is_owner is);
+        idle = without-sound c.config c.me;
+        fits = all_none (FitsParcel c.config c.me);
+      })
+      (all_one (CanBeServed c.config c.me) q can) in
+      let v : Serving S =
+      put_off_served ops c.me q.origin page bytes without c.manager c.breaches None (q ∷ []) in (
+        change-sound c page (entry.AwaitRead (sending w)) c.table.pages v.manager c.locked c.more
+            c.done c.done_more v.breaches s
+            (record {
+              inside = inside;
+              entry = reading-sound c.config c.me (sending w) word.0 word.1 good.put_off good.few;
+              sized = same_pages c s;
+              keeps = h.keeps;
+              hop = h.hop;
+              away = λ o. h.away (idle_then ops c.me page bytes start q.origin q.call q.kind refl);
+              locks = same_locks c page true s (sym (ap is_locked is));
+              along = kept_along c page (entry.AwaitRead (sending w)) s
+                  (λ h. subst (λ z. WaitAlong c.config z c.more) is h);
             }),
         h.fits,
       )
@@ -202,11 +250,20 @@ module _ {S : Type 0} {ops : Ops S} (laws : Laws ops) where
 
   -- before what was put off is served, once a copy came, the page itself, or the last
   -- acknowledgement
-  pub copy-start : (c : Coherent S) (page from : ℕ) → IsSound ops c → page < c.config.pages
+  pub copy-start : (c : Coherent S) (page from : ℕ) (sent : Bool) → IsSound ops c
+      → page < c.config.pages
       → is_owner (entry_at c.table page) ≡ false → from < c.config.nodes → from ≢ c.me
       → IsServing ops c.config c.me page c.manager
-      (serving copying (told ops from page c.manager (Some request.Read)) c.breaches [])
-  copy-start c page from s inside free below foreign =
+      (serving copying
+      (told ops from page c.manager (if sent then None else Some request.Read)) c.breaches [])
+  copy-start c page from true s inside free below foreign = record {
+    keeps = keeps_all c.manager page;
+    hop = s.hop page inside;
+    away = λ o. s.away page inside free;
+    idle = copying-sound c.config c.me;
+    fits = all_none (FitsParcel c.config c.me);
+  }
+  copy-start c page from false s inside free below foreign =
       let at : IsManaged ops c.config c.me page c.manager = managed c page s inside in
       record {
         keeps = laws.keeps_replied c.manager page false from;
@@ -299,14 +356,14 @@ module _ {S : Type 0} {ops : Ops S} (laws : Laws ops) where
       → from < c.config.nodes → from ≢ c.me → page < c.config.pages
       → length bytes ≡ c.config.page_size
       → entry_at c.table page ≡ entry.AwaitRead w
-      → Keeps ops c (unlocked ops c from page copying (Some request.Read) bytes w)
+      → Keeps ops c (unlocked ops c from page copying (copy_reply w) bytes w)
   copy-keeps c from page bytes w s below foreign inside sized is =
       let good : IsSoundEntry c.config c.me (entry.AwaitRead w) =
       entry_is c page (entry.AwaitRead w) s is in
-      unlocked-keeps c from page copying (Some request.Read) bytes w s inside sized
+      unlocked-keeps c from page copying (copy_reply w) bytes w s inside sized
       (ap is_locked is)
       (good.reading w refl).0 good.put_off
-      (copy-start c page from s inside (ap is_owner is) below foreign)
+      (copy-start c page from w.sent_on s inside (ap is_owner is) below foreign)
 
   alone-keeps : (c : Coherent S) (from page : ℕ) (bytes : List ℕ) (w : AwaitWriteState)
       → IsSound ops c → from < c.config.nodes → page < c.config.pages
@@ -423,7 +480,9 @@ module _ {S : Type 0} {ops : Ops S} (laws : Laws ops) where
       → from < c.config.nodes → from ≢ c.me → page < c.config.pages → length bytes ≡ c.config.page_size → length now ≡ c.config.page_size
       → IsWaiting (entry_at c.table page) kind w
       → Keeps ops c
-      (settled_with ops c from page (unlocked_as kind) (Some kind) bytes now done outs w.put_off)
+      (settled_with ops c from page (unlocked_as kind) (reply_as kind w) bytes now done outs
+      w.put_off)
+  unfolding reply_as
   unlocking-keeps c from page request.Write bytes now done outs w s below foreign inside sized long
       waits =
       let h = writes-at (entry_at c.table page) w waits in
@@ -438,11 +497,11 @@ module _ {S : Type 0} {ops : Ops S} (laws : Laws ops) where
       waits =
       let is : entry_at c.table page ≡ entry.AwaitRead w =
       reads-at (entry_at c.table page) w waits in
-      put_off_served-keeps c from page copying (Some request.Read) bytes now done outs w.put_off s inside sized
-      long
+      put_off_served-keeps c from page copying (copy_reply w) bytes now done outs w.put_off s inside
+      sized long
       (ap is_locked is)
       (entry_is c page (entry.AwaitRead w) s is).put_off
-      (copy-start c page from s inside (ap is_owner is) below foreign)
+      (copy-start c page from w.sent_on s inside (ap is_owner is) below foreign)
   unlocking-keeps c from page request.Invalidate _ _ _ _ w s below foreign inside sized long waits =
       absurd (never-waits (entry_at c.table page) w waits)
 
@@ -453,6 +512,12 @@ module _ {S : Type 0} {ops : Ops S} (laws : Laws ops) where
       let h = collects-at (entry_at c.table page) w waits in
       subst (λ x. Keeps ops c (unlocked ops c from page owning None (page_at c.table page) x))
       (sym h.1.1) (last_copy-keeps c from page h.0 s inside h.1.0)
+
+  pub sending-keeps : (c : Coherent S) (page : ℕ) (w : WaitingState) (q : PutOff) → IsSound ops c
+      → page < c.config.pages → IsWaiting (entry_at c.table page) request.Read w
+      → CanBeServed c.config c.me q → Keeps ops c (sent_on ops c page w q)
+  sending-keeps c page w q s inside waits can =
+      sent_on-keeps c page w q s inside (reads-at (entry_at c.table page) w waits) can
 
   pub giving-keeps : (c : Coherent S) (page : ℕ) (w : WaitingState) (q : PutOff) → IsSound ops c
       → page < c.config.pages → IsWaiting (entry_at c.table page) request.Write w
@@ -504,6 +569,10 @@ module _ {S : Type 0} {ops : Ops S} (laws : Laws ops) where
             λ kind page e may is room at fits. put_by-keeps c page e
             (record { kind = kind; origin = origin; call = call }) s
             (asking-fits c.config kind page fits) is (can kind may) room;
+        sent_on =
+            λ kind page w may is asks sends fits. sent_on-keeps c page w
+            (record { kind = kind; origin = origin; call = call }) s
+            (asking-fits c.config kind page fits) is (can kind may);
         given_up =
             λ page w from_is is fits. given_up-keeps c page w
             (record { kind = request.Invalidate; origin = origin; call = call }) s fits is

@@ -228,6 +228,8 @@ module _ {S : Type 0} (ops : Ops S) (c : Coherent S) (from : ℕ) (p : ℕ) (s :
     put_off = λ kind page e may at room put.
         let locked = (and_parts (is_locked e) _ room).0 in
         other_entry page _ _ (elsewhere page e at locked) (wished origin page kind e may at locked);
+    sent_on = λ kind page w may at asks sends.
+        other_entry page _ _ (elsewhere page _ at refl) (wished origin page kind _ may at refl);
     given_up = λ page w by at.
         other_entry page _ _ (elsewhere page _ at refl)
         (wished origin page request.Invalidate _ by at refl);

@@ -33,22 +33,22 @@ use Rattle.ivy_coherence.specs.stated.Coherent.{Coherent}
 use Rattle.ivy_coherence.specs.EventLimits.{most_posted}
 use Rattle.ivy_coherence.specs.stated.Several.{all_carried}
 use Rattle.ivy_coherence.specs.stated.Serving.{put_off_served, invalidations}
-use Rattle.ivy_coherence.specs.stated.MessageSteps.{unlocked, asked, asked_at, is_none}
+use Rattle.ivy_coherence.specs.stated.MessageSteps.{unlocked, sending, sent_on, asked, asked_at, is_none}
 use Rattle.ivy_coherence.specs.MessageSteps.{IsWaiting, IsCollecting}
-use Rattle.ivy_coherence.specs.stated.MessageSteps.{unlocked_as}
+use Rattle.ivy_coherence.specs.stated.MessageSteps.{unlocked_as, reply_as}
 use Rattle.ivy_pagetable.specs.stated.Accesses.{suffices}
 use Rattle.ivy_coherence.specs.PageFaults.{IsIdleAt, HasToAsk, MayMakePage}
 use Rattle.ivy_coherence.specs.stated.PageFaults.{fault_entry, hit, faulted, accessed, begun_at, begun}
 use Rattle.ivy_coherence.specs.stated.IdleSound.{CanBeServed, AreOthers, IsSoundIdle}
 use Rattle.ivy_coherence.specs.stated.Sound.{IsSound}
-use Rattle.ivy_pagetable.specs.stated.Entries.{can_put_off, with_put_off, owning, is_locked}
+use Rattle.ivy_pagetable.specs.stated.Entries.{can_put_off, with_put_off, without, owning, is_locked}
 use Rattle.ivy_coherence.proofs.keeping.IdleServing.{fewer_others}
 use Rattle.ivy_coherence.proofs.batches.Along.{put_along}
 use Rattle.ivy_coherence.proofs.keeping.Changing.{change-sound}
 use Rattle.ivy_coherence.proofs.posting.FewServed.{nodes_few}
 use Rattle.ivy_coherence.proofs.keeping.SoundEntries.{entry_is, entry-sound, put_entry-sound, owner_put, locked_put}
 use Rattle.ivy_coherence.proofs.keeping.Keeping.{Keeps, idle_asked-keeps, hit-keeps, fault-keeps, invalidations-fit, waiting_word, collecting_word, unlocking-keeps, last-keeps, giving-keeps, collecting-keeps}
-use Rattle.ivy_coherence.proofs.keeping.Keeping.{left-keeps}
+use Rattle.ivy_coherence.proofs.keeping.Keeping.{left-keeps, sending-keeps}
 
 pub none_of : (o : Option ℕ) → is_some o ≡ false → o ≡ None
 none_of None h = refl
@@ -278,32 +278,34 @@ module _ {S : Type 0} {ops : Ops S} (laws : Laws ops) (n v : Coherent S) (same :
       (waiting_word laws v page kind w s (waits_there page kind w waits))
 
   pub unlock_fits : (from page : ℕ) (kind : Request) (bytes : List ℕ) (w : WaitingState)
-      (i : IdleState) (qs : List PutOff) (k : Config) (node : ℕ) → Comes n from page bytes
-      → IsWaiting (entry_at n.table page) kind w
-      → i ≡ unlocked_as kind → qs ≡ w.put_off → k ≡ n.config → node ≡ n.me
+      (i : IdleState) (reply : Option Request) (qs : List PutOff) (k : Config) (node : ℕ)
+      → Comes n from page bytes → IsWaiting (entry_at n.table page) kind w
+      → i ≡ unlocked_as kind → reply ≡ reply_as kind w → qs ≡ w.put_off → k ≡ n.config
+      → node ≡ n.me
       → All (FitsParcel k node)
-      (put_off_served ops v.me from page bytes i v.manager v.breaches (Some kind) qs).posted
-  unlock_fits from page kind bytes w i qs k node comes waits idle list config me =
+      (put_off_served ops v.me from page bytes i v.manager v.breaches reply qs).posted
+  unlock_fits from page kind bytes w i reply qs k node comes waits idle told list config me =
       let at : Comes v from page bytes = came from page bytes comes in
       let keeps =
       unlocking-keeps laws v from page kind bytes bytes None [] w s at.below at.foreign at.inside
       at.sized at.sized (waits_there page kind w waits) in
-      rw (idle, list) (fits_at n v same k node config me _ keeps.1)
+      rw (idle, told, list) (fits_at n v same k node config me _ keeps.1)
 
   pub unlock_sound : (from page : ℕ) (kind : Request) (bytes now : List ℕ) (w : WaitingState)
-      (i after : IdleState) (qs : List PutOff) (t : Table) (m : S) (o : Option Out)
-      (os : List Out) (b : ℕ)
+      (i after : IdleState) (reply : Option Request) (qs : List PutOff) (t : Table) (m : S)
+      (o : Option Out) (os : List Out) (b : ℕ)
       → Comes n from page bytes → length now ≡ n.config.page_size
       → IsWaiting (entry_at n.table page) kind w
-      → i ≡ unlocked_as kind → qs ≡ w.put_off
-      → after ≡ (put_off_served ops v.me from page bytes i v.manager v.breaches (Some kind) qs).idle
+      → i ≡ unlocked_as kind → reply ≡ reply_as kind w → qs ≡ w.put_off
+      → after ≡ (put_off_served ops v.me from page bytes i v.manager v.breaches reply qs).idle
       → t ≡ with_page (with_entry v.table page (entry.Idle after)) page now
-      → m ≡ (put_off_served ops v.me from page bytes i v.manager v.breaches (Some kind) qs).manager
-      → b ≡ (put_off_served ops v.me from page bytes i v.manager v.breaches (Some kind) qs).breaches
+      → m ≡ (put_off_served ops v.me from page bytes i v.manager v.breaches reply qs).manager
+      → b ≡ (put_off_served ops v.me from page bytes i v.manager v.breaches reply qs).breaches
       → IsSound ops
       (record {
         config = v.config;
         me = v.me;
+        sends_on = v.sends_on;
         table = t;
         manager = m;
         locked = None;
@@ -312,8 +314,8 @@ module _ {S : Type 0} {ops : Ops S} (laws : Laws ops) (n v : Coherent S) (same :
         done_more = os;
         breaches = b;
       })
-  unlock_sound from page kind bytes now w i after qs t m o os b comes long waits idle list idle_is
-      table manager breaches =
+  unlock_sound from page kind bytes now w i after reply qs t m o os b comes long waits idle told list
+      idle_is table manager breaches =
       let at : Comes v from page bytes = came from page bytes comes in
       let sized : length now ≡ v.config.page_size =
       (came from page now
@@ -326,7 +328,7 @@ module _ {S : Type 0} {ops : Ops S} (laws : Laws ops) (n v : Coherent S) (same :
       let keeps =
       unlocking-keeps laws v from page kind bytes now o os w s at.below at.foreign at.inside
       at.sized sized (waits_there page kind w waits) in
-      rw (table, manager, breaches, idle_is, idle, list) keeps.0
+      rw (table, manager, breaches, idle_is, idle, told, list) keeps.0
 
   -- the last acknowledgement comes
   pub last_word : (page : ℕ) (w : WaitingState) → IsCollecting (entry_at n.table page) w
@@ -369,6 +371,7 @@ module _ {S : Type 0} {ops : Ops S} (laws : Laws ops) (n v : Coherent S) (same :
       (record {
         config = v.config;
         me = v.me;
+        sends_on = v.sends_on;
         table = t;
         manager = m;
         locked = None;
@@ -417,6 +420,7 @@ module _ {S : Type 0} {ops : Ops S} (laws : Laws ops) (n v : Coherent S) (same :
       (record {
         config = v.config;
         me = v.me;
+        sends_on = v.sends_on;
         table = t;
         manager = m;
         locked = None;
@@ -429,6 +433,57 @@ module _ {S : Type 0} {ops : Ops S} (laws : Laws ops) (n v : Coherent S) (same :
       manager out outs breaches =
       let keeps = last_along from page w inside waits in
       rw (table, manager, out, outs, breaches, idle_is, bytes_are, idle, list) keeps.0
+
+  -- a node that waits for a copy sends a request on
+  sending_there : (page : ℕ) (w : WaitingState) (q : PutOff) → page < n.config.pages
+      → IsWaiting (entry_at n.table page) request.Read w → CanBeServed n.config n.me q
+      → Keeps ops v (sent_on ops v page w q)
+  sending_there page w q inside waits can =
+      sending-keeps laws v page w q s
+      (subst (λ (x : Coherent S). page < x.config.pages) (sym same) inside)
+      (waits_there page request.Read w waits)
+      (subst (λ (x : Coherent S). CanBeServed x.config x.me q) (sym same) can)
+
+  pub sending_fits : (page : ℕ) (w : WaitingState) (q : PutOff) (i : IdleState) (bytes : List ℕ)
+      (k : Config) (node : ℕ) → page < n.config.pages
+      → IsWaiting (entry_at n.table page) request.Read w → CanBeServed n.config n.me q
+      → i ≡ without → bytes ≡ page_at v.table page → k ≡ n.config → node ≡ n.me
+      → All (FitsParcel k node)
+      (put_off_served ops v.me q.origin page bytes i v.manager v.breaches None (q ∷ [])).posted
+  sending_fits page w q i bytes k node inside waits can idle bytes_are config me =
+      rw (idle, bytes_are)
+      (fits_at n v same k node config me _ (sending_there page w q inside waits can).1)
+
+  pub sending_sound : (page : ℕ) (w : WaitingState) (q : PutOff) (i : IdleState) (bytes : List ℕ)
+      (t : Table) (m : S) (b : ℕ) → page < n.config.pages
+      → IsWaiting (entry_at n.table page) request.Read w → CanBeServed n.config n.me q
+      → i ≡ without → bytes ≡ page_at v.table page
+      → t ≡ with_entry v.table page (entry.AwaitRead (sending w))
+      → m ≡ (put_off_served ops v.me q.origin page bytes i v.manager v.breaches None (q ∷ [])).manager
+      → b ≡ (put_off_served ops v.me q.origin page bytes i v.manager v.breaches None (q ∷ [])).breaches
+      → IsSound ops (record v { table = t; manager = m; breaches = b })
+  sending_sound page w q i bytes t m b inside waits can idle bytes_are table manager breaches =
+      rw (table, manager, breaches, idle, bytes_are) (sending_there page w q inside waits can).0
+
+  pub sending_then : (page : ℕ) (w : WaitingState) (q : PutOff) (i : IdleState) (bytes : List ℕ)
+      (t : Table) (m : S) (b : ℕ) → i ≡ without → bytes ≡ page_at v.table page
+      → t ≡ with_entry v.table page (entry.AwaitRead (sending w))
+      → m ≡ (put_off_served ops v.me q.origin page bytes i v.manager v.breaches None (q ∷ [])).manager
+      → b ≡ (put_off_served ops v.me q.origin page bytes i v.manager v.breaches None (q ∷ [])).breaches
+      → record v { table = t; manager = m; breaches = b } ≡ (sent_on ops n page w q).after
+  sending_then page w q i bytes t m b idle bytes_are table manager breaches =
+      subst (λ (x : Coherent S). record v { table = t; manager = m; breaches = b }
+      ≡ (sent_on ops x page w q).after) same
+      (rw (table, manager, breaches, idle, bytes_are) refl)
+
+  pub sending_posts : (page : ℕ) (w : WaitingState) (q : PutOff) (i : IdleState) (bytes : List ℕ)
+      → i ≡ without → bytes ≡ page_at v.table page
+      → (put_off_served ops v.me q.origin page bytes i v.manager v.breaches None (q ∷ [])).posted
+      ≡ (sent_on ops n page w q).posted
+  sending_posts page w q i bytes idle bytes_are =
+      subst (λ (x : Coherent S).
+      (put_off_served ops v.me q.origin page bytes i v.manager v.breaches None (q ∷ [])).posted
+      ≡ (sent_on ops x page w q).posted) same (rw (idle, bytes_are) refl)
 
   -- a node that waits to write gives its copy up
   pub giving_sound : (page : ℕ) (w : WaitingState) (q : PutOff) (t : Table) (m : S)

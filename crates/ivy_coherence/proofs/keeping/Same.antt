@@ -12,30 +12,32 @@ use Rattle.ivy_coherence.proofs.keeping.EventTable.{Rows, AccessRows, handled-by
 pub record IsSame {S : Type 0} (old new : Coherent S) : Type 0 where
   pub config : new.config ≡ old.config
   pub me : new.me ≡ old.me
+  pub sends_on : new.sends_on ≡ old.sends_on
 
 module _ {S : Type 0} (ops : Ops S) where
   message-rows : (c : Coherent S) (from origin call : ℕ)
       → Rows ops c from origin call (λ m e. IsSame c e.after)
   message-rows c from origin call = record {
-    breach = λ m why. record { config = refl; me = refl };
-    served = λ kind page i may is order. record { config = refl; me = refl };
-    put_off = λ kind page e may is room at. record { config = refl; me = refl };
-    given_up = λ page s by is. record { config = refl; me = refl };
-    copy = λ page bytes s mine is this. record { config = refl; me = refl };
-    alone = λ page copies bytes s mine is this none. record { config = refl; me = refl };
-    shared = λ page copies bytes s mine is this some apart. record { config = refl; me = refl };
-    acknowledged = λ page s mine is this missing others. record { config = refl; me = refl };
-    last = λ page s mine is this missing none. record { config = refl; me = refl };
+    breach = λ m why. record { config = refl; me = refl; sends_on = refl };
+    served = λ kind page i may is order. record { config = refl; me = refl; sends_on = refl };
+    put_off = λ kind page e may is room at. record { config = refl; me = refl; sends_on = refl };
+    sent_on = λ kind page s may is asks sends. record { config = refl; me = refl; sends_on = refl };
+    given_up = λ page s by is. record { config = refl; me = refl; sends_on = refl };
+    copy = λ page bytes s mine is this. record { config = refl; me = refl; sends_on = refl };
+    alone = λ page copies bytes s mine is this none. record { config = refl; me = refl; sends_on = refl };
+    shared = λ page copies bytes s mine is this some apart. record { config = refl; me = refl; sends_on = refl };
+    acknowledged = λ page s mine is this missing others. record { config = refl; me = refl; sends_on = refl };
+    last = λ page s mine is this missing none. record { config = refl; me = refl; sends_on = refl };
   }
 
   access-rows : (c : Coherent S) (page : ℕ) (w : Word) (call : ℕ)
       → AccessRows ops c page w call (λ b. IsSame c b.after)
   access-rows c page w call = record {
-    busy = record { config = refl; me = refl };
-    hit = λ i none is enough. record { config = refl; me = refl };
-    read = λ i none is short reads. record { config = refl; me = refl };
-    write = λ i none is short writes other. record { config = refl; me = refl };
-    owner = λ i none is short writes own. record { config = refl; me = refl };
+    busy = record { config = refl; me = refl; sends_on = refl };
+    hit = λ i none is enough. record { config = refl; me = refl; sends_on = refl };
+    read = λ i none is short reads. record { config = refl; me = refl; sends_on = refl };
+    write = λ i none is short writes other. record { config = refl; me = refl; sends_on = refl };
+    owner = λ i none is short writes own. record { config = refl; me = refl; sends_on = refl };
   }
 
   -- a message that comes

@@ -17,10 +17,10 @@ use Rattle.ivy_pagetable.specs.stated.Entries.{nothing, owned, is_owner, is_lock
 use Rattle.ivy_pagetable.specs.stated.Tables.{entry_at, first_entry}
 use Rattle.ivy_pagetable.specs.stated.Words.{IsWord, needs_write}
 use Rattle.ivy_pagetable.specs.stated.Manager.{Ops}
-use Rattle.ivy_pagetable.specs.Manager.{Laws}
+use Rattle.ivy_pagetable.specs.Manager.{Laws, IsNew}
 use Rattle.ivy_coherence.specs.stated.Coherent.{Coherent}
 use Rattle.ivy_coherence.specs.stated.IdleSound.{CanBeServed, AreOthers, IsSoundIdle}
-use Rattle.ivy_coherence.specs.stated.Sound.{WaitAlong, IsSoundEntry, IsSound, first_coherent}
+use Rattle.ivy_coherence.specs.stated.Sound.{WaitAlong, IsSoundEntry, IsSound, new_coherent, first_coherent}
 use Rattle.ivy_coherence.proofs.keeping.IdleServing.{all_none, without-sound, owning-sound, keeps_all}
 use Rattle.ivy_coherence.proofs.batches.Along.{kept_along}
 use Rattle.ivy_coherence.proofs.keeping.Changing.{IsChange, same_pages, same_locks}
@@ -158,27 +158,38 @@ first_entry-free : (b : Bool) → is_locked (if b then owned else nothing) ≡ f
 first_entry-free true = refl
 first_entry-free false = refl
 
-module _ {S : Type 0} {ops : Ops S} (laws : Laws ops) where
-  first_away : (c : Config) (me p : ℕ) → IsConfig c → me < c.nodes → p < c.pages
+-- a manager as its laws have it at first is new
+pub first_new : {S : Type 0} {ops : Ops S} → Laws ops → (c : Config) (me : ℕ) → IsConfig c
+    → me < c.nodes → IsNew ops c me (ops.first c me)
+first_new laws c me limits here = record {
+  me = laws.first_me c me limits here;
+  size = laws.first_size c me limits here;
+  nodes = laws.first_nodes c me limits here;
+  hop = λ p inside. laws.first_hop c me p limits here inside;
+  own = λ p inside e. laws.first_own c me p limits here inside e;
+}
+
+module _ {S : Type 0} {ops : Ops S} {m : S} where
+  first_away : (c : Config) (me p : ℕ) → IsNew ops c me m → p < c.pages
       → is_owner (get_or (replicate c.pages (first_entry me)) p nothing) ≡ false
-      → ops.next_hop (ops.first c me) p ≢ me
-  first_away c me p limits here inside free h =
-      let zero_node : me ≡ 0 = laws.first_own c me p limits here inside h in
+      → ops.next_hop m p ≢ me
+  first_away c me p new inside free h =
+      let zero_node : me ≡ 0 = new.own p inside h in
       let test : (me == 0) ≡ true = eq-eqb me 0 zero_node in
       let own : is_owner (get_or (replicate c.pages (first_entry me)) p nothing) ≡ true =
       ap is_owner (get_or-replicate c.pages p (first_entry me) nothing inside)
       ∙ ap (λ b. is_owner (if b then owned else nothing)) test in
       absurd (let f : true ≡ false = sym own ∙ free in cc)
 
-  -- a node as it begins
-  pub first-sound : (c : Config) (me : ℕ) → IsConfig c → me < c.nodes
-      → IsSound ops (first_coherent ops c me)
-  first-sound c me limits here = record {
+  -- a node as it begins, with a new manager
+  pub new-sound : (sends_on : Bool) (c : Config) (me : ℕ) → IsConfig c → me < c.nodes
+      → IsNew ops c me m → IsSound ops (new_coherent sends_on c me m)
+  new-sound sends_on c me limits here new = record {
     limits = limits;
     here = here;
-    mine = laws.first_me c me limits here;
-    managed = laws.first_size c me limits here;
-    nodes = laws.first_nodes c me limits here;
+    mine = new.me;
+    managed = new.size;
+    nodes = new.nodes;
     size = refl;
     entries = length-replicate c.pages (first_entry me);
     pages = length-replicate c.pages (replicate c.page_size 0);
@@ -188,8 +199,8 @@ module _ {S : Type 0} {ops : Ops S} (laws : Laws ops) where
       | inl x ↦ subst (IsSoundEntry c me) (sym x) (first_entry-sound c me (me == 0))
       | inr x ↦ subst (IsSoundEntry c me) (sym x) (first_entry-sound c me false)
     ];
-    hop = λ p inside. laws.first_hop c me p limits here inside;
-    away = λ p inside free. first_away c me p limits here inside free;
+    hop = new.hop;
+    away = λ p inside free. first_away c me p new inside free;
     locked = λ p h. absurd cc;
     others = λ p h. elim (entry_first c.pages p (first_entry me)) [
       | inl x ↦
@@ -200,3 +211,9 @@ module _ {S : Type 0} {ops : Ops S} (laws : Laws ops) where
     along = λ p h. absurd cc;
     alone = λ free. refl;
   }
+
+-- a node as it begins
+pub first-sound : {S : Type 0} {ops : Ops S} → Laws ops → (c : Config) (me : ℕ) → IsConfig c
+    → me < c.nodes → IsSound ops (first_coherent ops c me)
+first-sound laws c me limits here =
+    new-sound false c me limits here (first_new laws c me limits here)

@@ -10,7 +10,7 @@ use Rattle.ivy_pagetable.specs.declared.Word.{Word}
 use Rattle.ivy_pagetable.specs.stated.EntryLimits.{most_put_off}
 use Rattle.ivy_pagetable.specs.stated.NodeSets.{Nodes, IsBelow, nodes_with}
 use Rattle.ivy_pagetable.specs.stated.States.{IdleState, WaitingState}
-use Rattle.ivy_pagetable.specs.stated.Entries.{put_offs, copying, owning}
+use Rattle.ivy_pagetable.specs.stated.Entries.{put_offs, without, copying, owning}
 use Rattle.ivy_pagetable.specs.stated.Tables.{entry_at, page_at}
 use Rattle.ivy_pagetable.specs.stated.Words.{carried_out}
 use Rattle.ivy_pagetable.specs.stated.Manager.{Ops}
@@ -19,7 +19,7 @@ use Rattle.ivy_coherence.specs.stated.Coherent.{Coherent}
 use Rattle.ivy_coherence.specs.EventLimits.{most_posted}
 use Rattle.ivy_coherence.specs.stated.Serving.{invalidations}
 use Rattle.ivy_coherence.specs.stated.Several.{all_carried}
-use Rattle.ivy_coherence.specs.stated.MessageSteps.{unlocked, handled}
+use Rattle.ivy_coherence.specs.stated.MessageSteps.{copy_reply, unlocked, handled}
 use Rattle.ivy_coherence.specs.stated.PageFaults.{begun}
 use Rattle.ivy_coherence.specs.stated.Sound.{IsSound}
 use Rattle.ivy_coherence.proofs.posting.FewServed.{put_off_served-few, invalidations-few}
@@ -52,9 +52,12 @@ module _ {S : Type 0} (ops : Ops S) where
         let k = put_off_served-few ops c.me page (page_at c.table page) origin i c.manager c.breaches None
         (record { kind = kind; origin = origin; call = call } ∷ []) in omega (arith, k);
     put_off = λ kind page e may is room at fits. omega arith;
+    sent_on = λ kind page w may is asks sends fits.
+        let k = put_off_served-few ops c.me page (page_at c.table page) origin without c.manager c.breaches
+        None (record { kind = kind; origin = origin; call = call } ∷ []) in omega (arith, k);
     given_up = λ page w by is fits. omega arith;
     copy = λ page bytes w mine is this fits. unlocked-few c from page copying
-        (Some request.Read) bytes w (put_off-few c page _ s is);
+        (copy_reply w) bytes w (put_off-few c page _ s is);
     alone = λ page copies bytes w mine is this none fits. unlocked-few c from page owning
         (Some request.Write) bytes w.waiting (put_off-few c page _ s is);
     shared =

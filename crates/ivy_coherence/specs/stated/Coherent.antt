@@ -1,6 +1,6 @@
 -- What contracts see of a node's coherence, over any manager. This file names no struct of the
 -- crate.
-use Rattle.std.specs.Prelude.{ℕ, List, Option}
+use Rattle.std.specs.Prelude.{ℕ, Bool, List, Option}
 use Rattle.ivy_model.specs.declared.Config.{Config}
 use Rattle.ivy_pagetable.specs.declared.Out.{Out}
 use Rattle.ivy_pagetable.specs.declared.Word.{Word}
@@ -9,10 +9,11 @@ use Rattle.ivy_pagetable.specs.stated.TableState.{Table}
 -- `locked` is the page whose entry a word waits at, and `more` are the words of that page that wait
 -- along with it. `done` is the answer of a word that faulted and was carried out since, `done_more`
 -- are those of the words that waited along with it. `breaches` is the number of messages that fitted
--- no rule.
+-- no rule. `sends_on` says whether requests are sent on while a copy is awaited, and not put off.
 pub record Coherent (S : Type 0) : Type 0 where
   pub config : Config
   pub me : ℕ
+  pub sends_on : Bool
   pub table : Table
   pub manager : S
   pub locked : Option ℕ

@@ -12,7 +12,7 @@ use Rattle.ivy_pagetable.specs.declared.Request.{Request}
 use Rattle.ivy_pagetable.specs.declared.Request.TheVariants as request
 use Rattle.ivy_pagetable.specs.stated.NodeSets.{Nodes, nodes_with}
 use Rattle.ivy_pagetable.specs.stated.States.{IdleState, WaitingState}
-use Rattle.ivy_pagetable.specs.stated.Entries.{can_put_off, with_put_off, copying, owning}
+use Rattle.ivy_pagetable.specs.stated.Entries.{can_put_off, with_put_off, without, copying, owning}
 use Rattle.ivy_pagetable.specs.stated.Tables.{entry_at, page_at, with_entry, with_page}
 use Rattle.ivy_pagetable.specs.stated.Words.{carried_out}
 use Rattle.ivy_pagetable.specs.stated.Manager.{Ops}
@@ -37,6 +37,18 @@ is_order kind = false
 -- the entry once the page, or a copy, came
 abbrev pub unlocked_as : Request → IdleState
 unlocked_as kind = if is_write kind then owning else copying
+
+-- what the manager learns once a copy came: of it, if no request was sent on while it was awaited
+abbrev pub copy_reply : WaitingState → Option Request
+copy_reply s = if s.sent_on then None else Some request.Read
+
+-- once the page, or a copy, came
+unfoldable pub reply_as : Request → WaitingState → Option Request
+reply_as kind s = if is_write kind then Some request.Write else copy_reply s
+
+-- a request was sent on meanwhile
+abbrev pub sending : WaitingState → WaitingState
+sending s = record s { sent_on = true }
 
 module _ {S : Type 0} (ops : Ops S) where
   -- a message that fits no rule is counted, and changes nothing else
@@ -77,7 +89,7 @@ module _ {S : Type 0} (ops : Ops S) where
   abbrev pub unlocked_by_reply : Coherent S → ℕ → ℕ → Request → List ℕ → WaitingState
       → CoherenceEffect S
   unlocked_by_reply c from page kind bytes s =
-      unlocked c from page (unlocked_as kind) (Some kind) bytes s
+      unlocked c from page (unlocked_as kind) (reply_as kind s) bytes s
 
   -- with the last acknowledgement, on the page that is here already
   abbrev pub unlocked_by_last : Coherent S → ℕ → ℕ → WaitingState → CoherenceEffect S
@@ -108,6 +120,26 @@ module _ {S : Type 0} (ops : Ops S) where
     posted = parcel_to c.me q.origin q.origin q.call (content.InvalAck page) ∷ [];
   }
 
+  -- a node that waits for a copy sends a request on as one that has none does, and remembers that: its
+  -- own request went the same way before
+  abbrev pub sent_on : Coherent S → ℕ → WaitingState → PutOff → CoherenceEffect S
+  sent_on c page s q =
+      let v = put_off_served ops c.me q.origin page (page_at c.table page) without c.manager
+      c.breaches None (q ∷ []) in
+      record {
+        after = record c {
+          table = with_entry c.table page (entry.AwaitRead (sending s));
+          manager = v.manager;
+          breaches = v.breaches;
+        };
+        posted = v.posted;
+      }
+
+  -- where requests that find a copy awaited are sent on; an order waits until the copy came
+  abbrev pub asked_reader : Coherent S → ℕ → WaitingState → PutOff → CoherenceEffect S
+  asked_reader c page s q = if c.sends_on && not (is_order q.kind) then sent_on c page s q
+      else put_aside c page (entry.AwaitRead s) q
+
   -- a request for a copy or for the page, or the order to give a copy up
   abbrev pub asked : Coherent S → ℕ → PutOff → Entry → CoherenceEffect S
   asked c page q (entry.Idle s) = after_serving c page
@@ -117,7 +149,7 @@ module _ {S : Type 0} (ops : Ops S) where
       else put_aside c page (entry.AwaitWrite s) q
   asked c page q (entry.AwaitAcks s) =
       if is_order q.kind then breach c else put_aside c page (entry.AwaitAcks s) q
-  asked c page q e = put_aside c page e q
+  asked c page q (entry.AwaitRead s) = asked_reader c page s q
 
   abbrev pub asked_at : Coherent S → ℕ → PutOff → CoherenceEffect S
   asked_at c page q = asked c page q (entry_at c.table page)
@@ -125,7 +157,7 @@ module _ {S : Type 0} (ops : Ops S) where
   -- a copy comes for the word that waits to read
   abbrev pub copy_came : Coherent S → ℕ → ℕ → ℕ → List ℕ → Entry → CoherenceEffect S
   copy_came c from call page bytes (entry.AwaitRead s) =
-      if s.call == call then unlocked c from page copying (Some request.Read) bytes s else breach c
+      if s.call == call then unlocked c from page copying (copy_reply s) bytes s else breach c
   copy_came c from call page bytes e = breach c
 
   abbrev pub copy_came_at : Coherent S → ℕ → ℕ → ℕ → List ℕ → CoherenceEffect S

@@ -1,6 +1,6 @@
 -- What an access of this node's program comes to (Li and Hudak 1989): what the program is told, the
 -- state after, and what is posted, in order.
-use Rattle.std.specs.Prelude.{ℕ, List, [], ◌∷◌, Option, Some, None, if◌then◌else◌}
+use Rattle.std.specs.Prelude.{ℕ, false, List, [], ◌∷◌, Option, Some, None, if◌then◌else◌}
 use Rattle.ivy_wire.specs.declared.Content.TheVariants as content
 use Rattle.ivy_wire.specs.stated.Data.{Parcel}
 use Rattle.ivy_wire.specs.stated.Posts.{parcel_to}
@@ -25,7 +25,7 @@ pub record Begun (S : Type 0) : Type 0 where
 
 -- the word of this call, and nothing put off yet
 abbrev pub waiting_from : Word → ℕ → WaitingState
-waiting_from word call = record { word = word; call = call; put_off = [] }
+waiting_from word call = record { word = word; call = call; put_off = []; sent_on = false }
 
 -- the entry that it waits at
 abbrev pub fault_entry : Word → ℕ → IdleState → Entry

@@ -59,16 +59,21 @@ pub record IsSound {S : Type 0} (ops : Ops S) (c : Coherent S) : Type 0 where
   pub along : (p : ℕ) → c.locked ≡ Some p → WaitAlong c.config (entry_at c.table p) c.more
   pub alone : c.locked ≡ None → c.more ≡ []
 
--- a node as it begins
-abbrev pub first_coherent : {S : Type 0} → Ops S → Config → ℕ → Coherent S
-first_coherent ops c me = record {
+-- a node as it begins, with this manager
+abbrev pub new_coherent : {S : Type 0} → Bool → Config → ℕ → S → Coherent S
+new_coherent sends_on c me manager = record {
   config = c;
   me = me;
+  sends_on = sends_on;
   table = first_table c me;
-  manager = ops.first c me;
+  manager = manager;
   locked = None;
   more = [];
   done = None;
   done_more = [];
   breaches = 0;
 }
+
+-- where requests that find a copy awaited are put off
+abbrev pub first_coherent : {S : Type 0} → Ops S → Config → ℕ → Coherent S
+first_coherent ops c me = new_coherent false c me (ops.first c me)

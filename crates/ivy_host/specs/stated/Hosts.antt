@@ -9,12 +9,11 @@ use Rattle.ivy_model.specs.stated.Explains.{Answered}
 use Rattle.ivy_wire.specs.stated.Data.{Message}
 use Rattle.ivy_pagetable.specs.stated.Manager.{Ops}
 use Rattle.ivy_program.specs.stated.Programs.{Program}
-use Rattle.ivy_program.specs.stated.States.{first_state}
 use Rattle.ivy_program.specs.stated.InstructionSteps.{Process, Step, Local, Asks, Ends, step_of, along_of, at_state, answered_with}
 use Rattle.ivy_moves.specs.stated.Cores.{Core, Outcome}
 use Rattle.ivy_alloc.specs.declared.CallProgress.{CallProgress}
 use Rattle.ivy_alloc.specs.declared.CallProgress.TheVariants.{Given, Awaited, Unserved}
-use Rattle.ivy_memory.specs.stated.Memories.{NodeMemory, CallBegun, in_progress, first_memory, call_begun, polled, memory_handled, memory_told}
+use Rattle.ivy_memory.specs.stated.Memories.{NodeMemory, CallBegun, in_progress, call_begun, polled, memory_handled, memory_told}
 
 -- a node's memory, its program and where it stands, and what it was answered
 pub record Host (S : Type 0) : Type 0 where
@@ -90,11 +89,3 @@ module _ {S : Type 0} (ops : Ops S) where
   -- the rules of a host, as those of a core
   abbrev pub host_rules : Core (Host S)
   host_rules = record { turn = turn_of; serve = serving }
-
-  -- no instruction was carried out, and no reply recorded
-  abbrev pub first_host : Config → ℕ → Program → Host S
-  first_host c me program = record {
-    memory = first_memory ops c me;
-    process = record { program = program; state = first_state };
-    history = [];
-  }

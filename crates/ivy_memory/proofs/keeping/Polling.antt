@@ -90,7 +90,7 @@ module _ {S : Type 0} where
       → SameNode m.coherence b.after
       → SameNode m.coherence
       (again_unless m (answered (without_call m) k number b r) r).after.coherence
-  unless-same m k number b None same = record { config = refl; me = refl }
+  unless-same m k number b None same = record { config = refl; me = refl; sends_on = refl }
   unless-same m k number b (Some r) same = same
 
   again-same : (m : NodeMemory S) (k : Call) (number : ℕ) (b : Begun S) (n : Need)
@@ -98,12 +98,12 @@ module _ {S : Type 0} where
       → SameNode m.coherence (again m (needed (without_call m) k nothing_beside number b n) n).after.coherence
   again-same m k number b (need.Have o) same = unless-same m k number b (reply_of o) same
   again-same m k number b need.Started same = same
-  again-same m k number b need.Busy same = record { config = refl; me = refl }
+  again-same m k number b need.Busy same = record { config = refl; me = refl; sends_on = refl }
 
   taken_with-same : (m : NodeMemory S) (calls : List Call)
       → SameNode m.coherence (taken_with m calls).coherence
-  taken_with-same m [] = record { config = refl; me = refl }
-  taken_with-same m (next ∷ calls) = record { config = refl; me = refl }
+  taken_with-same m [] = record { config = refl; me = refl; sends_on = refl }
+  taken_with-same m (next ∷ calls) = record { config = refl; me = refl; sends_on = refl }
 
 module _ {S : Type 0} (ops : Ops S) (m : NodeMemory S) (k : Call) where
   -- the access that the call makes
@@ -114,11 +114,11 @@ module _ {S : Type 0} (ops : Ops S) (m : NodeMemory S) (k : Call) where
   marks page w = begun-begins ops (without_call m).coherence page w m.number
 
   tried-same : (x : Asked) → SameNode m.coherence (tried_as ops m k x).after.coherence
-  tried-same (asked.Refused code) = record { config = refl; me = refl }
+  tried-same (asked.Refused code) = record { config = refl; me = refl; sends_on = refl }
   tried-same (asked.Word page w) =
       again-same m k m.number (retry page w) (retry page w).need
-      (let s = (marks page w).same in record { config = s.config; me = s.me })
-  tried-same (asked.Heap k) = record { config = refl; me = refl }
+      (let s = (marks page w).same in record { config = s.config; me = s.me; sends_on = s.sends_on })
+  tried-same (asked.Heap k) = record { config = refl; me = refl; sends_on = refl }
 
   as-same : (r : Option Reply) → SameNode m.coherence (polled_as ops m k r).after.coherence
   as-same None = tried-same (asked_of m.coherence.config k)
@@ -163,7 +163,7 @@ module _ {S : Type 0} (ops : Ops S) (m : NodeMemory S) (k : Call) where
 module _ {S : Type 0} (ops : Ops S) where
   at-same : (m : NodeMemory S) (a : Option Call)
       → SameNode m.coherence (polled_at ops m a).after.coherence
-  at-same m None = record { config = refl; me = refl }
+  at-same m None = record { config = refl; me = refl; sends_on = refl }
   at-same m (Some k) = as-same ops m k (reply_at m)
 
   -- the node stays who it is

@@ -18,7 +18,7 @@ module _ {S : Type 0} (ops : Ops S) where
   pub handled-same : (c : Coherent S) (from : ℕ) (m : Message)
       → SameNode c (handled ops c from m).after
   handled-same c from m =
-      let s = coherence.handled-same ops c from m in record { config = s.config; me = s.me }
+      let s = coherence.handled-same ops c from m in record { config = s.config; me = s.me; sends_on = s.sends_on }
 
   -- whatever a message is about
   pub told-same : (m : NodeMemory S) (from : ℕ) (message : Message)
@@ -26,7 +26,7 @@ module _ {S : Type 0} (ops : Ops S) where
   told-same m from message =
       let t : HeapTold = heap_told m.coherence.me m.side from message in
       either (λ (e : MemoryEffect S). SameNode m.coherence e.after.coherence) t.fits (by_side m t)
-      (by_coherence ops m from message) (record { config = refl; me = refl })
+      (by_coherence ops m from message) (record { config = refl; me = refl; sends_on = refl })
       (handled-same m.coherence from message)
 
   -- and the call in progress is in progress

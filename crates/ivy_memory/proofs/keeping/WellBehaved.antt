@@ -28,15 +28,15 @@ use Rattle.ivy_pagetable.specs.stated.Tables.{page_at, with_page}
 use Rattle.ivy_pagetable.specs.stated.Words.{number_at, carried_out, offset_of, width_of}
 use Rattle.ivy_pagetable.proofs.Words.{not_yet}
 use Rattle.ivy_pagetable.specs.stated.Manager.{Ops}
-use Rattle.ivy_pagetable.specs.Manager.{Laws}
+use Rattle.ivy_pagetable.specs.Manager.{Laws, IsNew}
 use Rattle.ivy_coherence.specs.declared.Need.{Need}
 use Rattle.ivy_coherence.specs.declared.Need.TheVariants as need
 use Rattle.ivy_coherence.specs.stated.Coherent.{Coherent}
 use Rattle.ivy_coherence.specs.stated.Several.{first_out, later_outs}
-use Rattle.ivy_coherence.specs.stated.MessageSteps.{unlocked, handled}
+use Rattle.ivy_coherence.specs.stated.MessageSteps.{copy_reply, unlocked, handled}
 use Rattle.ivy_coherence.specs.stated.PageFaults.{Begun, along, started, hit, begun}
-use Rattle.ivy_coherence.specs.stated.Sound.{IsSound}
-use Rattle.ivy_coherence.proofs.keeping.SoundEntries.{first-sound}
+use Rattle.ivy_coherence.specs.stated.Sound.{IsSound, new_coherent}
+use Rattle.ivy_coherence.proofs.keeping.SoundEntries.{new-sound}
 use Rattle.ivy_coherence.proofs.keeping.Keeping.{handled-keeps, begun-keeps}
 use Rattle.ivy_coherence.specs.EventLimits.{most_posted}
 use Rattle.ivy_alloc.specs.stated.Heap.{HeapState}
@@ -53,7 +53,7 @@ use Rattle.ivy_memory.specs.Asking.{CanAsk}
 use Rattle.ivy_memory.specs.stated.Asking.{asked_of}
 use Rattle.ivy_alloc.specs.stated.HeapCalls.{HeapTold, closed, number_in, request, heap_begun_at, heap_told, reply_told}
 use Rattle.ivy_alloc.proofs.HeapMessages.{either}
-use Rattle.ivy_memory.specs.stated.Memories.{NodeMemory, CallBegun, MemoryEffect, first_memory, reply_of}
+use Rattle.ivy_memory.specs.stated.Memories.{NodeMemory, CallBegun, MemoryEffect, memory_over, new_memory, reply_of}
 use Rattle.ivy_memory.specs.stated.Memories.{reply_there, first_reply, reply_at, without_call}
 use Rattle.ivy_memory.specs.stated.Memories.{taken_with, taken_out, answered}
 use Rattle.ivy_memory.specs.stated.Memories.{needed, again_unless, again}
@@ -69,6 +69,7 @@ use Rattle.ivy_memory.proofs.serving.Sides.{KeepsSide, no_heap_request, same_sid
 pub record SameNode {S : Type 0} (old new : Coherent S) : Type 0 where
   pub config : new.config ≡ old.config
   pub me : new.me ≡ old.me
+  pub sends_on : new.sends_on ≡ old.sends_on
 
 -- a message leaves the word that waits as it is, or that word was carried out
 abbrev pub Told : {S : Type 0} → Coherent S → Coherent S → Type 0
@@ -118,8 +119,9 @@ reply_done (Some o) r h = (o, refl)
 
 module _ {S : Type 0} where
   stays : {c : Coherent S} {new : Coherent S} → new.config ≡ c.config → new.me ≡ c.me
-      → new.locked ≡ c.locked → new.done ≡ c.done → Told c new
-  stays config me locked done = (record { config = config; me = me }, inl (locked, done))
+      → new.sends_on ≡ c.sends_on → new.locked ≡ c.locked → new.done ≡ c.done → Told c new
+  stays config me sends_on locked done =
+      (record { config = config; me = me; sends_on = sends_on }, inl (locked, done))
 
   answered-fits : (k : Config) (me : ℕ) (m : NodeMemory S) (c : Call) (number : ℕ) (b : Begun S)
       (r : Option Reply) → All (FitsParcel k me) b.posted
@@ -145,14 +147,14 @@ module _ {S : Type 0} where
   along-same : (c new : Coherent S) (words : List Word) → SameNode c new
       → SameNode c (along words new)
   along-same c new [] same = same
-  along-same c new (w ∷ words) same = record { config = same.config; me = same.me }
+  along-same c new (w ∷ words) same = record { config = same.config; me = same.me; sends_on = same.sends_on }
 
   pub needed-same : (m : NodeMemory S) (c : Call) (more : Beside) (number : ℕ) (b : Begun S)
       (n : Need) → SameNode m.coherence b.after
       → SameNode m.coherence (needed m c more number b n).after.coherence
   needed-same m c more number b (need.Have o) same = answered-same m c number b (reply_of o) same
   needed-same m c more number b need.Started same = along-same m.coherence b.after more.words same
-  needed-same m c more number b need.Busy same = record { config = refl; me = refl }
+  needed-same m c more number b need.Busy same = record { config = refl; me = refl; sends_on = refl }
 
   answered-posted : (m : NodeMemory S) (c : Call) (number : ℕ) (b : Begun S) (r : Option Reply)
       → (answered m c number b r).posted ≡ b.posted
@@ -171,7 +173,7 @@ module _ {S : Type 0} where
       → Begins c b → Begins c (record b { after = along words b.after })
   along-begins c b [] is bs = bs
   along-begins c b (w ∷ words) is bs = record {
-    same = record { config = bs.same.config; me = bs.same.me };
+    same = record { config = bs.same.config; me = bs.same.me; sends_on = bs.same.sends_on };
     done = bs.done;
     lock = λ o h. absurd (let e : need.Started ≡ need.Have o = sym is ∙ h in cc);
     free = bs.free;
@@ -188,21 +190,22 @@ module _ {S : Type 0} (ops : Ops S) where
       (bytes : List ℕ) (s : WaitingState) → c.locked ≡ Some page
       → Told c (unlocked ops c from page idle reply bytes s).after
   unlocked-told c from page idle reply bytes s locked =
-      (record { config = refl; me = refl }, inr (page, locked, refl))
+      (record { config = refl; me = refl; sends_on = refl }, inr (page, locked, refl))
 
   told-rows : (c : Coherent S) (from origin call : ℕ) → IsSound ops c
       → Rows ops c from origin call (λ m e. Told c e.after)
   told-rows c from origin call s = record {
-    breach = λ m why. stays refl refl refl refl;
-    served = λ kind page i may is order. stays refl refl refl refl;
-    put_off = λ kind page e may is room at. stays refl refl refl refl;
-    given_up = λ page w by is. stays refl refl refl refl;
-    copy = λ page bytes w mine is this. unlocked-told c from page copying (Some asks.Read) bytes w
+    breach = λ m why. stays refl refl refl refl refl;
+    served = λ kind page i may is order. stays refl refl refl refl refl;
+    put_off = λ kind page e may is room at. stays refl refl refl refl refl;
+    sent_on = λ kind page w may is asks sends. stays refl refl refl refl refl;
+    given_up = λ page w by is. stays refl refl refl refl refl;
+    copy = λ page bytes w mine is this. unlocked-told c from page copying (copy_reply w) bytes w
         (s.others page (ap is_locked is));
     alone = λ page copies bytes w mine is this none. unlocked-told c from page owning
         (Some asks.Write) bytes w.waiting (s.others page (ap is_locked is));
-    shared = λ page copies bytes w mine is this some apart. stays refl refl refl refl;
-    acknowledged = λ page w mine is this missing others. stays refl refl refl refl;
+    shared = λ page copies bytes w mine is this some apart. stays refl refl refl refl refl;
+    acknowledged = λ page w mine is this missing others. stays refl refl refl refl refl;
     last = λ page w mine is this missing none. unlocked-told c from page owning None
         (page_at c.table page) w.waiting (s.others page (ap is_locked is));
   }
@@ -215,7 +218,7 @@ module _ {S : Type 0} (ops : Ops S) where
       → Begins c (started ops c page e ps)
   started-begins c page free e ps =
       record {
-        same = record { config = refl; me = refl };
+        same = record { config = refl; me = refl; sends_on = refl };
         done = refl;
         lock = λ o h. absurd cc;
         free = λ o h. absurd cc;
@@ -229,7 +232,7 @@ module _ {S : Type 0} (ops : Ops S) where
   hit_begins : (c : Coherent S) (page : ℕ) (w : Word) → c.locked ≡ None
       → Begins c (hit ops c page w)
   hit_begins c page w free = record {
-    same = record { config = refl; me = refl };
+    same = record { config = refl; me = refl; sends_on = refl };
     done = refl;
     lock = λ o h. refl;
     free = λ o h. free;
@@ -248,7 +251,7 @@ module _ {S : Type 0} (ops : Ops S) where
       → AccessRows ops c page w number (Begins c)
   begins-rows c page w number = record {
     busy = record {
-      same = record { config = refl; me = refl };
+      same = record { config = refl; me = refl; sends_on = refl };
       done = refl;
       lock = λ o h. refl;
       free = λ o h. absurd cc;
@@ -525,25 +528,33 @@ KeepsMemory ops m a =
     IsSoundMemory ops a.after × All (FitsParcel m.coherence.config m.coherence.me) a.posted
     × SameNode m.coherence a.after.coherence
 
-module _ {S : Type 0} {ops : Ops S} (laws : Laws ops) where
-  pub first_sound-memory : (c : Config) (me : ℕ) → IsConfig c → me < c.nodes
-      → IsSoundMemory ops (first_memory ops c me)
-  first_sound-memory c me limits here = record {
-    coherent = first-sound laws c me limits here;
-    done = λ h. refl;
-    locked = λ h. refl;
-    answered = λ o h. refl;
-    width = λ j h. absurd (none-some j h);
+module _ {S : Type 0} {ops : Ops S} where
+  -- over a coherence that no word was asked of yet
+  pub over_sound-memory : (h : Coherent S) → IsSound ops h → h.done ≡ None → h.locked ≡ None
+      → IsSoundMemory ops (memory_over h)
+  over_sound-memory h s undone free = record {
+    coherent = s;
+    done = λ e. undone;
+    locked = λ e. free;
+    answered = λ o e. free;
+    width = λ j e. absurd (none-some j e);
     widths = All-nil HasWidth;
-    of_pages = All-nil (IsWordOfPage c);
-    numbered = λ j h. absurd (none-some j h);
+    of_pages = All-nil (IsWordOfPage h.config);
+    numbered = λ j e. absurd (none-some j e);
     small = omega arith;
-    alone = λ h. refl;
-    side = first_sound-side c me;
-    under = λ k n h. absurd (none-some (heap_request.Asked k n) h);
-    apart = λ e h. absurd (none-some e h);
+    alone = λ e. refl;
+    side = first_sound-side h.config h.me;
+    under = λ k n e. absurd (none-some (heap_request.Asked k n) e);
+    apart = λ e f. absurd (none-some e f);
   }
 
+  pub new_sound-memory : (sends_on : Bool) (c : Config) (me : ℕ) (manager : S) → IsConfig c
+      → me < c.nodes → IsNew ops c me manager → IsSoundMemory ops (new_memory sends_on c me manager)
+  new_sound-memory sends_on c me manager limits here new =
+      over_sound-memory (new_coherent sends_on c me manager)
+      (new-sound sends_on c me limits here new) refl refl
+
+module _ {S : Type 0} {ops : Ops S} (laws : Laws ops) where
   -- what the side was told leaves the rest as it is
   side-sound : (m : NodeMemory S) (t : HeapTold) → IsSoundMemory ops m
       → KeepsSide m.coherence.config m.coherence.me m.asked m.side t
@@ -611,7 +622,7 @@ module _ {S : Type 0} {ops : Ops S} (laws : Laws ops) where
     asked-heap away false small = (
       s,
       all_none (FitsParcel m.coherence.config m.coherence.me),
-      record { config = refl; me = refl },
+      record { config = refl; me = refl; sends_on = refl },
     )
     asked-heap away true small = (
       record {
@@ -640,7 +651,7 @@ module _ {S : Type 0} {ops : Ops S} (laws : Laws ops) where
       all_one (FitsParcel m.coherence.config m.coherence.me) _
           (request_sent m.coherence.config m.coherence.me m.asked m.side s.side s.coherent.limits
           s.coherent.here h number away small least most),
-      record { config = refl; me = refl },
+      record { config = refl; me = refl; sends_on = refl },
     )
 
     heap-at : (o : Option HeapState) → m.side.heap ≡ o
@@ -664,7 +675,7 @@ module _ {S : Type 0} {ops : Ops S} (laws : Laws ops) where
         apart = s.apart;
       },
       all_none (FitsParcel m.coherence.config m.coherence.me),
-      record { config = refl; me = refl },
+      record { config = refl; me = refl; sends_on = refl },
     )
 
   as-sound : (m : NodeMemory S) (k : Call) (calls : List Call) (number : ℕ) (x : Asked)
@@ -674,7 +685,7 @@ module _ {S : Type 0} {ops : Ops S} (laws : Laws ops) where
   as-sound m k calls number (asked.Refused code) of wide widths s idle can least most = (
     s,
     all_none (FitsParcel m.coherence.config m.coherence.me),
-    record { config = refl; me = refl },
+    record { config = refl; me = refl; sends_on = refl },
   )
   as-sound m k calls number (asked.Heap h) of wide widths s idle can least most =
       heap-at m k number s wide idle h of least most m.side.heap refl
@@ -705,12 +716,12 @@ module _ {S : Type 0} {ops : Ops S} (laws : Laws ops) where
 module _ {S : Type 0} (ops : Ops S) where
   as-same : (m : NodeMemory S) (k : Call) (calls : List Call) (number : ℕ) (x : Asked)
       → SameNode m.coherence (begun_as ops m k calls number x).after.coherence
-  as-same m k calls number (asked.Refused code) = record { config = refl; me = refl }
+  as-same m k calls number (asked.Refused code) = record { config = refl; me = refl; sends_on = refl }
   as-same m k calls number (asked.Word page w) =
       let b : Begun S = begun ops m.coherence page w number in
       needed-same m k (beside m.coherence.config page w calls number) number b b.need
       (begun-begins ops m.coherence page w number).same
-  as-same m k calls number (asked.Heap h) = record { config = refl; me = refl }
+  as-same m k calls number (asked.Heap h) = record { config = refl; me = refl; sends_on = refl }
 
   -- the node stays who it is
   pub call-same : (m : NodeMemory S) (k : Call) (calls : List Call) (number : ℕ)

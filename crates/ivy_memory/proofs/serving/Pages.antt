@@ -18,11 +18,11 @@ use Rattle.ivy_coherence.specs.stated.Serving.{Serving, serving, served_by_owner
 use Rattle.ivy_coherence.proofs.keeping.IdleServing.{all_none, all_one}
 use Rattle.ivy_pagetable.specs.declared.Word.{Word}
 use Rattle.ivy_pagetable.specs.stated.Tables.{page_at}
-use Rattle.ivy_pagetable.specs.stated.Entries.{copying, owning}
+use Rattle.ivy_pagetable.specs.stated.Entries.{without, copying, owning}
 use Rattle.ivy_pagetable.specs.stated.Words.{carried_out}
 use Rattle.ivy_coherence.specs.stated.Coherent.{Coherent}
 use Rattle.ivy_coherence.specs.stated.Several.{all_carried}
-use Rattle.ivy_coherence.specs.stated.MessageSteps.{handled}
+use Rattle.ivy_coherence.specs.stated.MessageSteps.{copy_reply, handled}
 use Rattle.ivy_coherence.specs.stated.PageFaults.{begun}
 use Rattle.ivy_memory.specs.declared.memory.Asked.TheVariants as asked
 use Rattle.ivy_alloc.specs.declared.HeapCall.{HeapCall}
@@ -90,9 +90,14 @@ module _ {S : Type 0} (ops : Ops S) where
         λ kind page i may is order. put_off_served-pages ops c.me page (page_at c.table page) origin i
         c.manager c.breaches None (record { kind = kind; origin = origin; call = call } ∷ []);
     put_off = λ kind page e may is room at. all_none IsOfPages;
+    sent_on =
+        λ kind page w may is asks sends. put_off_served-pages ops c.me page (page_at c.table page)
+        origin without c.manager c.breaches None
+        (record { kind = kind; origin = origin; call = call } ∷ []);
     given_up = λ page w by is. all_one IsOfPages _ refl;
     copy = λ page bytes w mine is this. put_off_served-pages ops c.me page
-        (all_carried c.more (carried_out w.word bytes).bytes).bytes from copying c.manager c.breaches (Some request.Read) w.put_off;
+        (all_carried c.more (carried_out w.word bytes).bytes).bytes from copying c.manager c.breaches
+        (copy_reply w) w.put_off;
     alone = λ page copies bytes w mine is this none. put_off_served-pages ops c.me page
         (all_carried c.more (carried_out w.waiting.word bytes).bytes).bytes from owning c.manager
         c.breaches

@@ -1,6 +1,6 @@
 -- A node's memory: its coherence, the call that it has in progress, and its side of the calls of
 -- the heap.
-use Rattle.std.specs.Prelude.{ℕ, ◌+◌, Option, Some, None, List, [], ◌∷◌, if◌then◌else◌}
+use Rattle.std.specs.Prelude.{ℕ, ◌+◌, Bool, false, Option, Some, None, List, [], ◌∷◌, if◌then◌else◌}
 use Rattle.ivy_model.specs.declared.Config.{Config}
 use Rattle.ivy_model.specs.declared.Call.{Call}
 use Rattle.ivy_model.specs.declared.Reply.{Reply}
@@ -13,7 +13,7 @@ use Rattle.ivy_coherence.specs.declared.Need.{Need}
 use Rattle.ivy_coherence.specs.declared.Need.TheVariants as need
 use Rattle.ivy_coherence.specs.stated.Coherent.{Coherent}
 use Rattle.ivy_coherence.specs.stated.Several.{first_out, later_outs}
-use Rattle.ivy_coherence.specs.stated.Sound.{first_coherent}
+use Rattle.ivy_coherence.specs.stated.Sound.{new_coherent}
 use Rattle.ivy_coherence.specs.stated.MessageSteps.{handled}
 use Rattle.ivy_coherence.specs.stated.PageFaults.{Begun, along, begun}
 use Rattle.ivy_alloc.specs.declared.CallProgress.{CallProgress}
@@ -39,15 +39,23 @@ abbrev pub in_progress : Option Call → List Call → List Call
 in_progress None along = []
 in_progress (Some called) along = called ∷ along
 
--- the memory of a node as it begins
-abbrev pub first_memory : {S : Type 0} → Ops S → Config → ℕ → NodeMemory S
-first_memory ops c me = record {
-  coherence = first_coherent ops c me;
+-- the memory of a node over its coherence, before any call
+abbrev pub memory_over : {S : Type 0} → Coherent S → NodeMemory S
+memory_over h = record {
+  coherence = h;
   asked = None;
   along = [];
   number = 0;
-  side = first_side c me;
+  side = first_side h.config h.me;
 }
+
+-- the memory of a node as it begins, with this manager
+abbrev pub new_memory : {S : Type 0} → Bool → Config → ℕ → S → NodeMemory S
+new_memory sends_on c me manager = memory_over (new_coherent sends_on c me manager)
+
+-- where requests that find a copy awaited are put off
+abbrev pub first_memory : {S : Type 0} → Ops S → Config → ℕ → NodeMemory S
+first_memory ops c me = new_memory false c me (ops.first c me)
 
 -- the reply that a word carried out gives: none where an awaited count is too low yet
 abbrev pub reply_of : Out → Option Reply

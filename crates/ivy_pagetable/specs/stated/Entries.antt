@@ -80,7 +80,12 @@ can_put_off e = is_locked e && nat_lt (length (put_offs e)) most_put_off
 -- one more message is put off, behind the others
 abbrev pub with_one_put_off : WaitingState → PutOff → WaitingState
 with_one_put_off s message =
-    record { word = s.word; call = s.call; put_off = s.put_off ++ message ∷ [] }
+    record {
+      word = s.word;
+      call = s.call;
+      put_off = s.put_off ++ message ∷ [];
+      sent_on = s.sent_on;
+    }
 
 -- a locked entry with one more message put off
 abbrev pub with_put_off : Entry → PutOff → Entry

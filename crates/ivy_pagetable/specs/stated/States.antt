@@ -12,12 +12,13 @@ pub record IdleState : Type 0 where
   pub owner : Bool
   pub copies : Nodes
 
--- a word that waits for its page, the number of its call, and the messages put off until then, in
--- their order of arrival
+-- a word that waits for its page, the number of its call, the messages put off until then, in their
+-- order of arrival, and whether a request was sent on meanwhile
 pub record WaitingState : Type 0 where
   pub word : Word
   pub call : ℕ
   pub put_off : List PutOff
+  pub sent_on : Bool
 
 -- `had_copy` says whether this node has a copy of the page that it waits to write
 pub record AwaitWriteState : Type 0 where

@@ -113,3 +113,7 @@ abbrev pub carried_out : Word → List ℕ → Carried
 carried_out word bytes =
     carried (width_of word) (offset_of word)
     (outcome_of word (number_at (width_of word) (offset_of word) bytes)) bytes
+
+-- the word of a fetch, which asks for a page to read or to write: one of its kind that changes nothing
+abbrev pub fetch_word : Bool → Word
+fetch_word write = if write then FetchAdd 1 0 0 else Load 1 0

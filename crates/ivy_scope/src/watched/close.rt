@@ -28,7 +28,7 @@ where
     requires home { ether.now ≡ H.ether }
     requires starter { starter.old.ether ≡ ether.now }
     ensures starter { starter.new.ether ≡ starter.old.ether }
-    ensures told { IfOk result (λ report. AreToldSoFar S.config S.programs starter.new.known report) }
+    ensures told { IfOk result (λ report. AreToldSoFar S.config S.opened S.programs starter.new.known report) }
     ensures keep { IfOk result (AllKeepSoFar keep) }
     ensures stop { IfErr result IsStop }
 {
@@ -64,7 +64,7 @@ where
     requires nodes { nodes ≡ length S.programs }
     requires home { ether.now ≡ H.ether }
     requires starter { starter.ether ≡ ether.now }
-    ensures report { IfOk result (IsHandedSoFar S.config S.programs) }
+    ensures report { IfOk result (IsHandedSoFar S.config S.opened S.programs) }
     ensures keep { IfOk result (AllKeepSoFar keep) }
     ensures stop { IfErr result IsStop }
 {

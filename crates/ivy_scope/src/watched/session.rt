@@ -86,7 +86,7 @@ where
     requires nodes { nodes ≡ length S.programs }
     requires home { ether.now ≡ H.ether }
     requires starter { starter.ether ≡ ether.now }
-    ensures played { IfOk result (IsPlayed S.config S.programs terms.now.keep) }
+    ensures played { IfOk result (IsPlayed S.config S.opened S.programs terms.now.keep) }
     ensures stop { IfErr result IsStop }
 {
     let rt = terms.rt;
@@ -118,6 +118,7 @@ where
     R: Threads + Wait + Sync,
     W: Watch,
     requires config { config.now ≡ S.config }
+    requires opened { terms.now.opening ≡ S.opened }
     requires limits { IsConfig config.now }
     requires programs { programs.items ≡ S.programs }
     requires each { length programs.items ≡ config.now.nodes }
@@ -125,7 +126,7 @@ where
     requires starter { (starter.ether ≡ ether.now) × (starter.known ≡ beginner) }
     requires passes { All (IsNewcomer ether.now) passes.items }
     requires enough { vec_len passes ≡ length programs.items }
-    ensures played { IfOk result (IsPlayed S.config S.programs terms.now.keep) }
+    ensures played { IfOk result (IsPlayed S.config S.opened S.programs terms.now.keep) }
     ensures stop { IfErr result IsStop }
 {
     let nodes = programs.len();
@@ -134,6 +135,7 @@ where
         rt: terms.rt,
         alloc: terms.alloc,
         config: *config,
+        opening: terms.opening,
         limits: terms.limits,
         gate: terms.watch,
         keep: terms.keep,
@@ -142,7 +144,7 @@ where
     play_seats(terms, ether, starter, seats, nodes)
 }
 
-/// Lays the ether, and runs the programs of the nodes there [1, 17, 21].
+/// Lays the ether, and runs the programs of the nodes there, which begin so [1, 17, 21].
 fn play<S, A, R, W>(
     terms: &WatchTerms<'_, '_, A, R, W>,
     config: &Config,
@@ -154,11 +156,12 @@ where
     R: Threads + Wait + Sync,
     W: Watch,
     requires config { config.now ≡ S.config }
+    requires opened { terms.now.opening ≡ S.opened }
     requires limits { IsConfig config.now }
     requires programs { programs.items ≡ S.programs }
     requires each { length programs.items ≡ config.now.nodes }
     requires capacity { 0 < terms.now.limits.capacity }
-    ensures played { IfOk result (IsPlayed S.config S.programs terms.now.keep) }
+    ensures played { IfOk result (IsPlayed S.config S.opened S.programs terms.now.keep) }
     ensures stop { IfErr result IsStop }
 {
     let (ether, mut passes) = lay::<S, A>(terms.alloc, config, &programs, terms.limits)?;
@@ -185,7 +188,7 @@ where
     A: Allocator + Copy + Send + Sync,
     R: Threads + Wait + Sync,
     W: Watch,
-    ensures report { IfOk result (λ r. IsReportSoFar config programs.items r.0) }
+    ensures report { IfOk result (λ r. IsReportSoFar config terms.now.opening programs.items r.0) }
     ensures bad { IsErrOf result Fault.BadConfig ↔ ¬ (IsNarrow config × (length programs.items ≡ config.nodes) × AreLimits terms.now.limits) }
     ensures keep { IfOk result (λ r. AllKeepSoFar terms.now.keep r.0) }
     ensures ended { IfOk result (λ r. r.1 ≡ End.Programs → HaveEnded r.0) }

@@ -1,6 +1,7 @@
 //! What a watched session tells, and on what it is run.
 use ivy_model::Record;
 use ivy_seating::Keep;
+use ivy_session::Opening;
 use ivy_workers::{Gate, Limits};
 
 /// Is told of each turn, and of each reply that a node records, by the worker that makes the turn.
@@ -16,6 +17,8 @@ pub struct WatchTerms<'r, 'w, A, R, W> {
     pub rt: &'r R,
     /// Where its memory comes from.
     pub alloc: A,
+    /// How its nodes begin.
+    pub opening: Opening,
     pub limits: Limits,
     /// Who is told of its replies.
     pub watch: &'w W,

@@ -3,12 +3,24 @@ use Rattle.std.specs.Prelude.{◌≡◌, ◌↔◌, ◌<◌, ℕ, Bool, false, L
 use Rattle.ivy_model.specs.declared.Config.{Config}
 use Rattle.ivy_model.specs.declared.Fault.{Fault}
 use Rattle.ivy_model.specs.declared.Fault.TheVariants.{Memory, NumbersSpent, NoSuchFrame}
+use Rattle.ivy_host.specs.declared.opening.Opening.{Opening}
 use Rattle.ivy_host.specs.stated.Managers.{Managed, managed_ops}
+use Rattle.ivy_host.specs.stated.Openings.{managed_start, opening}
+use Rattle.ivy_program.specs.stated.Programs.{Program}
 use Rattle.ivy_moves.specs.declared.Move.{Move}
 use Rattle.ivy_moves.specs.stated.Worlds.{World, is_named, HasNoneAfter}
 use Rattle.ivy_host.specs.stated.Hosts.{Host, host_rules}
 use Rattle.proof_worlds.specs.stated.RunState.{Run}
 use Rattle.proof_worlds.specs.stated.Reached.{opening_of, IsLedTo, IsExplainedAlong}
+
+-- the world of these programs as it begins
+abbrev pub opened_run : Opening → Config → List Program → Run
+opened_run opened c programs = record {
+  config = c;
+  opened = opened;
+  programs = programs;
+  world = opening (managed_start opened) c programs;
+}
 
 -- the moves that were made: all, or those before the refused one
 abbrev pub made_of : {A : Type 0} → Result A (ℕ × Fault) → List Move → List Move
@@ -32,9 +44,10 @@ CannotBeNamed w None = ⊥
 abbrev pub IsNamedUnless : World (Host Managed) → Result Bool Fault → Move → Type 0
 IsNamedUnless w result m = CannotBeNamed w (Some m) → result ≡ Err NoSuchFrame
 
--- it is the same world: its configuration and its programs
+-- it is the same world: its configuration, its programs, and how its nodes began
 abbrev pub IsSameRun : Run → Run → Type 0
-IsSameRun old new = (new.config ≡ old.config) × (new.programs ≡ old.programs)
+IsSameRun old new =
+    (new.config ≡ old.config) × (new.programs ≡ old.programs) × (new.opened ≡ old.opened)
 
 -- a refusal is of one of the moves, and says which and why
 abbrev pub IsRefusedAt : {A : Type 0} → Result A (ℕ × Fault) → List Move → Run → Type 0

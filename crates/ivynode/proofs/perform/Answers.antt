@@ -17,6 +17,7 @@ joined-kept : (r : Result ℕ Failure) (old mid new : Option (List ℕ)) → IsO
     → MatchResult r (λ status. (status ≡ 0) × PrintsJoined old mid) (λ why. IsNoRun why → AreRefused)
     → Keeps mid new → PrintsJoined old new
 joined-kept (Ok x) old mid new ok q k = let p : PrintsJoined old mid = q.1 in record {
+  steady = p.steady;
   config = p.config;
   programs = p.programs;
   spelled = p.spelled;
@@ -39,6 +40,7 @@ refused-so (Err e) P told said = said told
 own-kept : {T E : Type 0} (r : Result T E) (old mid new : Option (List ℕ)) → IsOk r
     → MatchResult r (λ _. PrintsOwnJoined old mid) (λ _. Unit {0}) → Keeps mid new → PrintsOwnJoined old new
 own-kept (Ok x) old mid new ok p k = record {
+  steady = p.steady;
   config = p.config;
   heads = p.heads;
   logs = p.logs;

@@ -27,6 +27,9 @@ use Rattle.proof_worlds.specs.stated.Still.{HasNothingUnderWay}
 use Rattle.proof_worlds.specs.stated.Unblocked.{Stands, waits, replied, reached, AreUnblocked}
 use Rattle.ivy_host.specs.stated.Hosts.{Host, host_rules, turn_of}
 use Rattle.ivy_host.specs.stated.Managers.{Managed, managed_ops}
+use Rattle.ivy_host.specs.declared.opening.Opening.{Opening}
+use Rattle.ivy_host.specs.stated.Openings.{managed_start}
+use Rattle.ivy_host.proofs.Starts.{managed_new}
 use Rattle.ivy_host.specs.ManagedLaws.{managed_laws}
 use Rattle.ivy_host.specs.stated.Sound.{IsSoundHost}
 use Rattle.proof_worlds.specs.stated.FifoRuns.{IsReachedInOrder, FollowsInOrder}
@@ -74,10 +77,10 @@ no_change c n out called (begins p inside is calls elsewhere puts less) asked sa
     let a : host_weight out.after ≡ host_weight n = ap (λ (h : Host Managed). host_weight h) same in
     omega (arith, a, less)
 
-module _ (c : Config) (limits : IsConfig c) (programs : List Program)
+module _ (opened : Opening) (c : Config) (limits : IsConfig c) (programs : List Program)
     (many : length programs ≡ c.nodes) where
   abbrev Follower : World (Host Managed) → Type 0
-  Follower w = FollowsInOrder managed_ops c programs w
+  Follower w = FollowsInOrder managed_ops (managed_start opened) c programs w
 
   abbrev order_of : (w : World (Host Managed)) → Follower w → FifoWorld (Host Managed)
   order_of w f = fifo_of w f.posted
@@ -88,7 +91,7 @@ module _ (c : Config) (limits : IsConfig c) (programs : List Program)
   -- a world that moves lead to from one that followed this
   record IsFrom (o : FifoWorld (Host Managed)) (w : World (Host Managed))
       (posted : ℕ → ℕ → List Message) : Type 0 where
-    reached : IsReachedInOrder managed_ops c programs (fifo_of w posted)
+    reached : IsReachedInOrder managed_ops (managed_start opened) c programs (fifo_of w posted)
     after : After c o (fifo_of w posted)
 
   step_from : (o : FifoWorld (Host Managed)) (w v : World (Host Managed))
@@ -100,7 +103,7 @@ module _ (c : Config) (limits : IsConfig c) (programs : List Program)
     reached = (fifo_of w posted ∷ from.reached.0, (from.reached.1, next.2));
     after =
         after_then c o (fifo_of w posted) (fifo_of v next.0) from.after
-        (by_step c limits programs many (fifo_of w posted) from.reached (fifo_of v next.0)
+        (by_step opened c limits programs many (fifo_of w posted) from.reached (fifo_of v next.0)
         next.2);
   }
 
@@ -184,9 +187,10 @@ module _ (c : Config) (limits : IsConfig c) (programs : List Program)
     o : FifoWorld (Host Managed)
     o = order_of w f
 
-    told : IsToldBy managed_ops c (order_of w f)
+    told : IsToldBy (managed_start opened).sends_on managed_ops c (order_of w f)
     told =
-        reached_told managed_ops managed_laws c limits programs many (order_of w f) f.reached
+        reached_told managed_ops managed_laws (managed_start opened) c limits
+        (managed_new opened c limits) programs many (order_of w f) f.reached
 
     here : slice_get (order_of w f).cores i ≡ Some n.core
     here = core_of w.nodes i n there
@@ -227,14 +231,15 @@ module _ (c : Config) (limits : IsConfig c) (programs : List Program)
     turn_there : AreAllDelivered (order_of w f)
         → (out : Outcome (Host Managed)) × (turn_of managed_ops n.core ≡ Some out)
     turn_there all =
-        let u = either_unblocked c programs limits many (order_of w f) f.reached all in
+        let u = either_unblocked opened c programs limits many (order_of w f) f.reached all in
         stands u (u.each i n.core here)
       where
         stands : (u : AreUnblocked managed_ops c (order_of w f).cores)
             → Stands managed_ops i n.core u.order u.last
             → (out : Outcome (Host Managed)) × (turn_of managed_ops n.core ≡ Some out)
         stands u (waits none part) =
-            absurd (no_answer_due c limits programs w f u n.core.memory.asked n.core.memory.along due none)
+            absurd (no_answer_due opened c limits programs w f u n.core.memory.asked
+            n.core.memory.along due none)
         stands u (replied other reply is next along calls part) = (_, next.turned)
         stands u (reached k least count is at le (inl next) part) = (_, next.turned)
         stands u (reached k least count is at le (inr next) part) = (next.outcome, next.turned)
@@ -250,7 +255,8 @@ module _ (c : Config) (limits : IsConfig c) (programs : List Program)
           let none : HasNothingUnderWay w =
           nothing rest.follows (d.delivered ∙ b.delivered ∙ a.delivered) in
           let all : AreAllDelivered (order_of w f) =
-          none_under_way managed_ops c programs w f told.faithful.sound none in
+          none_under_way managed_ops (managed_start opened) c programs w f told.faithful.sound none
+          in
           let out = turn_there all in
           let before : slice_get (order_of u first.follows).cores i ≡ Some n.core =
           a.calls i n.core called here asked in
@@ -469,7 +475,8 @@ module _ (c : Config) (limits : IsConfig c) (programs : List Program)
             rank_falls k (order_of w f) (order_of mid round.follows) few falls in
             let still : IsDue mid node.0.core.memory.asked =
             subst (IsDue mid) (sym asked)
-            (due_later c limits programs w f mid round.follows round.later n.core.memory.asked due) in
+            (due_later opened c limits programs w f mid round.follows round.later
+            n.core.memory.asked due) in
             let fall = ranks.0 in
             last
             (again mid end round.follows node.0 node.1 still ranks.1
@@ -502,13 +509,15 @@ module _ (c : Config) (limits : IsConfig c) (programs : List Program)
       (a.grown.node, was.0, now.0, was.1, now.1, omega (arith, x, y, less))
 
 pub some_answered : SomeAnswered
-some_answered c programs w of i n there due =
-    let f : FollowsInOrder managed_ops c programs w =
-    led_in_order managed_laws c of.limits programs of.many of.moves w of.led in
-    let k : ℕ = scale c of.limits programs of.many (fifo_of w f.posted) in (
-      suc (rank c of.limits programs of.many k (fifo_of w f.posted)),
-      λ end are. answers_some c of.limits programs of.many w end f
-          (some_round c of.limits programs of.many i k
-          (suc (rank c of.limits programs of.many k (fifo_of w f.posted))) w end f n there due
+some_answered opened c programs w of i n there due =
+    let f : FollowsInOrder managed_ops (managed_start opened) c programs w =
+    led_in_order managed_laws (managed_start opened) c of.limits (managed_new opened c of.limits)
+    programs of.many of.moves w of.led in
+    let k : ℕ = scale opened c of.limits programs of.many (fifo_of w f.posted) in (
+      suc (rank opened c of.limits programs of.many k (fifo_of w f.posted)),
+      λ end are. answers_some opened c of.limits programs of.many w end f
+          (some_round opened c of.limits programs of.many i k
+          (suc (rank opened c of.limits programs of.many k (fifo_of w f.posted))) w end f n there
+          due
           (omega arith) (omega arith) are),
     )

@@ -33,6 +33,8 @@ use Rattle.proof_worlds.specs.stated.Settled.{HasNoAnswer}
 use Rattle.proof_worlds.specs.stated.Unblocked.{Stands, waits, replied, reached, AreUnblocked}
 use Rattle.ivy_host.specs.stated.Hosts.{Host}
 use Rattle.ivy_host.specs.stated.Managers.{Managed, managed_ops}
+use Rattle.ivy_host.specs.declared.opening.Opening.{Opening}
+use Rattle.ivy_host.specs.stated.Openings.{managed_start}
 use Rattle.ivy_memory.specs.stated.Memories.{in_progress}
 use Rattle.proof_worlds.specs.stated.FifoRuns.{FollowsInOrder}
 use Rattle.proof_worlds.proofs.consistency.Faithful.{map-places}
@@ -244,8 +246,9 @@ module _ (c : Config) (limits : IsConfig c) (w : World (Host Managed)) (order : 
       let least = rises.least in
       omega (arith, a, b, same, least)
 
-module _ (c : Config) (limits : IsConfig c) (programs : List Program)
-    (w : World (Host Managed)) (f : FollowsInOrder managed_ops c programs w) where
+module _ (opened : Opening) (c : Config) (limits : IsConfig c) (programs : List Program)
+    (w : World (Host Managed))
+    (f : FollowsInOrder managed_ops (managed_start opened) c programs w) where
   -- what each node was told is in the order
   module _ (u : AreUnblocked managed_ops c (fifo_of w f.posted).cores) (k : ℕ) where
     told_part : (i : ℕ) (n : Host Managed) → Stands managed_ops i n u.order u.last
@@ -272,7 +275,8 @@ module _ (c : Config) (limits : IsConfig c) (programs : List Program)
   no_answer_due u (Some called) [] due none = none
 
   -- and what is due stays due
-  module _ (end : World (Host Managed)) (g : FollowsInOrder managed_ops c programs end)
+  module _ (end : World (Host Managed))
+      (g : FollowsInOrder managed_ops (managed_start opened) c programs end)
       (later : AreLater (fifo_of w f.posted) (fifo_of end g.posted)) where
     node_later : (k i : ℕ)
         → advanced_by k (slice_get w.nodes i) ≤ advanced_by k (slice_get end.nodes i)

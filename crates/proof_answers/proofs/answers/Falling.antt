@@ -21,6 +21,9 @@ use Rattle.ivy_moves.specs.stated.FifoWorld.{FifoWorld, Turns, Delivers, Steps, 
 use Rattle.proof_worlds.specs.progress.Ending.{sum_below}
 use Rattle.ivy_host.specs.stated.Hosts.{Host, host_rules, serving}
 use Rattle.ivy_host.specs.stated.Managers.{Managed, managed_ops}
+use Rattle.ivy_host.specs.declared.opening.Opening.{Opening}
+use Rattle.ivy_host.specs.stated.Openings.{managed_start}
+use Rattle.ivy_host.proofs.Starts.{managed_new}
 use Rattle.ivy_host.specs.ManagedLaws.{managed_laws}
 use Rattle.ivy_alloc.specs.stated.HeapCalls.{HeapTold, heap_told}
 use Rattle.ivy_memory.specs.stated.Memories.{NodeMemory, by_side, by_coherence, memory_handled_as}
@@ -392,11 +395,12 @@ module _ (c : Config) (o u : FifoWorld (Host Managed)) (x : ℕ) (n m : Host Man
       ];
     }
 
-module _ (c : Config) (limits : IsConfig c) (programs : List Program)
+module _ (opened : Opening) (c : Config) (limits : IsConfig c) (programs : List Program)
     (many : length programs ≡ c.nodes) (o : FifoWorld (Host Managed))
-    (reached : IsReachedInOrder managed_ops c programs o) where
-  told : IsToldBy managed_ops c o
-  told = reached_told managed_ops managed_laws c limits programs many o reached
+    (reached : IsReachedInOrder managed_ops (managed_start opened) c programs o) where
+  told : IsToldBy (managed_start opened).sends_on managed_ops c o
+  told = reached_told managed_ops managed_laws (managed_start opened) c limits
+      (managed_new opened c limits) programs many o reached
 
   -- what a turn does to the node
   module _ (u : FifoWorld (Host Managed)) (x : ℕ) (t : Turns (host_rules managed_ops) o x u) where
@@ -512,7 +516,7 @@ module _ (c : Config) (limits : IsConfig c) (programs : List Program)
           after = served.memory.coherence;
           posted = (serving managed_ops t.core source t.message).posted;
         })
-    what = done cost c limits programs many o u reached source x t
+    what = done cost opened c limits programs many o u reached source x t
 
     weighs : host_weight served
         ≤ host_weight t.core + (bare cost (entry_at served.memory.coherence.table what.0)
@@ -541,7 +545,7 @@ module _ (c : Config) (limits : IsConfig c) (programs : List Program)
     falls_same is =
         let a = hosts_change c o u x t.core served t.there t.cores told.faithful.sound.count in
         let b = weighs in
-        elim (lowers cost c limits programs many o u reached source x t) [
+        elim (lowers cost opened c limits programs many o u reached source x t) [
           | inl less ↦ inl (omega (arith, a, b, is, less))
           | inr both ↦
               (let d = both.0 in inr (omega (arith, a, b, is, d), both.1))
@@ -556,10 +560,11 @@ module _ (c : Config) (limits : IsConfig c) (programs : List Program)
         let a = hosts_change c o u x t.core served t.there t.cores told.faithful.sound.count in
         let b = weighs in
         let d =
-        work_loaded cost c limits programs many o u reached source x t what.0 what.1 what.2 in
+        work_loaded cost opened c limits programs many o u reached source x t what.0 what.1 what.2
+        in
         inl (omega (arith, a, b, d, less))
     falls_by (puts_off q is none manager put claims same) = falls_same same
-    falls_by (sends_on write is posts manager none_then none plain free same) = falls_same same
+    falls_by (sends_on write is posts manager kept plain free same) = falls_same same
 
     by_delivery : After c o u
     by_delivery = record {

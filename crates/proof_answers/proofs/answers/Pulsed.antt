@@ -19,8 +19,10 @@ use Rattle.ivy_moves.specs.stated.Nodes.{Node, pulsing}
 use Rattle.ivy_moves.specs.stated.Worlds.{World, gone_on, Moves, Leads}
 use Rattle.ivy_host.specs.stated.Hosts.{Host, host_rules}
 use Rattle.ivy_host.specs.stated.Managers.{Managed, managed_ops}
+use Rattle.ivy_host.specs.declared.opening.Opening.{Opening}
+use Rattle.ivy_host.proofs.Starts.{managed_new}
 use Rattle.ivy_host.specs.ManagedLaws.{managed_laws}
-use Rattle.ivy_host.specs.stated.Openings.{opening}
+use Rattle.ivy_host.specs.stated.Openings.{managed_start, opening}
 use Rattle.ivy_host.specs.stated.Sound.{IsSoundHost}
 use Rattle.ivy_host.proofs.WellBehaved.{well_behaved, opening_is}
 use Rattle.proof_answers.specs.answers.Undropped.{NothingIsDropped, IsOfMoves}
@@ -396,8 +398,8 @@ module _ {C : Type 0} (rules : Core C) (c : Config) (Sound : ℕ → C → Type 
     pulse_acks some = pulse_heard (pulsing n j).sent refl some
 
 -- under the manager of the configuration
-module _ (c : Config) (programs : List Program) (w : World (Host Managed))
-    (of : IsOfMoves c programs w) where
+module _ (opened : Opening) (c : Config) (programs : List Program) (w : World (Host Managed))
+    (of : IsOfMoves opened c programs w) where
   pub keeps_well_behaved : IsWellBehaved (host_rules managed_ops) c (IsSoundHost managed_ops c)
   keeps_well_behaved = well_behaved managed_laws c
 
@@ -407,20 +409,22 @@ module _ (c : Config) (programs : List Program) (w : World (Host Managed))
   pub led_stands : IsGood w
   led_stands =
       (all_after (host_rules managed_ops) c (IsSoundHost managed_ops c) of.limits keeps_well_behaved of.moves
-      (opening managed_ops c programs) w
+      (opening (managed_start opened) c programs) w
       (opening_stands (host_rules managed_ops) c (IsSoundHost managed_ops c) of.limits keeps_well_behaved
-      (opening managed_ops c programs) (opening_is managed_laws c programs of.limits of.many))
+      (opening (managed_start opened) c programs)
+      (opening_is (managed_start opened) c programs of.limits (managed_new opened c of.limits)
+      of.many))
       of.led).stands
 
 pub nothing_is_dropped : NothingIsDropped
-nothing_is_dropped c programs w of =
+nothing_is_dropped opened c programs w of =
     none_dropped (host_rules managed_ops) c (IsSoundHost managed_ops c) of.limits
-    (keeps_well_behaved c programs w of) w (led_stands c programs w of)
+    (keeps_well_behaved opened c programs w of) w (led_stands opened c programs w of)
 
 pub pulses_deliver : PulsesDeliver
-pulses_deliver c programs w end of i j m moves heard there =
-    let good = led_stands c programs w of in
-    let t = keeps_well_behaved c programs w of in
+pulses_deliver opened c programs w end of i j m moves heard there =
+    let good = led_stands opened c programs w of in
+    let t = keeps_well_behaved opened c programs w of in
     let is =
     pulse_is (host_rules managed_ops) c (IsSoundHost managed_ops c) of.limits t w heard.led.0 good i j
     heard.led.1 in
@@ -436,9 +440,9 @@ pulses_deliver c programs w end of i j m moves heard there =
     there heard.heard
 
 pub pulses_move_on : PulsesMoveOn
-pulses_move_on c programs w mid end of i j m back there first some second at =
-    let good = led_stands c programs w of in
-    let t = keeps_well_behaved c programs w of in
+pulses_move_on opened c programs w mid end of i j m back there first some second at =
+    let good = led_stands opened c programs w of in
+    let t = keeps_well_behaved opened c programs w of in
     let one =
     pulse_is (host_rules managed_ops) c (IsSoundHost managed_ops c) of.limits t w first.led.0 good j i
     first.led.1 in

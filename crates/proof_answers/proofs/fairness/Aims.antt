@@ -1,12 +1,11 @@
 -- A word that waits at a node, through one step of the FIFO world: it waits on, and no longer
 -- than before, or it was carried out, or a reply is recorded.
-use Rattle.std.proofs.Common.{◌≡◌, ◌≢◌, ◌⊎◌, ◌<◌, ◌≤◌, ◌+◌, ◌==◌, ◌&&◌, if◌then◌else◌, ◌%◌, ℕ, zero, suc, Bool, true, false, List, [], ◌∷◌, length, take, cond, slice_get, slice_set, Option, Some, None, refl, sym, ap, ◌∙◌, subst, inl, inr, arith}
+use Rattle.std.proofs.Common.{◌≡◌, ◌≢◌, ◌⊎◌, ◌<◌, ◌≤◌, ◌+◌, ◌==◌, ◌&&◌, if◌then◌else◌, ℕ, zero, suc, Bool, true, false, List, [], ◌∷◌, length, take, cond, slice_get, slice_set, Option, Some, None, refl, sym, ap, ◌∙◌, subst, inl, inr, arith}
 use Rattle.std.proofs.lemmas.Bool.{cases_Bool, cases_eq, and_parts, and_right, eqb-true, ne_eqb}
 use Rattle.std.proofs.lemmas.List.{length-append, take-append-le}
 use Rattle.std.proofs.lemmas.Option.{same_Some, none-some}
 use Rattle.ivy_model.specs.declared.Config.{Config}
 use Rattle.ivy_model.specs.declared.Call.{Call}
-use Rattle.ivy_model.specs.declared.Kind.TheVariants as kind
 use Rattle.ivy_model.specs.declared.Record.{Record}
 use Rattle.ivy_model.specs.declared.Reply.{Reply}
 use Rattle.ivy_model.specs.stated.Config.{IsConfig}
@@ -23,20 +22,19 @@ use Rattle.ivy_pagetable.specs.stated.Tables.{entry_at}
 use Rattle.ivy_program.specs.stated.Programs.{Program}
 use Rattle.ivy_link.specs.stated.Paired.{posted, extended}
 use Rattle.ivy_moves.specs.stated.FifoWorld.{FifoWorld, Turns, Delivers, Steps, rests, turns, delivers, one_more}
-use Rattle.ivy_fixed.specs.stated.Fixed.{Owners, fixed_ops}
 use Rattle.ivy_coherence.specs.stated.Coherent.{Coherent}
 use Rattle.ivy_pagetable.specs.stated.Accesses.{suffices}
 use Rattle.ivy_coherence.specs.stated.MessageSteps.{handled}
 use Rattle.proof_table.specs.stated.Letters.{Letter, Place, Underway, Aside, Loose, IsAt}
-use Rattle.proof_table.specs.transitions.TableSteps.{Claim, IsPreserved}
+use Rattle.proof_table.specs.transitions.TableSteps.{Claim, IsPreservedBy}
 use Rattle.proof_table.proofs.transitions.Both.{both-kept}
-use Rattle.proof_table.proofs.routing.Awaited.{awaited}
+use Rattle.proof_table.proofs.transitions.Embedded.{embedded-kept}
 use Rattle.proof_table.proofs.waiting.Onward.{IsDue, IsWithin, IsLast}
-use Rattle.proof_table.proofs.waiting.OnwardRows.{onward_by}
-use Rattle.proof_table.proofs.waiting.Ranks.{IsReachedIn}
-use Rattle.proof_table.proofs.waiting.Targets.{IsLastAt, IsAimed, IsFollowed, followed_on}
+use Rattle.proof_table.proofs.waiting.Targets.{IsLastAt, IsFollowed, followed_on}
 use Rattle.ivy_host.specs.stated.Hosts.{Host, host_rules, serving}
 use Rattle.ivy_host.specs.stated.Managers.{Managed, managed_ops}
+use Rattle.ivy_host.specs.declared.opening.Opening.{Opening}
+use Rattle.ivy_host.specs.stated.Openings.{managed_start}
 use Rattle.ivy_host.specs.ManagedLaws.{managed_laws}
 use Rattle.ivy_host.specs.stated.Sound.{IsSoundHost}
 use Rattle.ivy_alloc.specs.stated.HeapCalls.{is_of_pages, HeapTold, heap_told}
@@ -49,7 +47,6 @@ use Rattle.ivy_host.proofs.Pages.{page_serving}
 use Rattle.proof_worlds.proofs.consistency.CopiedRows.{copied-kept}
 use Rattle.proof_worlds.proofs.consistency.Faithful.{IsFaithful}
 use Rattle.proof_worlds.proofs.consistency.CarriedWords.{Copies}
-use Rattle.proof_worlds.proofs.progress.Reached.{reached_told}
 use Rattle.proof_worlds.proofs.progress.Stopped.{IsUnanswered, unanswered}
 use Rattle.proof_worlds.proofs.refinement.HeapDeliveries.{HeapDelivery, serves, learns}
 use Rattle.proof_worlds.proofs.refinement.HeapWays.{within_taken}
@@ -58,9 +55,9 @@ use Rattle.proof_worlds.proofs.refinement.Led.{get_set}
 use Rattle.proof_worlds.proofs.refinement.LiftedEvents.{Carries, Tells, quiet, answers as is_answered}
 use Rattle.proof_worlds.proofs.refinement.LiftedHosts.{WorldTells, kept-steps}
 use Rattle.proof_worlds.proofs.refinement.LiftedSteps.{kept-delivers}
-use Rattle.proof_worlds.proofs.refinement.LiftedRuns.{Holds}
-use Rattle.proof_worlds.proofs.refinement.LiftedWorlds.{IsSoundWorld, fits_heap, letter_first, letter_taken, heap_taken}
-use Rattle.proof_answers.proofs.fairness.Bases.{IsBase, OfFixed, fixed-kept, base-kept, spare, reached_base}
+use Rattle.proof_worlds.proofs.refinement.LiftedWorlds.{IsSoundWorldBy, fits_heap, letter_first, letter_taken, heap_taken}
+use Rattle.proof_answers.proofs.fairness.Leading.{told_of}
+use Rattle.proof_answers.proofs.fairness.WaitRanks.{OfKind, spare, WaitRank, IsWaitingIn}
 use Rattle.proof_answers.proofs.fairness.Unlocking.{last_unlocks}
 
 -- the call waits at page p; it does no more, and its word was carried out; a reply was recorded
@@ -112,7 +109,7 @@ one_about : (b : Bool) (m : Message) (xs ys : List Message) → length xs ≤ le
 one_about true m xs ys le = omega (arith, le)
 one_about false m xs ys le = le
 
-fewer_about : (k : ℕ) (ms : List Message) → length (about_pages (take k ms)) ≤ length (about_pages ms)
+pub fewer_about : (k : ℕ) (ms : List Message) → length (about_pages (take k ms)) ≤ length (about_pages ms)
 fewer_about zero ms = omega arith
 fewer_about (suc k) [] = omega arith
 fewer_about (suc k) (m ∷ ms) =
@@ -175,24 +172,24 @@ core_here o o' x n m i at cores same =
     ap (slice_get o'.cores) same ∙ ap (λ l. slice_get l x) cores
     ∙ elim (get_set o.cores x n m x at) [ inl y ↦ y.1 | inr y ↦ absurd (y.0 refl) ]
 
-module _ (c : Config) (limits : IsConfig c) (fixed : c.manager ≡ kind.Fixed)
-    (programs : List Program) (many : length programs ≡ c.nodes)
-    (o o' : FifoWorld (Host Managed)) (run : IsReachedInOrder managed_ops c programs o)
+module _ (opened : Opening) (c : Config) (limits : IsConfig c) (programs : List Program)
+    (many : length programs ≡ c.nodes) (rank : WaitRank opened c programs)
+    (o o' : FifoWorld (Host Managed))
+    (run : IsReachedInOrder managed_ops (managed_start opened) c programs o)
     (step : Steps (host_rules managed_ops) o o') (i p : ℕ) (inside : p < c.pages) (called : Call)
     (history : List Record) (h : Host Managed) (there : slice_get o.cores i ≡ Some h)
     (is : IsWaiting p called history h) (due : ℕ → ℕ → ℕ) (r : ℕ)
-    (rank : IsReachedIn (net_of o) due p (p % c.nodes) c.nodes i r)
-    (ready : IsReady c
-    (reached_told managed_ops managed_laws c limits programs many o run).faithful.pages called)
+    (waits : IsWaitingIn rank o due p i r)
+    (ready : IsReady c (told_of opened c limits programs many o run).faithful.pages called)
   where
     abbrev extra : Managed
-    extra = spare c limits fixed programs many
+    extra = spare c
 
-    base : Holds managed_ops c (OfFixed c (IsBase c)) extra o
-    base = reached_base c limits fixed programs many o run
+    abbrev sends : Bool
+    sends = (managed_start opened).sends_on
 
-    world : IsSoundWorld managed_ops c o
-    world = base.0
+    world : IsSoundWorldBy sends managed_ops c o
+    world = (told_of opened c limits programs many o run).faithful.sound
 
     sound : IsSoundHost managed_ops c i h
     sound = world.sound i h there
@@ -231,41 +228,48 @@ module _ (c : Config) (limits : IsConfig c) (fixed : c.manager ≡ kind.Fixed)
         (only : (a : Place) (k : Letter) → IsAt (net_of o) a k → IsDue step_due a → k.dest ≡ i
         → (k ≡ l) × ((net_of o).entry i p ≡ (net_of o).entry i p))
         (within : IsWithin step_due (net_of o')) where
-      abbrev Claimed : Claim Owners
+      abbrev Claimed : Claim rank.Kept
       Claimed s n f =
-          IsBase c s n f
-          × IsFollowed c due step_due i p ((net_of o).entry i p) l r n
+          rank.Base s n f
+          × IsFollowed (rank.Waits s n due p i r) step_due i p ((net_of o).entry i p) l n
 
-      claimed-kept : IsPreserved fixed_ops c Claimed
-      claimed-kept = both-kept (base-kept c limits) (record {
+      claimed-kept : IsPreservedBy sends rank.small c Claimed
+      claimed-kept = both-kept rank.kept (record {
         by = λ {m} {n} {f} {notice} {n'} {f'} row of before after g.
-            followed_on c limits m _ n n'
-            (onward_by c limits row of before.0.0.0.0 before.0.0.0.1 before.1.0)
-            before.0.0.0.0 before.0.0.0.1 before.1.0 after.0.0.0.0 after.0.0.0.1
-            (awaited c n' after.0.0.0.0 after.0.0.1) after.1.0 after.1.1 due step_due i p inside
-            ((net_of o).entry i p) l r g;
+            followed_on c n n' (rank.onward row of before) (rank.order m n f before) step_due i p
+            ((net_of o).entry i p) l
+            (λ locked on_locked w.
+            rank.on row of before after due p i r inside locked on_locked w) g;
       })
 
-      first : IsFollowed c due step_due i p ((net_of o).entry i p) l r (net_of o)
+      wide-kept : IsPreservedBy sends managed_ops c (OfKind rank.embed c Claimed)
+      wide-kept =
+          embedded-kept rank.embed rank.within c Claimed (OfKind rank.embed c Claimed)
+          (λ m n f k. k) (λ s m n f kind k. (s, kind, k)) claimed-kept
+
+      first : IsFollowed (rank.Waits waits.1.0 (net_of o) due p i r) step_due i p
+          ((net_of o).entry i p) l (net_of o)
       first = record {
         promised = λ x y. fewer_about (o'.delivered x y) (o.posted x y);
-        aims = λ w. inl (record { shut = shut; others = others; only = only; reached = rank });
+        aims = λ w.
+            inl (record { shut = shut; others = others; only = only; holds = waits.1.2.1 });
       }
 
       all : (flat : ℕ → List ℕ)
-          × OfFixed c Claimed (managers_of extra o') (net_of o') flat
-          × WorldTells managed_ops (OfFixed c Claimed) c base.1.0 o o' flat
-      all = kept-steps managed_laws c (fixed-kept c Claimed claimed-kept) extra o o' base.1.0 world
-          (base.1.1.0, base.1.1.1, (base.1.1.2, first)) step
+          × OfKind rank.embed c Claimed (managers_of extra o') (net_of o') flat
+          × WorldTells managed_ops (OfKind rank.embed c Claimed) c waits.0 o o' flat
+      all = kept-steps managed_laws c wide-kept extra o o' waits.0 world
+          (waits.1.0, waits.1.1, (waits.1.2.0, first)) step
 
-      aimed : IsAimed c due step_due i p ((net_of o).entry i p) l r (net_of o')
-          ⊎ IsLastAt i p ((net_of o).entry i p) l
-      aimed = all.1.2.1.aims within
+      aimed : IsWaitingIn rank o' due p i r ⊎ IsLastAt i p ((net_of o).entry i p) l
+      aimed = elim (all.1.2.1.aims within) [
+        | inl a ↦ inl (all.0, (all.1.0, all.1.1, (all.1.2.0, a.holds)))
+        | inr last ↦ inr last
+      ]
 
     -- what a step leads to
     pub data Comes (h' : Host Managed) : Type 0 where
-      waits_on : IsWaiting p called history h' → IsReachedIn (net_of o') due p (p % c.nodes) c.nodes i r
-          → Comes h'
+      waits_on : IsWaiting p called history h' → IsWaitingIn rank o' due p i r → Comes h'
       opens : IsOpen called history h' → Comes h'
       grows : length history < length h'.history → Comes h'
 
@@ -287,10 +291,10 @@ module _ (c : Config) (limits : IsConfig c) (fixed : c.manager ≡ kind.Fixed)
 
     -- then the word waits on
     unmoved : ((s : ℕ) → step_due s i ≡ (net_of o).delivered s i) → IsWithin step_due (net_of o')
-        → IsReachedIn (net_of o') due p (p % c.nodes) c.nodes i r
+        → IsWaitingIn rank o' due p i r
     unmoved same within =
         elim (aimed dummy (λ a k at soon to. absurd (none_due same a k at soon to)) within) [
-          | inl a ↦ a.reached
+          | inl a ↦ a
           | inr last ↦ absurd (dummy_last ((net_of o).entry i p) p last.last)
         ]
 
@@ -443,9 +447,9 @@ module _ (c : Config) (limits : IsConfig c) (fixed : c.manager ≡ kind.Fixed)
                 refl,
               )
 
-          abbrev faith : IsFaithful managed_ops c o
-              (reached_told managed_ops managed_laws c limits programs many o run).order
-          faith = (reached_told managed_ops managed_laws c limits programs many o run).faithful
+          abbrev faith : IsFaithful sends managed_ops c o
+              (told_of opened c limits programs many o run).order
+          faith = (told_of opened c limits programs many o run).faithful
 
           told : (flat : ℕ → List ℕ) × Copies c (managers_of extra o') (net_of o') flat
               × Tells (Copies c) (net_of o).entry c x faith.pages k
@@ -491,7 +495,7 @@ module _ (c : Config) (limits : IsConfig c) (fixed : c.manager ≡ kind.Fixed)
                       asked = asked_on;
                       records = records_on;
                       locked = lock_now ∙ locked ∙ lock_was;
-                    }) a.reached
+                    }) a
                 | inr last ↦ absurd (none-some p (sym (frees last) ∙ locked ∙ lock_was))
               ]
 
@@ -517,6 +521,5 @@ module _ (c : Config) (limits : IsConfig c) (fixed : c.manager ≡ kind.Fixed)
           host = h;
           now = ap (λ (z : FifoWorld (Host Managed)). slice_get z.cores i) same ∙ there;
           comes = waits_on is
-              (subst (λ (z : FifoWorld (Host Managed)).
-              IsReachedIn (net_of z) due p (p % c.nodes) c.nodes i r) (sym same) rank);
+              (subst (λ (z : FifoWorld (Host Managed)). IsWaitingIn rank z due p i r) (sym same) waits);
         }

@@ -26,6 +26,10 @@ use Rattle.proof_answers.specs.answers.Undropped.{IsOfMoves}
 use Rattle.ivy_model.specs.declared.Kind.TheVariants as kind
 use Rattle.ivy_host.specs.stated.Hosts.{Host}
 use Rattle.ivy_host.specs.stated.Managers.{Managed, managed_ops}
+use Rattle.ivy_host.specs.declared.opening.Opening.{Opening}
+use Rattle.ivy_host.specs.declared.opening.Opening.TheVariants.{Configured}
+use Rattle.ivy_host.specs.stated.Openings.{managed_start}
+use Rattle.ivy_host.proofs.Starts.{managed_new}
 use Rattle.ivy_host.specs.ManagedLaws.{managed_laws}
 use Rattle.ivy_alloc.specs.declared.HeapCall.{HeapCall}
 use Rattle.ivy_alloc.specs.declared.HeapCall.TheVariants as heap
@@ -42,6 +46,8 @@ use Rattle.proof_answers.proofs.answers.Counts.{advances_in}
 use Rattle.proof_answers.proofs.answers.Falling.{AreLater, all_later}
 use Rattle.proof_answers.specs.fairness.Fairness.{IsHeapCall, IsAnswered, CallsAnswered, HeapCallsAnswered}
 use Rattle.proof_answers.proofs.fairness.Aims.{IsReady}
+use Rattle.proof_answers.proofs.fairness.Bases.{fixed_rank}
+use Rattle.proof_answers.proofs.fairness.WaitRanks.{WaitRank}
 use Rattle.proof_answers.proofs.fairness.Leading.{HasGrown, told_of}
 use Rattle.proof_answers.proofs.fairness.HeapRounds.{three_rounds_answer}
 use Rattle.proof_answers.proofs.fairness.ReadWriteRounds.{rounds_answer}
@@ -59,16 +65,18 @@ heap_of c (Some (call.Free addr)) is = (call.Free addr, heap.Free addr, refl, re
 heap_of c a is = absurd is
 
 -- If a call is due and is an await, its count has come to the least value, now and later on.
-module _ (c : Config) (limits : IsConfig c) (programs : List Program)
+module _ (opened : Opening) (c : Config) (limits : IsConfig c) (programs : List Program)
     (many : length programs ≡ c.nodes) (w : World (Host Managed))
-    (f : FollowsInOrder managed_ops c programs w) (called : Call) (due : IsDue w (Some called))
-    (o : FifoWorld (Host Managed)) (run : IsReachedInOrder managed_ops c programs o)
+    (f : FollowsInOrder managed_ops (managed_start opened) c programs w) (called : Call)
+    (due : IsDue w (Some called))
+    (o : FifoWorld (Host Managed))
+    (run : IsReachedInOrder managed_ops (managed_start opened) c programs o)
     (later : AreLater (fifo_of w f.posted) o) where
   abbrev order : List Record
-  order = (told_of c limits programs many o run).order
+  order = (told_of opened c limits programs many o run).order
 
-  abbrev faithful : IsFaithful managed_ops c o order
-  faithful = (told_of c limits programs many o run).faithful
+  abbrev faithful : IsFaithful (managed_start opened).sends_on managed_ops c o order
+  faithful = (told_of opened c limits programs many o run).faithful
 
   -- the histories come first in the parts of the order
   parts : (i : ℕ) (n : Node (Host Managed)) → slice_get w.nodes i ≡ Some n
@@ -119,21 +127,22 @@ module _ (c : Config) (limits : IsConfig c) (programs : List Program)
   is_ready : IsReady c faithful.pages called
   is_ready page offset least of = high page offset least of
 
-module _ (c : Config) (programs : List Program) (w : World (Host Managed))
-    (of : IsOfMoves c programs w) (i : ℕ) (n : Node (Host Managed))
+module _ (opened : Opening) (c : Config) (programs : List Program) (w : World (Host Managed))
+    (of : IsOfMoves opened c programs w) (i : ℕ) (n : Node (Host Managed))
     (there : slice_get w.nodes i ≡ Some n) (end : World (Host Managed)) where
   abbrev follows : (v : World (Host Managed)) → Type 0
-  follows v = FollowsInOrder managed_ops c programs v
+  follows v = FollowsInOrder managed_ops (managed_start opened) c programs v
 
   f : follows w
-  f = led_in_order managed_laws c of.limits programs of.many of.moves w of.led
+  f = led_in_order managed_laws (managed_start opened) c of.limits (managed_new opened c of.limits)
+      programs of.many of.moves w of.led
 
   here : slice_get (fifo_of w f.posted).cores i ≡ Some n.core
   here = core_of w.nodes i n there
 
   -- a history that is longer in the FIFO world is that of the node
   is_answered : (g : follows end)
-      → HasGrown c of.limits programs of.many i n.core.history (fifo_of end g.posted)
+      → HasGrown opened c of.limits programs of.many i n.core.history (fifo_of end g.posted)
       → IsAnswered w end i
   is_answered g grown =
       let node = map-places (λ (m : Node (Host Managed)). m.core) end.nodes i grown.0 grown.1 in (
@@ -149,33 +158,61 @@ module _ (c : Config) (programs : List Program) (w : World (Host Managed))
       → asked_of c called ≡ kinds.Heap k → (more : ℕ)
       → AreRounds c i (suc (suc (suc more))) w end → IsAnswered w end i
   by_heap called asked k is more are =
-      let g = three_rounds_answer c of.limits programs of.many i called k is n.core.history more w end
+      let g = three_rounds_answer opened c of.limits programs of.many i called k is n.core.history
+      more w end
       f n.core here asked refl are in
       is_answered g.0 g.1
 
-  -- a call that is due, by what it asks for
-  module _ (fixed : c.manager ≡ kind.Fixed) (called : Call) (asked : n.core.memory.asked ≡ Some called)
-      (due : IsDue w (Some called)) (are : AreRounds c i (6 * c.nodes + 3) w end) where
-    by_kind : (a : Asked) → asked_of c called ≡ a → IsAnswered w end i
-    by_kind (kinds.Refused code) is =
-        absurd ((told_of c of.limits programs of.many (fifo_of w f.posted) f.reached).servable i
-        n.core here called code asked is)
-    by_kind (kinds.Word page word) is =
-        let g = rounds_answer c of.limits fixed programs of.many i called page word is
-        (fifo_of w f.posted) (is_ready c of.limits programs of.many w f called due) w end f n
-        there asked (all_later (fifo_of w f.posted)) are in
-        is_answered g.0 g.1
-    by_kind (kinds.Heap k) is =
-        let e : 6 * c.nodes + 3 ≡ suc (suc (suc (6 * c.nodes))) = omega arith in
-        by_heap called asked k is (6 * c.nodes) (subst (λ z. AreRounds c i z w end) e are)
+-- A call that is due, by what it asks for.
+module _ (opened : Opening) (c : Config) (programs : List Program)
+    (rank : WaitRank opened c programs) (w : World (Host Managed))
+    (of : IsOfMoves opened c programs w) (i : ℕ) (n : Node (Host Managed))
+    (there : slice_get w.nodes i ≡ Some n) (end : World (Host Managed)) (called : Call)
+    (asked : n.core.memory.asked ≡ Some called) (due : IsDue w (Some called))
+    (are : AreRounds c i (rank.most + 3) w end) where
+  started : FollowsInOrder managed_ops (managed_start opened) c programs w
+  started = f opened c programs w of i n there end
 
-pub calls_answered : CallsAnswered
-calls_answered c programs w of fixed i n there due end are =
+  by_kind : (a : Asked) → asked_of c called ≡ a → IsAnswered w end i
+  by_kind (kinds.Refused code) is =
+      absurd ((told_of opened c of.limits programs of.many (fifo_of w started.posted)
+      started.reached).servable i n.core (here opened c programs w of i n there end) called code
+      asked is)
+  by_kind (kinds.Word page word) is =
+      let g = rounds_answer opened c of.limits programs of.many rank i called page word is
+      (fifo_of w started.posted)
+      (is_ready opened c of.limits programs of.many w started called due) w end started n
+      there asked (all_later (fifo_of w started.posted)) are in
+      is_answered opened c programs w of i n there end g.0 g.1
+  by_kind (kinds.Heap k) is =
+      let e : rank.most + 3 ≡ suc (suc (suc rank.most)) = omega arith in
+      by_heap opened c programs w of i n there end called asked k is rank.most
+      (subst (λ z. AreRounds c i z w end) e are)
+
+-- three rounds more than a word waits at most answer a call that is due
+pub due_answered : (opened : Opening) (c : Config) (programs : List Program)
+    → (rank : WaitRank opened c programs) (w : World (Host Managed)) → IsOfMoves opened c programs w
+    → (i : ℕ) (n : Node (Host Managed)) → slice_get w.nodes i ≡ Some n
+    → IsDue w n.core.memory.asked → (end : World (Host Managed))
+    → AreRounds c i (rank.most + 3) w end → IsAnswered w end i
+due_answered opened c programs rank w of i n there due end are =
     let called = call_of w n.core.memory.asked due in
-    by_kind c programs w of i n there end fixed called.0 called.1 called.2 are
+    by_kind opened c programs rank w of i n there end called.0 called.1 called.2 are
     (asked_of c called.0) refl
 
+managed_answered : (c : Config) (programs : List Program) (w : World (Host Managed))
+    → IsOfMoves Configured c programs w → c.manager ≡ kind.Fixed → (i : ℕ) (n : Node (Host Managed))
+    → slice_get w.nodes i ≡ Some n → IsDue w n.core.memory.asked
+    → (end : World (Host Managed)) → AreRounds c i (6 * c.nodes + 3) w end → IsAnswered w end i
+managed_answered c programs w of fixed =
+    due_answered Configured c programs (fixed_rank c of.limits fixed programs of.many) w of
+
+pub calls_answered : CallsAnswered
+calls_answered opened c programs w of named fixed i n there due end are =
+    managed_answered c programs w (subst (λ k. IsOfMoves k c programs w) named of) fixed i n there
+    due end are
+
 pub heap_calls_answered : HeapCallsAnswered
-heap_calls_answered c programs w of i n there heap end are =
+heap_calls_answered opened c programs w of i n there heap end are =
     let called = heap_of c n.core.memory.asked heap in
-    by_heap c programs w of i n there end called.0 called.2 called.1 called.3 0 are
+    by_heap opened c programs w of i n there end called.0 called.2 called.1 called.3 0 are

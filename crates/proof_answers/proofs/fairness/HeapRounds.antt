@@ -21,6 +21,8 @@ use Rattle.ivy_moves.specs.stated.Worlds.{World}
 use Rattle.proof_answers.specs.answers.NodeRounds.{IsRound, AreRounds}
 use Rattle.ivy_host.specs.stated.Hosts.{Host, host_rules, serving}
 use Rattle.ivy_host.specs.stated.Managers.{Managed, managed_ops}
+use Rattle.ivy_host.specs.declared.opening.Opening.{Opening}
+use Rattle.ivy_host.specs.stated.Openings.{managed_start}
 use Rattle.ivy_host.specs.stated.Sound.{IsSoundHost}
 use Rattle.ivy_alloc.specs.declared.HeapRequest.{HeapRequest}
 use Rattle.ivy_alloc.specs.declared.HeapRequest.TheVariants as heap_request
@@ -35,7 +37,7 @@ use Rattle.ivy_host.proofs.Pages.{page_serving, serve-pages}
 use Rattle.ivy_alloc.proofs.HeapSides.{answer_heap}
 use Rattle.proof_worlds.proofs.refinement.HeapDeliveries.{HeapDelivery, serves, learns}
 use Rattle.proof_worlds.proofs.refinement.HeapWays.{heap_there, heap_quiet, way_turned, way_other, way_page}
-use Rattle.proof_worlds.proofs.refinement.LiftedWorlds.{IsSoundWorld, fits_heap}
+use Rattle.proof_worlds.proofs.refinement.LiftedWorlds.{IsSoundWorldBy, fits_heap}
 use Rattle.proof_answers.proofs.answers.Falling.{IsLaterAt, by_step}
 use Rattle.proof_answers.proofs.fairness.Leading.{HasGrown as Grown, Records, told_of, grown_on, round_on, all_there, reply_records, rounds_record}
 use Rattle.proof_answers.proofs.fairness.Aims.{served_asked, served_history, core_elsewhere, core_here}
@@ -133,8 +135,8 @@ still_on_way limit a b o o' is takes m way = record {
       ∙ none_added is.message m (heap_way o a b) (about_heap takes.more) is.way (sym takes.way ∙ way);
 }
 
-module _ (c : Config) (o o' : FifoWorld (Host Managed)) (world : IsSoundWorld managed_ops c o)
-    (a b : ℕ) where
+module _ {sends : Bool} (c : Config) (o o' : FifoWorld (Host Managed))
+    (world : IsSoundWorldBy sends managed_ops c o) (a b : ℕ) where
   takes_by : (source x : ℕ) (t : Delivers (host_rules managed_ops) o source x o') (about : Bool)
       → is_of_pages t.message.content ≡ about → TakesNone a b o o' ⊎ TakesOne a b o o'
   takes_by source x t true about =
@@ -176,23 +178,24 @@ module _ (c : Config) (o o' : FifoWorld (Host Managed)) (world : IsSoundWorld ma
   })
   takes (delivers source x t) = takes_by source x t (is_of_pages t.message.content) refl
 
-module _ (c : Config) (limits : IsConfig c) (programs : List Program)
+module _ (opened : Opening) (c : Config) (limits : IsConfig c) (programs : List Program)
     (many : length programs ≡ c.nodes) (i : ℕ) (called : Call) (k : HeapCall)
     (of : asked_of c called ≡ kinds.Heap k) (history : List Record) where
   abbrev Follower : World (Host Managed) → Type 0
-  Follower v = FollowsInOrder managed_ops c programs v
+  Follower v = FollowsInOrder managed_ops (managed_start opened) c programs v
 
   abbrev order_of : (v : World (Host Managed)) → Follower v → FifoWorld (Host Managed)
   order_of v f = fifo_of v f.posted
 
   abbrev IsRun : FifoWorld (Host Managed) → Type 0
-  IsRun o = IsReachedInOrder managed_ops c programs o
+  IsRun o = IsReachedInOrder managed_ops (managed_start opened) c programs o
 
   abbrev HasGrown : FifoWorld (Host Managed) → Type 0
-  HasGrown o = Grown c limits programs many i history o
+  HasGrown o = Grown opened c limits programs many i history o
 
-  world : (o : FifoWorld (Host Managed)) → IsRun o → IsSoundWorld managed_ops c o
-  world o run = (told_of c limits programs many o run).faithful.sound
+  world : (o : FifoWorld (Host Managed)) → IsRun o
+      → IsSoundWorldBy (managed_start opened).sends_on managed_ops c o
+  world o run = (told_of opened c limits programs many o run).faithful.sound
 
   -- the call is in progress
   record IsBusy (h : Host Managed) : Type 0 where
@@ -262,7 +265,7 @@ module _ (c : Config) (limits : IsConfig c) (programs : List Program)
     busy_on h there busy = by_more m.0 m.1 m.2 m.2.more refl
       where
         m : (m : Host Managed) × (slice_get o'.cores i ≡ Some m) × IsLaterAt h m
-        m = (by_step c limits programs many o run o' step).later.at i h there
+        m = (by_step opened c limits programs many o run o' step).later.at i h there
 
         by_more : (h' : Host Managed) → slice_get o'.cores i ≡ Some h' → (later : IsLaterAt h h')
             → (more : List Record) → later.more ≡ more
@@ -327,11 +330,13 @@ module _ (c : Config) (limits : IsConfig c) (programs : List Program)
           ∙ ap (λ (z : Host Managed). z.memory.side.heap_request) it ∙ is)
 
     told_on : IsTold o → IsTold o'
-    told_on (recorded grown) = recorded (grown_on c limits programs many i history o o' run step grown)
+    told_on (recorded grown) =
+        recorded (grown_on opened c limits programs many i history o o' run step grown)
     told_on (told h there busy r is) = by_steps step
       where
-        there_on : Steps (host_rules managed_ops) o o' → Records c limits programs many i history h
-        there_on any = reply_records c limits programs many i history h called busy.asked
+        there_on : Steps (host_rules managed_ops) o o'
+            → Records opened c limits programs many i history h
+        there_on any = reply_records opened c limits programs many i history h called busy.asked
             busy.records r
             (ap (λ e. first_reply (reply_told e) (reply_there h.memory.coherence.done)) is)
 
@@ -442,7 +447,7 @@ module _ (c : Config) (limits : IsConfig c) (programs : List Program)
       → IsSent (length (f.posted i 0)) (order_of u f)
       → (g : Follower v) × (back : ℕ) × IsServed back (order_of v g)
   sent_round u v f round is =
-      let l = round_on c limits programs many (IsSent (length (f.posted i 0)))
+      let l = round_on opened c limits programs many (IsSent (length (f.posted i 0)))
       (λ o o' run step. sent_on o o' run step (length (f.posted i 0))) i u v f round is in
       let s = served_by l.follows l.kept in
       (l.follows, s.0, s.1)
@@ -452,13 +457,13 @@ module _ (c : Config) (limits : IsConfig c) (programs : List Program)
       served_by g (went back served) = (back, served)
       served_by g (going h there busy none way) =
           absurd (arrives (length (f.posted i 0)) i 0 (order_of v g) way
-          (all_there c limits programs many i u v f round g i 0))
+          (all_there opened c limits programs many i u v f round g i 0))
 
   -- and one brings the answer back
   served_round : (back : ℕ) (u v : World (Host Managed)) (f : Follower u) → IsRound c i u v
       → IsServed back (order_of u f) → (g : Follower v) × IsTold (order_of v g)
   served_round back u v f round is =
-      let l = round_on c limits programs many (IsServed (length (f.posted 0 i)))
+      let l = round_on opened c limits programs many (IsServed (length (f.posted 0 i)))
       (λ o o' run step. served_on o o' run step (length (f.posted 0 i))) i u v f round (anew is) in
       (l.follows, told_by l.follows l.kept)
     where
@@ -472,18 +477,18 @@ module _ (c : Config) (limits : IsConfig c) (programs : List Program)
       told_by g (came t) = t
       told_by g (coming h there busy way) =
           absurd (arrives (length (f.posted 0 i)) 0 i (order_of v g) way
-          (all_there c limits programs many i u v f round g 0 i))
+          (all_there opened c limits programs many i u v f round g 0 i))
 
   -- then the node's turn records the reply
   told_records : (o : FifoWorld (Host Managed)) → IsRun o → IsTold o
       → HasGrown o
       ⊎ ((h : Host Managed) × (slice_get o.cores i ≡ Some h)
-      × Records c limits programs many i history h)
+      × Records opened c limits programs many i history h)
   told_records o run (recorded grown) = inl grown
   told_records o run (told h there busy r is) = inr (
     h,
     there,
-    reply_records c limits programs many i history h called busy.asked busy.records r
+    reply_records opened c limits programs many i history h called busy.asked busy.records r
         (ap (λ e. first_reply (reply_told e) (reply_there h.memory.coherence.done)) is),
   )
 
@@ -496,5 +501,6 @@ module _ (c : Config) (limits : IsConfig c) (programs : List Program)
       let busy : IsBusy h = record { asked = asked; records = records } in
       let one = sent_round u are.0 f are.1 (is_sent (order_of u f) f.reached h there busy) in
       let two = served_round one.1 are.0 are.2.0 one.0 are.2.1 one.2 in
-      rounds_record c limits programs many i history IsTold told_on told_records more are.2.0 v two.0
+      rounds_record opened c limits programs many i history IsTold told_on told_records more are.2.0
+      v two.0
       are.2.2 two.1

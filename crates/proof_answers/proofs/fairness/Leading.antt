@@ -25,13 +25,16 @@ use Rattle.ivy_moves.proofs.Places.{core_of, link_of}
 use Rattle.proof_answers.specs.answers.NodeRounds.{IsRound, AreRounds}
 use Rattle.ivy_host.specs.stated.Hosts.{Host, host_rules, serving, turn_of, recorded}
 use Rattle.ivy_host.specs.stated.Managers.{Managed, managed_ops}
+use Rattle.ivy_host.specs.declared.opening.Opening.{Opening}
+use Rattle.ivy_host.specs.stated.Openings.{managed_start}
+use Rattle.ivy_host.proofs.Starts.{managed_new}
 use Rattle.ivy_host.specs.ManagedLaws.{managed_laws}
 use Rattle.ivy_host.specs.stated.Sound.{IsSoundHost}
 use Rattle.ivy_memory.specs.stated.Memories.{reply_at, taken_out}
 use Rattle.proof_worlds.specs.stated.FifoRuns.{IsReachedInOrder, FollowsInOrder}
 use Rattle.ivy_host.proofs.WellBehaved.{well_behaved}
 use Rattle.proof_worlds.proofs.consistency.Faithful.{map-places}
-use Rattle.proof_worlds.proofs.refinement.LiftedWorlds.{IsSoundWorld}
+use Rattle.proof_worlds.proofs.refinement.LiftedWorlds.{IsSoundWorldBy}
 use Rattle.proof_worlds.proofs.progress.Reached.{IsToldBy, reached_told}
 use Rattle.proof_worlds.proofs.progress.Stopped.{replied_turn}
 use Rattle.proof_answers.proofs.answers.Answering.{Apart, leads_apart, turn_leads}
@@ -56,22 +59,24 @@ then_longer o u v a b x y = (
 )
 
 -- the explaining order of a world that is reached, and what goes with it
-abbrev pub told_of : (c : Config) → IsConfig c → (programs : List Program)
+abbrev pub told_of : (opened : Opening) (c : Config) → IsConfig c → (programs : List Program)
     → length programs ≡ c.nodes → (o : FifoWorld (Host Managed))
-    → IsReachedInOrder managed_ops c programs o → IsToldBy managed_ops c o
-told_of c limits programs many o run =
-    reached_told managed_ops managed_laws c limits programs many o run
+    → IsReachedInOrder managed_ops (managed_start opened) c programs o
+    → IsToldBy (managed_start opened).sends_on managed_ops c o
+told_of opened c limits programs many o run =
+    reached_told managed_ops managed_laws (managed_start opened) c limits
+    (managed_new opened c limits) programs many o run
 
-module _ (c : Config) (limits : IsConfig c) (programs : List Program)
+module _ (opened : Opening) (c : Config) (limits : IsConfig c) (programs : List Program)
     (many : length programs ≡ c.nodes) where
   abbrev Follower : World (Host Managed) → Type 0
-  Follower v = FollowsInOrder managed_ops c programs v
+  Follower v = FollowsInOrder managed_ops (managed_start opened) c programs v
 
   abbrev order_of : (v : World (Host Managed)) → Follower v → FifoWorld (Host Managed)
   order_of v f = fifo_of v f.posted
 
   abbrev IsRun : FifoWorld (Host Managed) → Type 0
-  IsRun o = IsReachedInOrder managed_ops c programs o
+  IsRun o = IsReachedInOrder managed_ops (managed_start opened) c programs o
 
   keeps_well_behaved : IsWellBehaved (host_rules managed_ops) c (IsSoundHost managed_ops c)
   keeps_well_behaved = well_behaved managed_laws c
@@ -140,8 +145,8 @@ module _ (c : Config) (limits : IsConfig c) (programs : List Program)
   -- what was posted before a round is delivered by its end
   module _ (i : ℕ) (u v : World (Host Managed)) (f : Follower u) (round : IsRound c i u v)
       (g : Follower v) where
-    world : IsSoundWorld managed_ops c (order_of u f)
-    world = (told_of c limits programs many (order_of u f) f.reached).faithful.sound
+    world : IsSoundWorldBy (managed_start opened).sends_on managed_ops c (order_of u f)
+    world = (told_of opened c limits programs many (order_of u f) f.reached).faithful.sound
 
     node_at : (z : World (Host Managed)) (e : Follower z) (j : ℕ) → j < c.nodes
         → (n : Node (Host Managed)) × (slice_get z.nodes j ≡ Some n)
@@ -182,7 +187,7 @@ module _ (c : Config) (limits : IsConfig c) (programs : List Program)
     pub grown_on : (o o' : FifoWorld (Host Managed)) → IsRun o → Steps (host_rules managed_ops) o o'
         → HasGrown o → HasGrown o'
     grown_on o o' run step g =
-        let m = (by_step c limits programs many o run o' step).later.at i g.0 g.1 in
+        let m = (by_step opened c limits programs many o run o' step).later.at i g.0 g.1 in
         let le = no_shorter g.0 m.0 m.2 in
         let more = g.2 in
         (m.0, m.1, omega (arith, more, le))
@@ -232,7 +237,7 @@ module _ (c : Config) (limits : IsConfig c) (programs : List Program)
         by_turn (inr is) =
             let node = map-places (λ (m : Node (Host Managed)). m.core) apart.mid.nodes i is.0 is.1 in
             let came =
-            turn_leads c limits programs many apart.mid apart.after.0 i node.0 node.1 is.2.0
+            turn_leads opened c limits programs many apart.mid apart.after.0 i node.0 node.1 is.2.0
             (ap (turn_of managed_ops) node.2 ∙ is.2.1) apart.after.1 in (
               turn.follows,
               (

@@ -1,30 +1,24 @@
 -- A node that reads or writes, through rounds: it waits no longer than so many of them, and then
 -- its next turn records the reply.
-use Rattle.std.proofs.Common.{◌≡◌, ◌⊎◌, ◌<◌, ◌≤◌, ◌+◌, ◌*◌, ◌%◌, ℕ, zero, suc, Bool, true, false, List, [], ◌∷◌, ◌++◌, length, take, cond, slice_get, Option, Some, None, refl, sym, ap, ◌∙◌, subst, inl, inr, arith}
-use Rattle.std.proofs.lemmas.Bool.{cases_Bool, cases_eq, cases_lt, both_ways, le-leb}
+use Rattle.std.proofs.Common.{◌≡◌, ◌⊎◌, ◌<◌, ◌≤◌, ◌+◌, ℕ, zero, suc, Bool, true, false, List, [], ◌∷◌, ◌++◌, length, take, cond, slice_get, Option, Some, None, refl, sym, ap, ◌∙◌, subst, inl, inr, arith}
+use Rattle.std.proofs.lemmas.Bool.{cases_eq, cases_lt, both_ways, le-leb}
 use Rattle.std.proofs.lemmas.List.{length-append, get_or_past}
-use Rattle.std.proofs.lemmas.Option.{same_Some, none-some}
-use Rattle.std.specs.Ordering.{nat_cmp}
-use Rattle.std.specs.FinSet as set
-use Rattle.std.specs.FinSet.{contains-empty}
+use Rattle.std.proofs.lemmas.Option.{same_Some, none-some, slice_get_within}
 use Rattle.ivy_model.specs.declared.Config.{Config}
 use Rattle.ivy_model.specs.declared.Call.{Call}
-use Rattle.ivy_model.specs.declared.Kind.TheVariants as kind
 use Rattle.ivy_model.specs.declared.Record.{Record}
 use Rattle.ivy_model.specs.declared.Reply.{Reply}
 use Rattle.ivy_model.specs.stated.Config.{IsConfig}
-use Rattle.ivy_wire.specs.declared.Content.TheVariants as content
 use Rattle.ivy_wire.specs.stated.Data.{Message}
 use Rattle.ivy_pagetable.specs.declared.Entry.{Entry}
 use Rattle.ivy_pagetable.specs.declared.Entry.TheVariants as entry
 use Rattle.ivy_pagetable.specs.declared.Word.{Word}
 use Rattle.ivy_pagetable.specs.declared.Word.TheVariants as word
 use Rattle.ivy_pagetable.specs.stated.Accesses.{reads}
-use Rattle.ivy_pagetable.specs.stated.Entries.{is_locked, is_owner, copies_of, nothing, readable}
+use Rattle.ivy_pagetable.specs.stated.Entries.{is_locked, nothing, readable}
 use Rattle.ivy_pagetable.specs.stated.Manager.{Ops}
 use Rattle.ivy_pagetable.specs.stated.States.{IdleState}
 use Rattle.ivy_pagetable.specs.stated.Words.{number_at}
-use Rattle.ivy_pagetable.proofs.NodeSets.{sets_equal}
 use Rattle.ivy_pagetable.specs.stated.Tables.{entry_at, page_at}
 use Rattle.ivy_program.specs.stated.Programs.{Program}
 use Rattle.ivy_moves.specs.declared.Move.TheVariants.{Turn}
@@ -37,15 +31,14 @@ use Rattle.ivy_moves.proofs.Places.{core_of}
 use Rattle.ivy_coherence.specs.stated.Coherent.{Coherent}
 use Rattle.ivy_coherence.specs.stated.MessageSteps.{handled}
 use Rattle.proof_table.specs.stated.Letters.{Net}
-use Rattle.proof_table.specs.stated.Orderly.{Collects, HasCopy, At}
-use Rattle.proof_table.specs.stated.Sending.{IsPosted}
-use Rattle.proof_table.proofs.routing.Awaited.{awaited}
-use Rattle.proof_table.proofs.waiting.Bounds.{first_reached, manager_answered}
-use Rattle.proof_table.proofs.waiting.Ranks.{IsReachedIn}
-use Rattle.proof_table.proofs.waiting.Restarts.{AreMissed, next_due, all_next, reached_none, reached_less}
+use Rattle.proof_table.specs.transitions.TableSteps.{Claim, IsPreservedBy}
+use Rattle.proof_table.proofs.transitions.Embedded.{embedded-kept}
+use Rattle.proof_table.proofs.waiting.Restarts.{next_due}
 use Rattle.proof_answers.specs.answers.NodeRounds.{IsRound, AreRounds}
 use Rattle.ivy_host.specs.stated.Hosts.{Host, host_rules, serving, turn_of, recorded}
 use Rattle.ivy_host.specs.stated.Managers.{Managed, managed_ops}
+use Rattle.ivy_host.specs.declared.opening.Opening.{Opening}
+use Rattle.ivy_host.specs.stated.Openings.{managed_start}
 use Rattle.ivy_host.specs.ManagedLaws.{managed_laws}
 use Rattle.ivy_host.specs.stated.Sound.{IsSoundHost}
 use Rattle.ivy_alloc.specs.stated.HeapCalls.{is_of_pages, reply_told}
@@ -58,17 +51,17 @@ use Rattle.ivy_host.proofs.Pages.{page_serving}
 use Rattle.proof_worlds.proofs.consistency.Faithful.{map-places}
 use Rattle.proof_worlds.proofs.refinement.HostTurns.{HostTurn, answers, tries_again, goes_on, refuses, asks_for, serves_heap, asks_heap, turn_cases}
 use Rattle.proof_worlds.proofs.refinement.LiftedEvents.{Tells, quiet, answers as is_answered}
+use Rattle.proof_worlds.proofs.refinement.FifoRuns.{letters_below}
 use Rattle.proof_worlds.proofs.refinement.LiftedRuns.{Holds}
 use Rattle.proof_worlds.proofs.refinement.LiftedSteps.{kept-delivers}
 use Rattle.proof_worlds.proofs.refinement.LiftedWorlds.{fits_heap}
 use Rattle.proof_worlds.proofs.progress.Pursued.{IsPlain}
 use Rattle.proof_worlds.proofs.progress.Reached.{IsToldBy}
-use Rattle.proof_worlds.proofs.progress.Shares.{HasShare, has, gave, IsOccupied, HasAccurateCopySets}
 use Rattle.proof_worlds.proofs.progress.Stopped.{replied_turn, tries, await_answered}
 use Rattle.proof_answers.proofs.answers.Answering.{Apart, leads_apart, turn_leads}
 use Rattle.proof_answers.proofs.answers.Falling.{AreLater, all_then, no_shorter, by_step}
-use Rattle.proof_answers.proofs.fairness.Bases.{IsBase, OfFixed, fixed-kept, base-kept, spare, reached_base}
 use Rattle.proof_answers.proofs.fairness.Leading.{IsLonger, IsLed, HasGrown as Grown, Records, told_of, led_on, round_on, all_there, reply_records, rounds_record}
+use Rattle.proof_answers.proofs.fairness.WaitRanks.{OfKind, spare, IsEnded, WaitRank, IsWaitingIn}
 use Rattle.proof_answers.proofs.fairness.Aims.{IsWaiting, IsOpen, Comes, waits_on, opens, grows, Stepped, one_step, heap_still, IsReady, served_asked, served_history, core_elsewhere, core_here}
 
 -- no reply at all: none of a word that was carried out
@@ -89,38 +82,6 @@ all_about zero (m ∷ xs) ys le = absurd (omega (arith, le))
 all_about (suc k) (m ∷ xs) ys le =
     one_about (is_of_pages m.content) m (about_pages xs) (about_pages (take k (xs ++ ys)))
     (all_about k xs ys (omega (arith, le)))
-
--- an owner that collects misses some, who has a share
-module _ (c : Config) (n : Net) (covered : HasAccurateCopySets n) (p : ℕ) where
-  all_given : (e : Entry) (y : ℕ) → n.entry y p ≡ e → is_owner e ≡ true → is_locked e ≡ true
-      → ((x call : ℕ) → Collects e call x → ⊥) → ⊥
-  all_given (entry.Idle s) y is own shut none = (let f : false ≡ true = shut in cc)
-  all_given (entry.AwaitRead s) y is own shut none = (let f : false ≡ true = own in cc)
-  all_given (entry.AwaitWrite s) y is own shut none = (let f : false ≡ true = own in cc)
-  all_given (entry.AwaitAcks s) y is own shut none =
-      (subst IsOccupied is (covered.occupied y p))
-      (sets_equal s.left set.empty (λ x. elim (cases_Bool (set.contains s.left x)) [
-        | inl held ↦ absurd (none x s.waiting.call (refl, held))
-        | inr out ↦ out ∙ sym (contains-empty nat_cmp x)
-      ]))
-
-  shared : (e : Entry) (y x call : ℕ) → n.entry y p ≡ e → Collects e call x → HasShare n y x p
-  shared (entry.Idle s) y x call is col = absurd col
-  shared (entry.AwaitRead s) y x call is col = absurd col
-  shared (entry.AwaitWrite s) y x call is col = absurd col
-  shared (entry.AwaitAcks s) y x call is col =
-      covered.members p y x s.left (At y) (refl, ap is_owner is, sym (ap copies_of is)) col.1
-
-  share_either : (y x : ℕ) → HasShare n y x p
-      → HasCopy n x p ⊎ IsPosted n (content.InvalAck p) x y
-  share_either y x (has copy) = inl copy
-  share_either y x (gave ack) = inr ack
-
-  pub missed : AreMissed n p
-  missed = record {
-    some = λ y own shut none. all_given (n.entry y p) y refl own shut none;
-    has = λ y x call col. share_either y x (shared (n.entry y p) y x call refl col);
-  }
 
 -- a word is an await, or is not
 plain_or_await : (w : Word)
@@ -152,24 +113,53 @@ await_waits ops n called asked c config none free page offset least of s idle un
 )
 
 -- In the worlds after `start`, where the call is an await, its count has come to the least value.
-module _ (c : Config) (limits : IsConfig c) (fixed : c.manager ≡ kind.Fixed)
-    (programs : List Program) (many : length programs ≡ c.nodes) (i : ℕ) (called : Call)
+module _ (opened : Opening) (c : Config) (limits : IsConfig c) (programs : List Program)
+    (many : length programs ≡ c.nodes) (rank : WaitRank opened c programs) (i : ℕ) (called : Call)
     (page : ℕ) (w : Word) (of : asked_of c called ≡ kinds.Word page w)
     (start : FifoWorld (Host Managed))
-    (ready : (o : FifoWorld (Host Managed)) (run : IsReachedInOrder managed_ops c programs o)
+    (ready : (o : FifoWorld (Host Managed))
+    (run : IsReachedInOrder managed_ops (managed_start opened) c programs o)
     → AreLater start o
-    → IsReady c (told_of c limits programs many o run).faithful.pages called) where
+    → IsReady c (told_of opened c limits programs many o run).faithful.pages called) where
   abbrev Follower : World (Host Managed) → Type 0
-  Follower v = FollowsInOrder managed_ops c programs v
+  Follower v = FollowsInOrder managed_ops (managed_start opened) c programs v
 
   abbrev order_of : (v : World (Host Managed)) → Follower v → FifoWorld (Host Managed)
   order_of v f = fifo_of v f.posted
 
   abbrev IsRun : FifoWorld (Host Managed) → Type 0
-  IsRun o = IsReachedInOrder managed_ops c programs o
+  IsRun o = IsReachedInOrder managed_ops (managed_start opened) c programs o
 
-  abbrev told : (o : FifoWorld (Host Managed)) → IsRun o → IsToldBy managed_ops c o
-  told o run = told_of c limits programs many o run
+  abbrev sends : Bool
+  sends = (managed_start opened).sends_on
+
+  abbrev told : (o : FifoWorld (Host Managed)) → IsRun o → IsToldBy sends managed_ops c o
+  told o run = told_of opened c limits programs many o run
+
+  abbrev Kind : Claim Managed
+  Kind = OfKind rank.embed c rank.Base
+
+  kind-kept : IsPreservedBy sends managed_ops c Kind
+  kind-kept =
+      embedded-kept rank.embed rank.within c rank.Base Kind (λ m n f k. k)
+      (λ s m n f kind k. (s, kind, k)) rank.kept
+
+  -- between events no letter is loose, and all are at the nodes
+  between : (o : FifoWorld (Host Managed)) → IsRun o → (due : ℕ → ℕ → ℕ)
+      → ((x y : ℕ) → due x y ≤ (net_of o).delivered x y) → IsEnded c due (net_of o)
+  between o run due ended = record {
+    ended = ended;
+    none = refl;
+    below = letters_below managed_ops c o (told o run).faithful.sound;
+  }
+
+  -- a node that is there is one of the nodes
+  node_below : (o : FifoWorld (Host Managed)) → IsRun o → (h : Host Managed)
+      → slice_get o.cores i ≡ Some h → i < c.nodes
+  node_below o run h there =
+      let low = slice_get_within o.cores i h there in
+      let count = (told o run).faithful.sound.count in
+      omega (arith, low, count)
 
   -- the call was carried out, or its reply was recorded
   pub data IsPast (history : List Record) (o : FifoWorld (Host Managed)) : Type 0 where
@@ -182,7 +172,7 @@ module _ (c : Config) (limits : IsConfig c) (fixed : c.manager ≡ kind.Fixed)
   pub data Stage (history : List Record) (p : ℕ) (due : ℕ → ℕ → ℕ) (r : ℕ) (o : FifoWorld (Host Managed))
       : Type 0 where
     waiting : (h : Host Managed) → slice_get o.cores i ≡ Some h → IsWaiting p called history h
-        → IsReachedIn (net_of o) due p (p % c.nodes) c.nodes i r → AreLater start o
+        → IsWaitingIn rank o due p i r → AreLater start o
         → Stage history p due r o
     past : IsPast history o → Stage history p due r o
 
@@ -199,29 +189,30 @@ module _ (c : Config) (limits : IsConfig c) (fixed : c.manager ≡ kind.Fixed)
       opened.told.1
 
   abbrev HasGrown : List Record → FifoWorld (Host Managed) → Type 0
-  HasGrown history o = Grown c limits programs many i history o
+  HasGrown history o = Grown opened c limits programs many i history o
 
   -- so its turn records the reply
   past_records : (history : List Record) (o : FifoWorld (Host Managed)) → IsRun o → IsPast history o
       → HasGrown history o
       ⊎ ((h : Host Managed) × (slice_get o.cores i ≡ Some h)
-      × Records c limits programs many i history h)
+      × Records opened c limits programs many i history h)
   past_records history o run (answered h there more) = inl (h, there, more)
-  past_records history o run (carried h there opened) =
-      let r : (r : Reply) × (reply_at h.memory ≡ Some r) = reply_is history h opened in
+  past_records history o run (carried h there told_so) =
+      let r : (r : Reply) × (reply_at h.memory ≡ Some r) = reply_is history h told_so in
       inr (
         h,
         there,
-        reply_records c limits programs many i history h called opened.asked opened.records r.0 r.1,
+        reply_records opened c limits programs many i history h called told_so.asked
+            told_so.records r.0 r.1,
       )
 
   module _ (o o' : FifoWorld (Host Managed)) (run : IsRun o) (step : Steps (host_rules managed_ops) o o')
       (history : List Record) where
     later : AreLater o o'
-    later = (by_step c limits programs many o run o' step).later
+    later = (by_step opened c limits programs many o run o' step).later
 
-    base : Holds managed_ops c (OfFixed c (IsBase c)) (spare c limits fixed programs many) o
-    base = reached_base c limits fixed programs many o run
+    base : Holds sends managed_ops c Kind (spare c) o
+    base = rank.reached o run
 
     open_turn : (h : Host Managed) → slice_get o.cores i ≡ Some h → IsOpen called history h
         → (core : Host Managed) (out : Outcome (Host Managed)) → core ≡ h
@@ -269,14 +260,13 @@ module _ (c : Config) (limits : IsConfig c) (fixed : c.manager ≡ kind.Fixed)
         (sym (page_serving managed_ops t.core source t.message about)) (by_told all.2)
       where
         all : (flat : ℕ → List ℕ)
-            × OfFixed c (IsBase c) (managers_of (spare c limits fixed programs many) o') (net_of o') flat
-            × Tells (OfFixed c (IsBase c)) (net_of o).entry c x base.1.0 t.core.memory.coherence
+            × Kind (managers_of (spare c) o') (net_of o') flat
+            × Tells Kind (net_of o).entry c x base.1.0 t.core.memory.coherence
             (handled managed_ops t.core.memory.coherence source t.message).after flat
-        all = kept-delivers managed_laws c (fixed-kept c (IsBase c) (base-kept c limits))
-            (spare c limits fixed programs many) o o' base.1.0 base.0 base.1.1 source x t about
+        all = kept-delivers managed_laws c kind-kept (spare c) o o' base.1.0 base.0 base.1.1 source x t about
 
         by_told : {flat : ℕ → List ℕ}
-            → Tells (OfFixed c (IsBase c)) (net_of o).entry c x base.1.0 t.core.memory.coherence
+            → Tells Kind (net_of o).entry c x base.1.0 t.core.memory.coherence
             (handled managed_ops t.core.memory.coherence source t.message).after flat
             → IsLeft t.core.memory.coherence
             (handled managed_ops t.core.memory.coherence source t.message).after
@@ -340,19 +330,19 @@ module _ (c : Config) (limits : IsConfig c) (fixed : c.manager ≡ kind.Fixed)
     stage_on : (p : ℕ) → p < c.pages → (due : ℕ → ℕ → ℕ) (r : ℕ) → Stage history p due r o
         → Stage history p due r o'
     stage_on p inside due r (past k) = past (past_on k)
-    stage_on p inside due r (waiting h there is rank since) = by_comes next.host next.now next.comes
+    stage_on p inside due r (waiting h there is waits since) = by_comes next.host next.now next.comes
       where
-        next : Stepped c limits fixed programs many o o' run step i p inside called history h there
-            is due r rank (ready o run since)
-        next = one_step c limits fixed programs many o o' run step i p inside called history h there
-            is due r rank (ready o run since)
+        next : Stepped opened c limits programs many rank o o' run step i p inside called history h
+            there is due r waits (ready o run since)
+        next = one_step opened c limits programs many rank o o' run step i p inside called history h
+            there is due r waits (ready o run since)
 
         by_comes : (h' : Host Managed) → slice_get o'.cores i ≡ Some h'
-            → Comes c limits fixed programs many o o' run step i p inside called history h there is
-            due r rank (ready o run since) h'
+            → Comes opened c limits programs many rank o o' run step i p inside called history h there is
+            due r waits (ready o run since) h'
             → Stage history p due r o'
-        by_comes h' now (waits_on still rank') =
-            waiting h' now still rank' (all_then start o o' since later)
+        by_comes h' now (waits_on still waits') =
+            waiting h' now still waits' (all_then start o o' since later)
         by_comes h' now (opens opened) = past (carried h' now opened)
         by_comes h' now (grows more) = past (answered h' now more)
 
@@ -365,7 +355,7 @@ module _ (c : Config) (limits : IsConfig c) (fixed : c.manager ≡ kind.Fixed)
     past_rounds : (k : ℕ) (u v : World (Host Managed)) (f : Follower u) → AreRounds c i (suc k) u v
         → IsPast history (order_of u f) → (g : Follower v) × HasGrown history (order_of v g)
     past_rounds k u v f are was =
-        rounds_record c limits programs many i history (IsPast history) IsPast_on
+        rounds_record opened c limits programs many i history (IsPast history) IsPast_on
         (past_records history) k u v f are was
 
     -- a round while the word waits
@@ -376,15 +366,14 @@ module _ (c : Config) (limits : IsConfig c) (fixed : c.manager ≡ kind.Fixed)
         ended x y =
             let more = longer x y in
             let le = all_about ((order_of v g).delivered x y) (f.posted x y) more.0
-            (all_there c limits programs many i u v f round g x y) in
+            (all_there opened c limits programs many i u v f round g x y) in
             subst (λ l. length (about_pages (f.posted x y))
             ≤ length (about_pages (take ((order_of v g).delivered x y) l))) (sym more.1) le
 
-        base_at : Holds managed_ops c (OfFixed c (IsBase c)) (spare c limits fixed programs many)
-            (order_of v g)
-        base_at = reached_base c limits fixed programs many (order_of v g) g.reached
+        base_at : Holds sends managed_ops c Kind (spare c) (order_of v g)
+        base_at = rank.reached (order_of v g) g.reached
 
-        net_at : Net
+        abbrev net_at : Net
         net_at = net_of (order_of v g)
 
         shut_at : (h : Host Managed) → slice_get (order_of v g).cores i ≡ Some h
@@ -393,32 +382,26 @@ module _ (c : Config) (limits : IsConfig c) (fixed : c.manager ≡ kind.Fixed)
             ap (λ z. is_locked (entry_of z p)) there
             ∙ (base_at.0.sound i h there).memory.coherent.locked p is.locked
 
+        at_end : IsEnded c (next_due (net_of (order_of u f))) (net_of (order_of v g))
+        at_end = between (order_of v g) g.reached (next_due (net_of (order_of u f))) ended
+
         -- then it waits for one round less
         less : (r : ℕ) → Stage history p (next_due (net_of (order_of u f))) r (order_of v g)
             → IsPast history (order_of v g)
             ⊎ ((s : ℕ) × (r ≡ suc s)
             × Stage history p (next_due (net_of (order_of v g))) s (order_of v g))
         less r (past k) = inl k
-        less zero (waiting h there is rank since) = absurd (
-            let b = base_at.1.1.2 in
-            reached_none c (net_of (order_of v g)) b.0.0.0.0 (awaited c _ b.0.0.0.0 b.0.0.1)
-            (next_due (net_of (order_of u f))) ended refl p (p % c.nodes)
-            (missed c (net_of (order_of v g)) b.0.1 p) c.nodes i 0 refl limits.nodes_from
-            (shut_at h there is) rank
+        less zero (waiting h there is waits since) = absurd (
+            rank.ends waits.1.0 net_at waits.0 waits.1.2.0 (next_due (net_of (order_of u f))) at_end p
+            i inside (node_below (order_of v g) g.reached h there) (shut_at h there is) waits.1.2.1
             )
-        less (suc s) (waiting h there is rank since) = inr (
-            let b = base_at.1.1.2 in (
-              s,
-              refl,
-              waiting h there is
-                  (reached_less c (net_of (order_of v g)) b.0.0.0.0 (awaited c _ b.0.0.0.0 b.0.0.1)
-                  (next_due (net_of (order_of u f))) ended refl p (p % c.nodes)
-                  (missed c (net_of (order_of v g)) b.0.1 p) c.nodes i (suc s) s refl limits.nodes_from
-                  (shut_at h there is)
-                  (manager_answered c limits base_at.1.1.0 (net_of (order_of v g)) b.0.0.0.0 b.0.0.0.1
-                  (awaited c _ b.0.0.0.0 b.0.0.1) b.1.0 b.1.1 (next_due (net_of (order_of u f))) p
-                  inside) rank) since,
-            )
+        less (suc s) (waiting h there is waits since) = inr (
+            let then = rank.less waits.1.0 net_at waits.0 waits.1.2.0
+            (next_due (net_of (order_of u f))) at_end p i s inside
+            (node_below (order_of v g) g.reached h there) (shut_at h there is) waits.1.2.1 in
+            let waits_still : IsWaitingIn rank (order_of v g) (next_due (net_of (order_of v g))) p i s
+            = (waits.0, (waits.1.0, waits.1.1, (waits.1.2.0, then))) in
+            (s, refl, waiting h there is waits_still since)
             )
 
       round_stage : (r : ℕ) (u v : World (Host Managed)) (f : Follower u) → IsRound c i u v
@@ -429,7 +412,8 @@ module _ (c : Config) (limits : IsConfig c) (fixed : c.manager ≡ kind.Fixed)
           × Stage history p (next_due (net_of (order_of v g))) s (order_of v g)))
       round_stage r u v f round stage =
           let first =
-          round_on c limits programs many (λ o. Stage history p (next_due (net_of (order_of u f))) r o)
+          round_on opened c limits programs many
+          (λ o. Stage history p (next_due (net_of (order_of u f))) r o)
           (λ o o' run step. stage_on o o' run step history p inside (next_due (net_of (order_of u f))) r)
           i u v f round stage in
           (first.follows, less u v f round first.follows first.longer r first.kept)
@@ -482,24 +466,23 @@ module _ (c : Config) (limits : IsConfig c) (fixed : c.manager ≡ kind.Fixed)
   module _ (history : List Record) where
     rank_at : (o : FifoWorld (Host Managed)) → IsRun o → (h : Host Managed)
         → slice_get o.cores i ≡ Some h → (p : ℕ) → p < c.pages → IsWaiting p called history h
-        → IsReachedIn (net_of o) (next_due (net_of o)) p (p % c.nodes) c.nodes i (6 * c.nodes)
+        → IsWaitingIn rank o (next_due (net_of o)) p i rank.most
     rank_at o run h there p inside is =
-        let base : Holds managed_ops c (OfFixed c (IsBase c)) (spare c limits fixed programs many) o =
-        reached_base c limits fixed programs many o run in
-        let b = base.1.1.2 in
-        first_reached c limits base.1.1.0 (net_of o) b.0.0.0.0 b.0.0.0.1
-        (awaited c _ b.0.0.0.0 b.0.0.1) b.1.0 b.1.1 (next_due (net_of o)) p inside i
-        (all_next (net_of o))
+        let base : Holds sends managed_ops c Kind (spare c) o = rank.reached o run in
+        let most = rank.first base.1.1.0 (net_of o) base.1.0 base.1.1.2 (net_of o).delivered
+        (between o run (net_of o).delivered (λ x y. omega arith)) p i inside
+        (node_below o run h there)
         (ap (λ z. is_locked (entry_of z p)) there
-        ∙ (base.0.sound i h there).memory.coherent.locked p is.locked)
+        ∙ (base.0.sound i h there).memory.coherent.locked p is.locked) in
+        (base.1.0, (base.1.1.0, base.1.1.1, (base.1.1.2, most)))
 
     from_waiting : (k : ℕ) (u v : World (Host Managed)) (f : Follower u) (p : ℕ) (h : Host Managed)
         → slice_get (order_of u f).cores i ≡ Some h → IsWaiting p called history h
-        → AreLater start (order_of u f) → AreRounds c i (suc (6 * c.nodes + suc k)) u v
+        → AreLater start (order_of u f) → AreRounds c i (suc (rank.most + suc k)) u v
         → (g : Follower v) × HasGrown history (order_of v g)
     from_waiting k u v f p h there is since are =
         let inside = page_inside history (order_of u f) f.reached h there p is.locked in
-        waiting_rounds history p inside (6 * c.nodes) k (6 * c.nodes + suc k) u v f refl are
+        waiting_rounds history p inside (rank.most) k (rank.most + suc k) u v f refl are
         (waiting h there is (rank_at (order_of u f) f.reached h there p inside is) since)
 
     -- the call is tried again at its node's next turn
@@ -525,13 +508,13 @@ module _ (c : Config) (limits : IsConfig c) (fixed : c.manager ≡ kind.Fixed)
     moved_on o o' run step (is_past k) = is_past (past_on o o' run step history k)
     moved_on o o' run step (waits_now p h there is since) =
         by_stage
-        (stage_on o o' run step history p inside (next_due (net_of o)) (6 * c.nodes)
+        (stage_on o o' run step history p inside (next_due (net_of o)) (rank.most)
         (waiting h there is (rank_at o run h there p inside is) since))
       where
         inside : p < c.pages
         inside = page_inside history o run h there p is.locked
 
-        by_stage : Stage history p (next_due (net_of o)) (6 * c.nodes) o' → Moved o'
+        by_stage : Stage history p (next_due (net_of o)) (rank.most) o' → Moved o'
         by_stage (past k) = is_past k
         by_stage (waiting h' now still rank later_on) = waits_now p h' now still later_on
 
@@ -677,12 +660,14 @@ module _ (c : Config) (limits : IsConfig c) (fixed : c.manager ≡ kind.Fixed)
         apart =
             leads_apart (host_rules managed_ops) c round.before (Turn i ∷ round.after) u v round.led
 
-        first : IsLed c limits programs many Begun begun_on u f apart.mid
-        first = led_on c limits programs many Begun begun_on u apart.mid f round.before apart.before k
+        first : IsLed opened c limits programs many Begun begun_on u f apart.mid
+        first = led_on opened c limits programs many Begun begun_on u apart.mid f round.before
+            apart.before k
 
         by_begun : Begun (order_of apart.mid first.follows) → (g : Follower v) × Moved (order_of v g)
         by_begun (moved m) =
-            let rest = led_on c limits programs many Moved moved_on apart.mid v first.follows (Turn i ∷ round.after)
+            let rest = led_on opened c limits programs many Moved moved_on apart.mid v
+            first.follows (Turn i ∷ round.after)
             apart.after m in
             (rest.follows, rest.kept)
         by_begun (trying h there t since) =
@@ -690,29 +675,32 @@ module _ (c : Config) (limits : IsConfig c) (fixed : c.manager ≡ kind.Fixed)
             let out =
             trying_turn (order_of apart.mid first.follows) first.follows.reached since h there t in
             let came =
-            turn_leads c limits programs many apart.mid apart.after.0 i node.0 node.1 out.0
+            turn_leads opened c limits programs many apart.mid apart.after.0 i node.0 node.1
+            out.0
             (ap (turn_of managed_ops) node.2 ∙ out.1) apart.after.1 in
-            let turn = led_on c limits programs many (AreLater start) since_on apart.mid apart.after.0 first.follows
+            let turn = led_on opened c limits programs many (AreLater start) since_on apart.mid
+            apart.after.0 first.follows
             (Turn i ∷ []) (apart.after.0, apart.after.1, refl) since in
-            let rest = led_on c limits programs many Moved moved_on apart.after.0 v turn.follows round.after apart.after.2
+            let rest = led_on opened c limits programs many Moved moved_on apart.after.0 v
+            turn.follows round.after apart.after.2
             (moved_by (order_of apart.mid first.follows) first.follows.reached since h there t
             (order_of apart.after.0 turn.follows) out.0 turn.kept
             (core_of apart.after.0.nodes i came.0 came.1 ∙ ap Some came.2) out.2) in
             (rest.follows, rest.kept)
 
-    from_moved : (u v : World (Host Managed)) (f : Follower u) → AreRounds c i (6 * c.nodes + 2) u v
+    from_moved : (u v : World (Host Managed)) (f : Follower u) → AreRounds c i (rank.most + 2) u v
         → Moved (order_of u f) → (g : Follower v) × HasGrown history (order_of v g)
     from_moved u v f are (is_past k) =
-        let e : 6 * c.nodes + 2 ≡ suc (6 * c.nodes + 1) = omega arith in
-        past_rounds history (6 * c.nodes + 1) u v f (subst (λ z. AreRounds c i z u v) e are) k
+        let e : rank.most + 2 ≡ suc (rank.most + 1) = omega arith in
+        past_rounds history (rank.most + 1) u v f (subst (λ z. AreRounds c i z u v) e are) k
     from_moved u v f are (waits_now p h there is since) =
-        let e : 6 * c.nodes + 2 ≡ suc (6 * c.nodes + suc 0) = omega arith in
+        let e : rank.most + 2 ≡ suc (rank.most + suc 0) = omega arith in
         from_waiting 0 u v f p h there is since (subst (λ z. AreRounds c i z u v) e are)
 
   -- so many rounds answer the node
   pub rounds_answer : (u v : World (Host Managed)) (f : Follower u) (n : Node (Host Managed))
       → slice_get u.nodes i ≡ Some n → n.core.memory.asked ≡ Some called
-      → AreLater start (order_of u f) → AreRounds c i (6 * c.nodes + 3) u v
+      → AreLater start (order_of u f) → AreRounds c i (rank.most + 3) u v
       → (g : Follower v) × HasGrown n.core.history (order_of v g)
   rounds_answer u v f n there asked since are =
       by_lock n.core.memory.coherence.locked refl (reply_there n.core.memory.coherence.done) refl
@@ -720,17 +708,17 @@ module _ (c : Config) (limits : IsConfig c) (fixed : c.manager ≡ kind.Fixed)
       here : slice_get (order_of u f).cores i ≡ Some n.core
       here = core_of u.nodes i n there
 
-      e : 6 * c.nodes + 3 ≡ suc (6 * c.nodes + 2)
+      e : rank.most + 3 ≡ suc (rank.most + 2)
       e = omega arith
 
-      all : AreRounds c i (suc (6 * c.nodes + 2)) u v
+      all : AreRounds c i (suc (rank.most + 2)) u v
       all = subst (λ z. AreRounds c i z u v) e are
 
       by_lock : (lock : Option ℕ) → n.core.memory.coherence.locked ≡ lock → (a : Option Reply)
           → reply_there n.core.memory.coherence.done ≡ a
           → (g : Follower v) × HasGrown n.core.history (order_of v g)
       by_lock None free (Some r) is =
-          past_rounds n.core.history (6 * c.nodes + 2) u v f all
+          past_rounds n.core.history (rank.most + 2) u v f all
           (carried n.core here
           (record { asked = asked; records = refl; locked = free; told = (r, is) }))
       by_lock None free None is =
@@ -739,7 +727,7 @@ module _ (c : Config) (limits : IsConfig c) (fixed : c.manager ≡ kind.Fixed)
           (record { asked = asked; records = refl; locked = free; none = is }) since) in
           from_moved n.core.history all.0 v one.0 all.2 one.1
       by_lock (Some p) locked a is =
-          let e : 6 * c.nodes + 3 ≡ suc (6 * c.nodes + suc 1) = omega arith in
+          let e : rank.most + 3 ≡ suc (rank.most + suc 1) = omega arith in
           from_waiting n.core.history 1 u v f p n.core here
           (record { asked = asked; records = refl; locked = locked }) since
           (subst (λ z. AreRounds c i z u v) e are)

@@ -8,6 +8,8 @@ use Rattle.ivy_moves.specs.stated.Nodes.{Node}
 use Rattle.ivy_moves.proofs.Places.{link_of}
 use Rattle.ivy_host.specs.stated.Hosts.{Host}
 use Rattle.ivy_host.specs.stated.Managers.{Managed, managed_ops}
+use Rattle.ivy_host.specs.stated.Openings.{managed_start}
+use Rattle.ivy_host.proofs.Starts.{managed_new}
 use Rattle.ivy_host.specs.ManagedLaws.{managed_laws}
 use Rattle.ivy_host.specs.stated.Sound.{IsSoundHost}
 use Rattle.proof_worlds.specs.stated.FifoRuns.{FollowsInOrder}
@@ -17,10 +19,11 @@ use Rattle.proof_answers.specs.sweeps.FewUnderWay.{FewAreUnderWay}
 use Rattle.proof_answers.proofs.sweeps.Few.{few_under_way, get_mapped}
 
 pub few_are_under_way : FewAreUnderWay
-few_are_under_way c programs w of i j n m apart here there =
-    let f : FollowsInOrder managed_ops c programs w =
-    led_in_order managed_laws c of.limits programs of.many of.moves w of.led in
-    let waits = either_awaited c of.limits programs of.many (fifo_of w f.posted) f.reached in
+few_are_under_way opened c programs w of i j n m apart here there =
+    let f : FollowsInOrder managed_ops (managed_start opened) c programs w =
+    led_in_order managed_laws (managed_start opened) c of.limits (managed_new opened c of.limits)
+    programs of.many of.moves w of.led in
+    let waits = either_awaited c of.limits opened programs of.many (fifo_of w f.posted) f.reached in
     let a : i < length w.nodes = slice_get_within w.nodes i n here in
     let b : j < length w.nodes = slice_get_within w.nodes j m there in
     let count = f.follows.nodes in

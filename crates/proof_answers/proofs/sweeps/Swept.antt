@@ -29,9 +29,9 @@ part_at (y ∷ xs) (suc k) x at =
     record { before = y ∷ rest.before; after = rest.after; is = ap (λ l. y ∷ l) rest.is }
 
 pub sweeps_deliver : SweepsDeliver
-sweeps_deliver c programs w end of one two three t x y n m apart here there =
-    let good = led_stands c programs w of in
-    let well_behaved = keeps_well_behaved c programs w of in
+sweeps_deliver opened c programs w end of one two three t x y n m apart here there =
+    let good = led_stands opened c programs w of in
+    let well_behaved = keeps_well_behaved opened c programs w of in
     let a = t.one_is.heard in
     let b = t.two_is.heard in
     let d = t.three_is.heard in
@@ -46,7 +46,7 @@ sweeps_deliver c programs w end of one two three t x y n m apart here there =
     elim (slice_get_cases w.nodes y).1 [
       | inr past ↦ absurd (let z = past.0 in omega (arith, z, nodes, inside))
       | inl was ↦
-          (let few = few_are_under_way c programs w of x y n was.0 apart here was.2 in
+          (let few = few_are_under_way opened c programs w of x y n was.0 apart here was.2 in
           let sent : known w x y ≡ peer_at n.link y =
           ap (λ l. peer_at l y)
           (link_here (host_rules managed_ops) c (IsSoundHost managed_ops c) of.limits well_behaved w good x
@@ -71,18 +71,21 @@ sweeps_deliver c programs w end of one two three t x y n m apart here there =
     ]
 
 pub sweeps_are_rounds : SweepsAreRounds
-sweeps_are_rounds c programs w end of one two three t i at =
+sweeps_are_rounds opened c programs w end of one two three t i at =
     let place = place_of (one ++ two ++ three) (Turn i) at in
     let parts = part_at (one ++ two ++ three) place.0 (Turn i) place.1 in
     let led : Leads (host_rules managed_ops) c w (one ++ two ++ three) end =
     leads_on (host_rules managed_ops) c w t.second end (one ++ two) three
     (leads_on (host_rules managed_ops) c w t.first t.second one two
-    (heard_leads c of.limits (keeps_well_behaved c programs w of) one w t.first t.one_is.heard)
-    (heard_leads c of.limits (keeps_well_behaved c programs w of) two t.first t.second t.two_is.heard))
-    (heard_leads c of.limits (keeps_well_behaved c programs w of) three t.second end t.three_is.heard) in
+    (heard_leads c of.limits (keeps_well_behaved opened c programs w of) one w t.first
+    t.one_is.heard)
+    (heard_leads c of.limits (keeps_well_behaved opened c programs w of) two t.first t.second
+    t.two_is.heard))
+    (heard_leads c of.limits (keeps_well_behaved opened c programs w of) three t.second end
+    t.three_is.heard) in
     record {
       before = parts.before;
       after = parts.after;
       led = subst (λ l. Leads (host_rules managed_ops) c w l end) parts.is led;
-      delivered = sweeps_deliver c programs w end of one two three t;
+      delivered = sweeps_deliver opened c programs w end of one two three t;
     }

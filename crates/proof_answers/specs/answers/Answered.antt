@@ -12,6 +12,7 @@ use Rattle.ivy_moves.specs.stated.Nodes.{Node}
 use Rattle.ivy_moves.specs.stated.Worlds.{World}
 use Rattle.proof_worlds.specs.progress.Ending.{sum_below}
 use Rattle.ivy_host.specs.stated.Hosts.{Host}
+use Rattle.ivy_host.specs.declared.opening.Opening.{Opening}
 use Rattle.ivy_host.specs.stated.Managers.{Managed}
 use Rattle.proof_answers.specs.answers.NodeRounds.{AreRounds}
 use Rattle.proof_answers.specs.answers.Undropped.{IsOfMoves}
@@ -45,8 +46,10 @@ IsSomeAnswered w end = (j : ℕ) × (n m : Node (Host Managed)) × (slice_get w.
 -- The law: of each world that moves lead to, and each of its nodes whose call is due, there is a
 -- number so that as many rounds of that node, whatever they are, answer some node.
 abbrev pub SomeAnswered : Type 0
-SomeAnswered = (c : Config) (programs : List Program) (w : World (Host Managed))
-    → IsOfMoves c programs w → (i : ℕ) (n : Node (Host Managed)) → slice_get w.nodes i ≡ Some n
+SomeAnswered = (opened : Opening) (c : Config) (programs : List Program)
+    (w : World (Host Managed))
+    → IsOfMoves opened c programs w → (i : ℕ) (n : Node (Host Managed))
+    → slice_get w.nodes i ≡ Some n
     → IsDue w n.core.memory.asked
     → (most : ℕ) × ((end : World (Host Managed)) → AreRounds c i most w end
     → IsSomeAnswered w end)

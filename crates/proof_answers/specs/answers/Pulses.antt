@@ -10,6 +10,7 @@ use Rattle.ivy_moves.specs.declared.Move.TheVariants.{Deliver, Pulse}
 use Rattle.ivy_moves.specs.stated.Nodes.{Node, pulsing}
 use Rattle.ivy_moves.specs.stated.Worlds.{World, Leads}
 use Rattle.ivy_host.specs.stated.Hosts.{Host, host_rules}
+use Rattle.ivy_host.specs.declared.opening.Opening.{Opening}
 use Rattle.ivy_host.specs.stated.Managers.{Managed, managed_ops}
 use Rattle.proof_answers.specs.answers.Undropped.{IsOfMoves}
 
@@ -41,16 +42,18 @@ module _ (c : Config) where
 
 -- The law: so much is delivered then.
 abbrev pub PulsesDeliver : Type 0
-PulsesDeliver = (c : Config) (programs : List Program) (w end : World (Host Managed))
-    → IsOfMoves c programs w → (i j : ℕ) (m : Node (Host Managed)) (moves : List Move)
+PulsesDeliver = (opened : Opening) (c : Config) (programs : List Program)
+    (w end : World (Host Managed))
+    → IsOfMoves opened c programs w → (i j : ℕ) (m : Node (Host Managed)) (moves : List Move)
     → (heard : IsHeard c i j w moves end) → slice_get end.nodes j ≡ Some m
     → last_again (peer_at heard.node.link j) ≤ (peer_at m.link i).delivered
 
 -- The law: node j pulses node i, by which a string is sent, and then node i pulses node j. Then all
 -- is delivered to j that i had sent at its pulse, or 32 more than were delivered at the first one.
 abbrev pub PulsesMoveOn : Type 0
-PulsesMoveOn = (c : Config) (programs : List Program) (w mid end : World (Host Managed))
-    → IsOfMoves c programs w → (i j : ℕ) (m : Node (Host Managed)) (back there : List Move)
+PulsesMoveOn = (opened : Opening) (c : Config) (programs : List Program)
+    (w mid end : World (Host Managed))
+    → IsOfMoves opened c programs w → (i j : ℕ) (m : Node (Host Managed)) (back there : List Move)
     → (first : IsHeard c j i w back mid) → (pulsing first.node i).sent ≢ []
     → (second : IsHeard c i j mid there end) → slice_get end.nodes j ≡ Some m
     → min (peer_at second.node.link j).sent ((peer_at first.node.link i).delivered + most_again)

@@ -10,7 +10,8 @@ use Rattle.ivy_moves.specs.stated.Nodes.{Node}
 use Rattle.ivy_moves.specs.stated.Worlds.{World, Leads}
 use Rattle.ivy_host.specs.stated.Hosts.{Host, host_rules}
 use Rattle.ivy_host.specs.stated.Managers.{Managed, managed_ops}
-use Rattle.ivy_host.specs.stated.Openings.{opening}
+use Rattle.ivy_host.specs.declared.opening.Opening.{Opening}
+use Rattle.ivy_host.specs.stated.Openings.{managed_start, opening}
 
 -- of what a node sent another one as much was delivered as it does not keep, or more, and no more
 -- than it sent
@@ -20,15 +21,16 @@ IsNothingDropped {C} w = (i j : ℕ) (n m : Node C) → i ≢ j → slice_get w.
     → ((peer_at n.link j).sent ≤ (peer_at m.link i).delivered + length (peer_at n.link j).kept)
     × ((peer_at m.link i).delivered ≤ (peer_at n.link j).sent)
 
--- the moves lead from the opening of the programs to the world
-pub record IsOfMoves (c : Config) (programs : List Program) (w : World (Host Managed)) :
-    Type 0 where
+-- the moves lead from this opening of the programs to the world
+pub record IsOfMoves (opened : Opening) (c : Config) (programs : List Program)
+    (w : World (Host Managed)) : Type 0 where
   pub limits : IsConfig c
   pub many : length programs ≡ c.nodes
   pub moves : List Move
-  pub led : Leads (host_rules managed_ops) c (opening managed_ops c programs) moves w
+  pub led : Leads (host_rules managed_ops) c (opening (managed_start opened) c programs) moves w
 
 -- The law: so it is in each world that moves lead to.
 abbrev pub NothingIsDropped : Type 0
-NothingIsDropped = (c : Config) (programs : List Program) (w : World (Host Managed))
-    → IsOfMoves c programs w → IsNothingDropped w
+NothingIsDropped = (opened : Opening) (c : Config) (programs : List Program)
+    (w : World (Host Managed))
+    → IsOfMoves opened c programs w → IsNothingDropped w

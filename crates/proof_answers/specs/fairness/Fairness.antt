@@ -1,6 +1,6 @@
 -- That each call is answered under managing nodes (Li and Hudak 1989, the fixed distributed
 -- manager), with a bound as for wait-free objects (Herlihy 1991), but on rounds: whatever the others
--- do, in so many rounds of a node its history is longer. Calls of the heap need three, under either
+-- do, in so many rounds of a node its history is longer. Calls of the heap need three, under each
 -- manager.
 use Rattle.std.specs.Prelude.{◌≡◌, ◌<◌, ◌+◌, ◌*◌, ℕ, List, length, slice_get, Option, Some}
 use Rattle.ivy_model.specs.declared.Call.{Call}
@@ -14,6 +14,8 @@ use Rattle.proof_answers.specs.answers.Answered.{IsDue}
 use Rattle.proof_answers.specs.answers.NodeRounds.{AreRounds}
 use Rattle.proof_answers.specs.answers.Undropped.{IsOfMoves}
 use Rattle.ivy_host.specs.stated.Hosts.{Host}
+use Rattle.ivy_host.specs.declared.opening.Opening.{Opening}
+use Rattle.ivy_host.specs.declared.opening.Opening.TheVariants.{Configured}
 use Rattle.ivy_host.specs.stated.Managers.{Managed}
 
 -- so many rounds are enough
@@ -31,18 +33,20 @@ abbrev pub IsAnswered : World (Host Managed) → World (Host Managed) → ℕ �
 IsAnswered w end i = (n m : Node (Host Managed)) × (slice_get w.nodes i ≡ Some n)
     × (slice_get end.nodes i ≡ Some m) × (length n.core.history < length m.core.history)
 
--- The law: of each world that moves lead to under managing nodes, and each of its nodes whose call
--- is due, as many rounds of that node, whatever they are, answer it.
+-- The law: of each world that moves lead to from a configured opening under managing nodes, and
+-- each of its nodes whose call is due, as many rounds of that node, whatever they are, answer it.
 abbrev pub CallsAnswered : Type 0
-CallsAnswered = (c : Config) (programs : List Program) (w : World (Host Managed))
-    → IsOfMoves c programs w → c.manager ≡ kind.Fixed → (i : ℕ) (n : Node (Host Managed))
-    → slice_get w.nodes i ≡ Some n → IsDue w n.core.memory.asked
+CallsAnswered = (opened : Opening) (c : Config) (programs : List Program)
+    (w : World (Host Managed))
+    → IsOfMoves opened c programs w → opened ≡ Configured → c.manager ≡ kind.Fixed
+    → (i : ℕ) (n : Node (Host Managed)) → slice_get w.nodes i ≡ Some n → IsDue w n.core.memory.asked
     → (end : World (Host Managed)) → AreRounds c i (most_rounds c.nodes) w end
     → IsAnswered w end i
 
--- The law: under either manager three rounds answer a call of the heap.
+-- The law: under each manager three rounds answer a call of the heap.
 abbrev pub HeapCallsAnswered : Type 0
-HeapCallsAnswered = (c : Config) (programs : List Program) (w : World (Host Managed))
-    → IsOfMoves c programs w → (i : ℕ) (n : Node (Host Managed))
+HeapCallsAnswered = (opened : Opening) (c : Config) (programs : List Program)
+    (w : World (Host Managed))
+    → IsOfMoves opened c programs w → (i : ℕ) (n : Node (Host Managed))
     → slice_get w.nodes i ≡ Some n → IsHeapCall n.core.memory.asked
     → (end : World (Host Managed)) → AreRounds c i 3 w end → IsAnswered w end i

@@ -6,6 +6,7 @@ use Rattle.ivy_link.specs.stated.Linked.{peer_at}
 use Rattle.ivy_moves.specs.stated.Nodes.{Node}
 use Rattle.ivy_moves.specs.stated.Worlds.{World}
 use Rattle.ivy_host.specs.stated.Hosts.{Host}
+use Rattle.ivy_host.specs.declared.opening.Opening.{Opening}
 use Rattle.ivy_host.specs.stated.Managers.{Managed}
 use Rattle.proof_answers.specs.answers.Undropped.{IsOfMoves}
 
@@ -17,5 +18,6 @@ AreFewUnderWay {C} most w = (i j : ℕ) (n m : Node C) → i ≢ j → slice_get
 
 -- The law: in each world that moves lead to it is no more than there are nodes.
 abbrev pub FewAreUnderWay : Type 0
-FewAreUnderWay = (c : Config) (programs : List Program) (w : World (Host Managed))
-    → IsOfMoves c programs w → AreFewUnderWay c.nodes w
+FewAreUnderWay = (opened : Opening) (c : Config) (programs : List Program)
+    (w : World (Host Managed))
+    → IsOfMoves opened c programs w → AreFewUnderWay c.nodes w

@@ -7,6 +7,7 @@ use Rattle.ivy_moves.specs.declared.Move.TheVariants.{Turn, Deliver, Pulse}
 use Rattle.ivy_moves.specs.stated.Nodes.{Node, pulsing}
 use Rattle.ivy_moves.specs.stated.Worlds.{World, Moves}
 use Rattle.ivy_host.specs.stated.Hosts.{Host, host_rules}
+use Rattle.ivy_host.specs.declared.opening.Opening.{Opening}
 use Rattle.ivy_host.specs.stated.Managers.{Managed, managed_ops}
 use Rattle.proof_answers.specs.answers.Pulses.{StandAmong, deliveries}
 use Rattle.proof_answers.specs.answers.NodeRounds.{IsDeliveredBy, IsRound}
@@ -47,12 +48,16 @@ pub record AreThreeSweeps (c : Config) (w : World (Host Managed)) (one two three
 -- The law: after three sweeps each message is delivered that a node had sent another one before the
 -- first.
 abbrev pub SweepsDeliver : Type 0
-SweepsDeliver = (c : Config) (programs : List Program) (w end : World (Host Managed))
-    → IsOfMoves c programs w → (one two three : List Move) → AreThreeSweeps c w one two three end
+SweepsDeliver = (opened : Opening) (c : Config) (programs : List Program)
+    (w end : World (Host Managed))
+    → IsOfMoves opened c programs w → (one two three : List Move)
+    → AreThreeSweeps c w one two three end
     → IsDeliveredBy w end
 
 -- The law: so three sweeps are a round of each node that has a turn in them.
 abbrev pub SweepsAreRounds : Type 0
-SweepsAreRounds = (c : Config) (programs : List Program) (w end : World (Host Managed))
-    → IsOfMoves c programs w → (one two three : List Move) → AreThreeSweeps c w one two three end
+SweepsAreRounds = (opened : Opening) (c : Config) (programs : List Program)
+    (w end : World (Host Managed))
+    → IsOfMoves opened c programs w → (one two three : List Move)
+    → AreThreeSweeps c w one two three end
     → (i : ℕ) → Contains (one ++ two ++ three) (Turn i) → IsRound c i w end

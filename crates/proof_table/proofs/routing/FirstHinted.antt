@@ -1,12 +1,12 @@
--- The first net under hints: every node hints at node 0, which owns all pages and is the lowest,
--- and there is no request.
+-- The first net under hints, steady ones too: every node hints at node 0, which owns all pages and
+-- is the lowest, and there is no request.
 use Rattle.std.proofs.Common.{◌≡◌, ◌≢◌, ◌<◌, ℕ, Bool, length, sym, ap, ◌∙◌, inl, inr, arith, if◌then◌else◌, ◌==◌}
 use Rattle.std.proofs.lemmas.Bool.{eq-eqb, ne_eqb, both_ways}
 use Rattle.std.proofs.lemmas.List.{get_or-replicate, length-replicate}
 use Rattle.ivy_model.specs.declared.Config.{Config}
 use Rattle.ivy_wire.specs.declared.Content.TheVariants as content
 use Rattle.ivy_pagetable.specs.stated.Entries.{is_owner, owned}
-use Rattle.ivy_dynamic.specs.stated.Dynamic.{Hints, first_hints, hint_of}
+use Rattle.ivy_dynamic.specs.stated.Dynamic.{Hints, new_hints, hint_of}
 use Rattle.proof_table.specs.stated.Letters.{Net}
 use Rattle.proof_table.specs.stated.Orderly.{IsOrderly}
 use Rattle.proof_table.proofs.transitions.Opening.{IsFirst, orderly_opening}
@@ -29,9 +29,9 @@ above_zero i y zero_node ne =
     ap (λ (b : Bool). if b then 0 else 1) (ne_eqb y 0 (λ h. ne (h ∙ sym zero_node))) in
     omega (arith, d, e)
 
-module _ (c : Config) (m : ℕ → Hints) (n : Net) (first : IsFirst n)
+module _ (steady : Bool) (c : Config) (m : ℕ → Hints) (n : Net) (first : IsFirst n)
     (owner : (p : ℕ) → p < c.pages → n.entry 0 p ≡ owned)
-    (managers : (i : ℕ) → i < c.nodes → m i ≡ first_hints c i) where
+    (managers : (i : ℕ) → i < c.nodes → m i ≡ new_hints steady c i) where
   first_hint : (i p : ℕ) → i < c.nodes → p < c.pages → hint_of (m i) p ≡ 0
   first_hint i p below lt =
       ap (λ v. hint_of v p) (managers i below) ∙ get_or-replicate {A = ℕ} c.pages p 0 0 lt

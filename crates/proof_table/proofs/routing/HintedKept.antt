@@ -1,6 +1,6 @@
 -- Each row of the table of coherence events keeps the heights under hints, and under these no
 -- message is ever a breach.
-use Rattle.std.proofs.Common.{◌≡◌, ◌<◌, ℕ, true, false, List, [], ◌∷◌, map, slice_get, Some, refl, sym, ap, ◌∙◌, subst, inl, inr, arith}
+use Rattle.std.proofs.Common.{◌≡◌, ◌<◌, ℕ, Bool, true, false, List, [], ◌∷◌, map, if◌then◌else◌, slice_get, Some, refl, sym, ap, ◌∙◌, subst, inl, inr, arith}
 use Rattle.std.proofs.lemmas.Bool.{cases_lt, both_ways}
 use Rattle.std.proofs.lemmas.Option.{none-some}
 use Rattle.ivy_model.specs.declared.Config.{Config}
@@ -17,6 +17,7 @@ use Rattle.ivy_pagetable.specs.stated.NodeSets.{Nodes, nodes_with}
 use Rattle.ivy_pagetable.specs.stated.Accesses.{reads}
 use Rattle.ivy_pagetable.specs.stated.Entries.{put_offs, is_owner, with_put_off, copying, owning, sharing}
 use Rattle.ivy_coherence.specs.stated.Serving.{invalidations}
+use Rattle.ivy_coherence.specs.stated.MessageSteps.{sending}
 use Rattle.ivy_coherence.specs.stated.PageFaults.{waiting_from}
 use Rattle.ivy_coherence.proofs.keeping.SoundEntries.{owner_put}
 use Rattle.ivy_dynamic.specs.stated.Dynamic.{Hints, hint_of, hinted, dynamic_ops}
@@ -29,7 +30,7 @@ use Rattle.proof_table.proofs.transitions.Places.{served, freed}
 use Rattle.proof_table.proofs.transitions.Sole.{fits_as}
 use Rattle.proof_table.proofs.transitions.NetSteps.{IsStep}
 use Rattle.proof_table.proofs.transitions.Parcels.{IsThe, IsNone, IsOrder, answer_step, ask_step, orders_step, free_step, stay_step}
-use Rattle.proof_table.proofs.routing.Quiet.{IsRoutedBy}
+use Rattle.proof_table.proofs.routing.Quiet.{IsRoutedAt}
 use Rattle.proof_table.specs.stated.Descending.{IsAsked, Descends}
 use Rattle.proof_table.specs.routing.Claiming.{claims}
 use Rattle.proof_table.specs.stated.Sending.{HasPage, owns, comes}
@@ -224,7 +225,52 @@ module _ (c : Config) (m : ℕ → Hints) (n : Net) (order : IsOrderly c n) (hin
           (λ g was h. subst (λ v. g (hint_of v p) < g x) (sym (told_itself m x x))
           (was.hints x here (ap claims is ∙ plain)))
 
-    -- a copy is given up
+    -- a request to read is sent on where a copy is awaited
+    reader_sent_hinted : (r : Served c n entry.AwaitRead content.ReadReq)
+        → IsHinted c (with_manager m r.node (m r.node))
+        (goes_on n r.node r.page (entry.AwaitRead (sending r.state)) r.rest
+        (parcel_to r.node (hint_of (m r.node) r.page) r.origin r.call (content.ReadReq r.page) ∷ []))
+    reader_sent_hinted r =
+        one_hinted c m (with_manager m x (m x)) n _ hints x p (entry.AwaitRead s)
+        (entry.AwaitRead (sending s)) served _ _
+        (answer_step n x p (entry.AwaitRead s) (entry.AwaitRead (sending s)) _ rest
+        (hint_of (m x) p) o call (content.ReadReq p) is loose (λ k q h. h))
+        (none_told dynamic_ops m (with_manager m x (m x)) x p (told_itself m x))
+        refl (λ b v h. cc)
+        (λ g was h. (
+        let lower : g (hint_of (m x) p) < g x = was.hints x here (ap claims is) in
+        let low : g x < g o = was.requests.reads o x (asked_first r) in
+        omega (arith, lower, low)
+        ))
+        (λ g was h. (let f : content.ReadReq p ≡ content.WriteReq p = h in cc))
+        (λ g was v h. (let f : content.ReadReq p ≡ content.ReadRep p v = h in cc))
+        (λ h. no_more h)
+        (λ g was h. subst (λ v. g (hint_of v p) < g x) (sym (told_itself m x x))
+        (was.hints x here (ap claims is)))
+      where
+        open r use {node as x, page as p, from, origin as o, call, state as s, rest, here, loose, is}
+
+    -- a copy is given up, under steady hints
+    ended_steady : {T : Type 0} {at : T → Entry} (r : Served c n at content.Inval) (z : Entry)
+        → ((k : ℕ) (q : PutOff) → slice_get (put_offs z) k ≡ Some q
+        → slice_get (put_offs (at r.state)) k ≡ Some q) → is_owner z ≡ false
+        → (claims z ≡ false → claims (at r.state) ≡ false)
+        → IsHinted c (with_manager m r.node (m r.node))
+        (goes_on n r.node r.page z r.rest
+        (parcel_to r.node r.origin r.origin r.call (content.InvalAck r.page) ∷ []))
+    ended_steady {at = at} r z still unowned free =
+        quiet_hinted c m (with_manager m x (m x)) n _ hints x p (at s) z served (IsThe _ _)
+        (answer_step n x p (at s) z _ rest o o call (content.InvalAck p) is loose still)
+        (none_told dynamic_ops m (with_manager m x (m x)) x p (told_itself m x))
+        (λ a l it. ap (λ (v : Letter). page_of v.message.content) it.1)
+        (λ a l it on. subst (λ (v : Letter). LeadsOn v.message.content) it.1 on)
+        (λ h. absurd (both_ways (is_owner z) unowned h))
+        (λ g was h. subst (λ v. g (hint_of v p) < g x) (sym (told_itself m x x))
+        (was.hints x here (ap claims is ∙ free h)))
+      where
+        open r use {node as x, page as p, origin as o, call, state as s, rest, here, loose, is}
+
+    -- a copy is given up, and the hint is who is to write
     ended_hinted : {T : Type 0} {at : T → Entry} (r : Served c n at content.Inval) (z : Entry)
         → ((k : ℕ) (q : PutOff) → slice_get (put_offs z) k ≡ Some q
         → slice_get (put_offs (at r.state)) k ≡ Some q) → is_owner z ≡ false
@@ -256,6 +302,19 @@ module _ (c : Config) (m : ℕ → Hints) (n : Net) (order : IsOrderly c n) (hin
           is,
         }
 
+    -- a copy is given up
+    ended_by : {T : Type 0} {at : T → Entry} (r : Served c n at content.Inval) (z : Entry)
+        → ((k : ℕ) (q : PutOff) → slice_get (put_offs z) k ≡ Some q
+        → slice_get (put_offs (at r.state)) k ≡ Some q) → is_owner z ≡ false
+        → (claims z ≡ false → claims (at r.state) ≡ false) → (steady : Bool)
+        → IsHinted c
+        (with_manager m r.node
+        (if steady then m r.node else hinted (m r.node) r.page r.origin))
+        (goes_on n r.node r.page z r.rest
+        (parcel_to r.node r.origin r.origin r.call (content.InvalAck r.page) ∷ []))
+    ended_by r z still unowned free true = ended_steady r z still unowned free
+    ended_by r z still unowned free false = ended_hinted r z still unowned
+
     -- a message is put off
     module _ (put : PutsOff c n) where
       open put use {node as x, page as p, from, later as q, before as e, rest, here, loose, is, room}
@@ -279,6 +338,21 @@ module _ (c : Config) (m : ℕ → Hints) (n : Net) (order : IsOrderly c n) (hin
             asker = refl;
             asks = refl;
           }
+
+    -- a copy comes, and the hint stays
+    late_hinted : (bytes : List ℕ) (r : Comes c n entry.AwaitRead (λ q. content.ReadRep q bytes))
+        → IsHinted c m
+        (goes_on n r.node r.page (entry.Idle copying)
+        (map (letter_of r.node r.page) r.state.put_off) [])
+    late_hinted bytes r =
+        quiet_hinted c m m n _ hints x p (entry.AwaitRead w)
+        (entry.Idle copying) (freed x p) IsNone
+        (free_step n x p (entry.AwaitRead w) (entry.Idle copying) w.put_off is refl refl)
+        (none_told dynamic_ops m m x p (λ i. refl)) (λ a l none. absurd none)
+        (λ a l none on. none) (λ h. no_more h)
+        (λ g was h. was.hints x here (ap claims is))
+      where
+        open r use {node as x, page as p, from, call, state as w, here, inside, loose, is}
 
     -- a copy comes
     copied_hinted : (bytes : List ℕ) (r : Comes c n entry.AwaitRead (λ q. content.ReadRep q bytes))
@@ -385,8 +459,8 @@ module _ (c : Config) (m : ℕ → Hints) (n : Net) (order : IsOrderly c n) (hin
           (λ g was h. no_more (sym h))
 
 module _ (c : Config) (config : IsConfig c) where
-  hinted_by : {m : ℕ → Hints} {n : Net} {f : ℕ → List ℕ} {notice : Notice} {n' : Net}
-      {f' : ℕ → List ℕ} → Row c n f notice n' f'
+  hinted_by : {sends : Bool} {m : ℕ → Hints} {n : Net} {f : ℕ → List ℕ} {notice : Notice} {n' : Net}
+      {f' : ℕ → List ℕ} → Row sends c n f notice n' f'
       → IsNamedBy dynamic_ops c m notice → IsOrderly c n → IsHinted c m n
       → IsHinted c (noticed dynamic_ops m notice) n'
   hinted_by (Row.carries r) of o h = installed_hinted c _ _ r.node r.page _ h
@@ -400,15 +474,25 @@ module _ (c : Config) (config : IsConfig c) where
       absurd (no_breach _ (hinted_descends c m _ o h) c config o r.node r.old r.rest r.here r.loose
       r.dest r.misfits)
   hinted_by (Row.shares r owner low) of o h = shared_hinted c _ _ o h r _ _ owner
-  hinted_by (Row.gives r owner low) of o h = given_hinted c _ _ o h r owner _ _
+  hinted_by (Row.gives r owner low) of o h =
+      given_hinted c _ _ o h r (λ k w. w) owner (λ k q w. w) _ _
   hinted_by (Row.sends_on_read r hop plain away) of o h =
       rw of.1 (read_sent_hinted c _ _ o h r plain)
-  hinted_by (Row.sends_on_write r hop plain away) of o h = rw of.1 (sent_hinted c _ _ o h r plain)
-  hinted_by (Row.ends_copy r sender plain) of o h = ended_hinted c _ _ o h r _ (λ k q h. h) refl
-  hinted_by (Row.gives_up r sender) of o h = ended_hinted c _ _ o h r _ (λ k q h. h) refl
-  hinted_by (Row.puts_off r) of o h = put_hinted c _ _ o h r
-  hinted_by (Row.copy_comes bytes r same) of o h =
+  hinted_by (Row.sends_on_write r hop plain away) of o h =
+      rw of.1 (sent_hinted c _ _ o h r (λ k w. w) _ plain plain plain (λ k q w. w))
+  hinted_by (Row.reader_sends_on_read r hop sends away) of o h =
+      rw of.1 (reader_sent_hinted c _ _ o h r)
+  hinted_by (Row.reader_sends_on_write r hop sends away) of o h =
+      rw of.1 (sent_hinted c _ _ o h r (λ k w. w) _ refl refl refl (λ k q w. w))
+  hinted_by {m = m} (Row.ends_copy r sender plain) of o h =
+      ended_by c m _ o h r _ (λ k q h. h) refl (λ free. plain) (m r.node).steady
+  hinted_by {m = m} (Row.gives_up r sender) of o h =
+      ended_by c m _ o h r _ (λ k q h. h) refl (λ free. free) (m r.node).steady
+  hinted_by (Row.puts_off r kept) of o h = put_hinted c _ _ o h r
+  hinted_by (Row.copy_comes bytes r same quiet) of o h =
       installed_hinted c _ _ r.node r.page bytes (copied_hinted c _ _ o h bytes r)
+  hinted_by (Row.copy_comes_late bytes r same sent) of o h =
+      installed_hinted c _ _ r.node r.page bytes (late_hinted c _ _ o h bytes r)
   hinted_by {m = m} (Row.page_comes copies bytes r same none) of o h =
       installed_hinted c _ _ r.node r.page bytes
       (freed_hinted c m _ o h r _ (told_hint m r.node r.page (m r.node).me)
@@ -432,5 +516,5 @@ module _ (c : Config) (config : IsConfig c) where
       (none_told dynamic_ops m m r.node r.page (λ i. refl)) r.is
       (λ k q h. absurd (none-some q h)) refl (owns (ap is_owner r.is ∙ owner))
 
-  pub hinted-routed : IsRoutedBy dynamic_ops c (IsHinted c)
+  pub hinted-routed : {sends : Bool} → IsRoutedAt sends dynamic_ops c (IsHinted c)
   hinted-routed = record { descends = hinted_descends c; by = hinted_by }

@@ -1,6 +1,6 @@
 -- A request to write is served under hints, given the page or sent on: its origin sinks directly
 -- below the node.
-use Rattle.std.proofs.Common.{◌≡◌, ◌≢◌, ◌⊎◌, ◌<◌, ℕ, true, false, List, [], ◌∷◌, length, slice_get, refl, sym, ap, ◌∙◌, subst, inl, inr}
+use Rattle.std.proofs.Common.{◌≡◌, ◌≢◌, ◌⊎◌, ◌<◌, ℕ, true, false, List, [], ◌∷◌, length, slice_get, Some, refl, sym, ap, ◌∙◌, subst, inl, inr}
 use Rattle.std.proofs.lemmas.Bool.{cases_eq, both_ways}
 use Rattle.ivy_model.specs.declared.Config.{Config}
 use Rattle.ivy_wire.specs.declared.Content.TheVariants as content
@@ -8,7 +8,8 @@ use Rattle.ivy_wire.specs.stated.Data.{Content}
 use Rattle.ivy_wire.specs.stated.Posts.{parcel_to}
 use Rattle.ivy_pagetable.specs.declared.Entry.{Entry}
 use Rattle.ivy_pagetable.specs.declared.Entry.TheVariants as entry
-use Rattle.ivy_pagetable.specs.stated.Entries.{is_owner, without}
+use Rattle.ivy_pagetable.specs.declared.PutOff.{PutOff}
+use Rattle.ivy_pagetable.specs.stated.Entries.{is_owner, put_offs, without}
 use Rattle.ivy_dynamic.specs.stated.Dynamic.{Hints, hint_of, hinted, dynamic_ops}
 use Rattle.proof_table.specs.stated.Letters.{Letter, Net, Place, Underway, Loose, IsAt}
 use Rattle.proof_table.specs.transitions.Letters.{goes_on}
@@ -38,7 +39,8 @@ page_unowned (entry.AwaitWrite s) k h = refl
 page_unowned (entry.AwaitAcks s) k h = absurd h
 
 module _ (c : Config) (m : ℕ → Hints) (n : Net) (order : IsOrderly c n) (hints : IsHinted c m n)
-    (r : Served c n entry.Idle content.WriteReq) where
+    {T : Type 0} {form : T → Entry} (r : Served c n form content.WriteReq)
+    (calm : (k : ℕ) → AwaitsPage (form r.state) k → ⊥) where
   open r use {
     node as x,
     page as p,
@@ -99,11 +101,12 @@ module _ (c : Config) (m : ℕ → Hints) (n : Net) (order : IsOrderly c n) (hin
   none_here b l bits bytes at brings same = (
       let fit : IsExpectedAs c n l (content.WriteRep p bits bytes) =
       fits_as c n order b l (content.WriteRep p bits bytes) at brings in
-      subst (λ e. AwaitsPage e l.message.call) (ap (λ i. n.entry i p) (sym fit.1 ∙ same) ∙ is) fit.2
+      calm l.message.call
+      (subst (λ e. AwaitsPage e l.message.call) (ap (λ i. n.entry i p) (sym fit.1 ∙ same) ∙ is) fit.2)
       )
 
   module _ (n' : Net) (z : Entry) (at : Place) (new : Letter)
-      (step : IsStep n n' x p (entry.Idle s) z served (IsThe at new)) where
+      (step : IsStep n n' x p (form s) z served (IsThe at new)) where
     sinking_hint : (y : ℕ) → claims (n'.entry y p) ≡ false
         → (y ≢ o)
         × (((claims (n.entry y p) ≡ false) × (hint_of (now_told y) p ≡ hint_of (m y) p))
@@ -119,7 +122,7 @@ module _ (c : Config) (m : ℕ → Hints) (n : Net) (order : IsOrderly c n) (hin
       )
       | inr ne ↦ (
           let was : claims (n.entry y p) ≡ false =
-          sym (claims_else n n' x p (entry.Idle s) z served (IsThe at new) step y p (inl ne))
+          sym (claims_else n n' x p (form s) z served (IsThe at new) step y p (inl ne))
           ∙ plain in (
             λ h. both_ways (claims (n.entry o p)) (ap (λ i. claims (n.entry i p)) (sym h) ∙ was)
                 (writer_claims c n order p o x asked),
@@ -138,13 +141,13 @@ module _ (c : Config) (m : ℕ → Hints) (n : Net) (order : IsOrderly c n) (hin
       asked = asked;
       writes =
           λ i y k.
-          elim (asked_or_new n n' x p (entry.Idle s) z served at new step (content.WriteReq p) i y
+          elim (asked_or_new n n' x p (form s) z served at new step (content.WriteReq p) i y
           k) [
             | inl h ↦ inl (h.was, not_o (content.WriteReq p) (λ l. refl) i y h)
             | inr h ↦ (let w = write h.2 in inr (sym h.1 ∙ w.0, subst (λ v. g v < g x) h.0 w.1))
           ];
       reads = λ i y k. (
-          let h = asked_others n n' x p (entry.Idle s) z served at new step (content.ReadReq p)
+          let h = asked_others n n' x p (form s) z served at new step (content.ReadReq p)
           unread i y k in
           (h.was, not_o (content.ReadReq p) (λ l. refl) i y h)
           );
@@ -177,7 +180,7 @@ module _ (c : Config) (m : ℕ → Hints) (n : Net) (order : IsOrderly c n) (hin
         → ((r ≡ o) × HasPage n x p) ⊎ (HasPage n r p × (r ≢ o) × (r ≢ x)))
         → IsHinted c now_told n'
     sinks about unread uncopied write holder =
-        step_hinted c m now_told n n' x p (entry.Idle s) z served (IsThe at new) step
+        step_hinted c m now_told n n' x p (form s) z served (IsThe at new) step
         (told_hint m x p o)
         (λ a l it. ap (λ (v : Letter). page_of v.message.content) it.1 ∙ about)
         (λ g was. (
@@ -187,11 +190,14 @@ module _ (c : Config) (m : ℕ → Hints) (n : Net) (order : IsOrderly c n) (hin
         )) hints
 
   -- by the owner, which gives the page
-  pub given_hinted : s.owner ≡ true → (bits : ℕ) (bytes : List ℕ)
+  pub given_hinted : is_owner (form s) ≡ true
+      → ((k : ℕ) (q : PutOff) → slice_get (put_offs (entry.Idle without)) k ≡ Some q
+      → slice_get (put_offs (form s)) k ≡ Some q)
+      → (bits : ℕ) (bytes : List ℕ)
       → IsHinted c now_told
       (goes_on n x p (entry.Idle without) rest
       (parcel_to x o o call (content.WriteRep p bits bytes) ∷ []))
-  given_hinted mine bits bytes =
+  given_hinted mine still bits bytes =
       sinks n' (entry.Idle without) at new step refl (λ h. cc) (λ b h. cc)
       (λ g was h. (let f : content.WriteRep p bits bytes ≡ content.WriteReq p = h in cc)) holder
     where
@@ -205,9 +211,9 @@ module _ (c : Config) (m : ℕ → Hints) (n : Net) (order : IsOrderly c n) (hin
       new : Letter
       new = letter x o o call (content.WriteRep p bits bytes)
 
-      step : IsStep n n' x p (entry.Idle s) (entry.Idle without) served (IsThe at new)
-      step = answer_step n x p (entry.Idle s) (entry.Idle without) _ rest o o call
-          (content.WriteRep p bits bytes) is loose (λ k q h. h)
+      step : IsStep n n' x p (form s) (entry.Idle without) served (IsThe at new)
+      step = answer_step n x p (form s) (entry.Idle without) _ rest o o call
+          (content.WriteRep p bits bytes) is loose still
 
       own : is_owner (n.entry x p) ≡ true
       own = ap is_owner is ∙ mine
@@ -229,16 +235,19 @@ module _ (c : Config) (m : ℕ → Hints) (n : Net) (order : IsOrderly c n) (hin
       ]
 
   -- by another node, which sends the request on
-  pub sent_hinted : s.owner ≡ false
+  pub sent_hinted : (z : Entry) → claims (form s) ≡ false → is_owner (form s) ≡ false
+      → is_owner z ≡ false
+      → ((k : ℕ) (q : PutOff) → slice_get (put_offs z) k ≡ Some q
+      → slice_get (put_offs (form s)) k ≡ Some q)
       → IsHinted c now_told
-      (goes_on n x p (entry.Idle s) rest
+      (goes_on n x p z rest
       (parcel_to x (hint_of (m x) p) o call (content.WriteReq p) ∷ []))
-  sent_hinted plain =
-      sinks n' (entry.Idle s) at new step refl (λ h. cc) (λ b h. cc)
-      (λ g was h. (refl, was.hints x here (ap claims is ∙ plain))) holder
+  sent_hinted z away plain shut still =
+      sinks n' z at new step refl (λ h. cc) (λ b h. cc)
+      (λ g was h. (refl, was.hints x here (ap claims is ∙ away))) holder
     where
       n' : Net
-      n' = goes_on n x p (entry.Idle s) rest
+      n' = goes_on n x p z rest
           (parcel_to x (hint_of (m x) p) o call (content.WriteReq p) ∷ [])
 
       at : Place
@@ -247,9 +256,9 @@ module _ (c : Config) (m : ℕ → Hints) (n : Net) (order : IsOrderly c n) (hin
       new : Letter
       new = letter x (hint_of (m x) p) o call (content.WriteReq p)
 
-      step : IsStep n n' x p (entry.Idle s) (entry.Idle s) served (IsThe at new)
-      step = answer_step n x p (entry.Idle s) (entry.Idle s) _ rest (hint_of (m x) p) o call
-          (content.WriteReq p) is loose (λ k q h. h)
+      step : IsStep n n' x p (form s) z served (IsThe at new)
+      step = answer_step n x p (form s) z _ rest (hint_of (m x) p) o call
+          (content.WriteReq p) is loose still
 
       unowned : is_owner (n.entry x p) ≡ false
       unowned = ap is_owner is ∙ plain
@@ -267,7 +276,7 @@ module _ (c : Config) (m : ℕ → Hints) (n : Net) (order : IsOrderly c n) (hin
           → ((r ≡ o) × HasPage n x p) ⊎ (HasPage n r p × (r ≢ o) × (r ≢ x))
       holder r (owns h) = elim (step.elsewhere r p) [
         | inl same ↦
-            absurd (both_ways (is_owner (n'.entry r p)) (ap (λ i. is_owner (n'.entry i p)) same.0 ∙ ap is_owner step.after ∙ plain)
+            absurd (both_ways (is_owner (n'.entry r p)) (ap (λ i. is_owner (n'.entry i p)) same.0 ∙ ap is_owner step.after ∙ shut)
             h)
         | inr other ↦ (
             let was : is_owner (n.entry r p) ≡ true = ap is_owner (sym other.1) ∙ h in

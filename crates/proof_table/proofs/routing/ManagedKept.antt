@@ -1,5 +1,5 @@
 -- Each row of the table of coherence events keeps the requests of the managing nodes managed.
-use Rattle.std.proofs.Common.{◌≡◌, ◌%◌, ℕ, List, [], slice_get, Some, refl, sym, ap, ◌∙◌, subst, inl, inr, ◌∷◌, map}
+use Rattle.std.proofs.Common.{◌≡◌, ◌%◌, ℕ, true, false, List, [], slice_get, Some, refl, sym, ap, ◌∙◌, subst, inl, inr, ◌∷◌, map}
 use Rattle.std.proofs.lemmas.Bool.{cases_eq}
 use Rattle.std.proofs.lemmas.Option.{none-some}
 use Rattle.std.specs.FinSet as set
@@ -230,7 +230,7 @@ copied_reader n r bytes q bytes' h =
 
 module _ (c : Config) (config : IsConfig c) where
   managed_by : {m : ℕ → Owners} {n : Net} {f : ℕ → List ℕ} {notice : Notice} {n' : Net}
-      {f' : ℕ → List ℕ} → Row c n f notice n' f'
+      {f' : ℕ → List ℕ} → Row false c n f notice n' f'
       → IsNamedBy fixed_ops c m notice → IsOrderly c n → IsManaged c m n
       → IsManaged c (noticed fixed_ops m notice) n'
   managed_by (Row.carries r) of o h = still_managed c _ _ o h _ (bytes_calmed _ r.node r.page _)
@@ -247,14 +247,21 @@ module _ (c : Config) (config : IsConfig c) where
       (sent_on_read c _ _ o h (serving r) plain r.from r.origin r.call r.rest r.loose)
   managed_by (Row.sends_on_write r hop plain away) of o h = rw of.1
       (sent_on_write c _ _ o h (serving r) r.from r.origin r.call r.rest r.loose plain)
+  managed_by (Row.reader_sends_on_read r hop sends away) of o h =
+      absurd (let g : false ≡ true = sends in cc)
+  managed_by (Row.reader_sends_on_write r hop sends away) of o h =
+      absurd (let g : false ≡ true = sends in cc)
   managed_by (Row.ends_copy r sender plain) of o h = told_managed c _ _ o h r.node _
       (answered_calmed _ r _ _ _ (λ k q h. h) (λ k q h. h) (λ q h. cc) (λ h. h)
       (λ q bytes h. absurd (no_reply r.page q bytes h)) (sym plain))
   managed_by (Row.gives_up r sender) of o h = told_managed c _ _ o h r.node _
       (answered_calmed _ r _ _ _ (λ k q h. h) (λ k q h. h) (λ q h. cc) (λ h. h)
       (λ q bytes h. absurd (no_reply r.page q bytes h)) refl)
-  managed_by (Row.puts_off r) of o h = still_managed c _ _ o h _ (put_calmed _ r)
-  managed_by (Row.copy_comes bytes r same) of o h = told_managed c _ _ o h r.node _
+  managed_by (Row.puts_off r kept) of o h = still_managed c _ _ o h _ (put_calmed _ r)
+  managed_by (Row.copy_comes bytes r same quiet) of o h = told_managed c _ _ o h r.node _
+      (installed_calmed _ _ r.node r.page bytes
+      (freed_calmed _ r (entry.Idle copying) refl (λ q h. cc) refl))
+  managed_by (Row.copy_comes_late bytes r same sent) of o h = still_managed c _ _ o h _
       (installed_calmed _ _ r.node r.page bytes
       (freed_calmed _ r (entry.Idle copying) refl (λ q h. cc) refl))
   managed_by (Row.page_comes copies bytes r same none) of o h =

@@ -1,6 +1,6 @@
 -- Whoever waits has its message, once more after each row. That no message is dropped rests on
 -- descent.
-use Rattle.std.proofs.Common.{◌≡◌, ◌<◌, ◌≤◌, ℕ, true, List, [], ◌∷◌, map, refl, sym, ap, ◌∙◌, subst, inl, inr, arith}
+use Rattle.std.proofs.Common.{◌≡◌, ◌<◌, ◌≤◌, ℕ, Bool, true, List, [], ◌∷◌, map, refl, sym, ap, ◌∙◌, subst, inl, inr, arith}
 use Rattle.std.proofs.lemmas.Bool.{cases_Bool, both_ways}
 use Rattle.std.proofs.lemmas.Option.{none-some}
 use Rattle.std.specs.FinSet as set
@@ -23,7 +23,7 @@ use Rattle.ivy_coherence.specs.stated.PageFaults.{waiting_from}
 use Rattle.proof_table.specs.stated.Letters.{Letter, Net, content_of, letter_of}
 use Rattle.proof_table.specs.transitions.Letters.{goes_on}
 use Rattle.proof_table.specs.stated.Orderly.{Key, Order, key_of, IsOrderly}
-use Rattle.proof_table.specs.transitions.TableSteps.{letter, Served, Comes, Begins, Notice, Row, Claim, IsPreserved}
+use Rattle.proof_table.specs.transitions.TableSteps.{letter, Served, Comes, Begins, Notice, Row, Claim, IsPreservedBy}
 use Rattle.proof_table.proofs.transitions.Both.{both-kept}
 use Rattle.proof_table.proofs.transitions.Members.{without_itself, without_any}
 use Rattle.proof_table.proofs.transitions.Needs.{key_origin, key_page}
@@ -207,8 +207,8 @@ module _ (n : Net) (x p from : ℕ) (s : AwaitAcksState) (is : n.entry x p ≡ e
         ))
 
 module _ (c : Config) (config : IsConfig c) where
-  owed_by : {n : Net} {f : ℕ → List ℕ} {notice : Notice} {n' : Net} {f' : ℕ → List ℕ}
-      → Row c n f notice n' f'
+  owed_by : {sends : Bool} {n : Net} {f : ℕ → List ℕ} {notice : Notice} {n' : Net} {f' : ℕ → List ℕ}
+      → Row sends c n f notice n' f'
       → IsOrderly c n → Descends n → IsOwed n → IsOwed n'
   owed_by (Row.carries r) order down o = installed_owed _ r.node r.page _ o
   owed_by (Row.takes r) order down o = taken_owed _ r.source r.dest r.message r.first r.none o
@@ -221,13 +221,19 @@ module _ (c : Config) (config : IsConfig c) where
       answered c _ o r _ _ _ refl (λ j q h. h) (λ k w. w)
   owed_by (Row.sends_on_write r hop plain away) order down o =
       answered c _ o r _ _ _ refl (λ j q h. h) (λ k w. w)
+  owed_by (Row.reader_sends_on_read r hop sends away) order down o =
+      answered c _ o r _ _ _ refl (λ j q h. h) (λ k w. w)
+  owed_by (Row.reader_sends_on_write r hop sends away) order down o =
+      answered c _ o r _ _ _ refl (λ j q h. h) (λ k w. w)
   owed_by (Row.ends_copy r sender plain) order down o =
       answered c _ o r _ _ _ refl (λ j q h. h) (λ k w. w)
   owed_by (Row.gives_up r sender) order down o =
       answered c _ o r _ _ _ refl (λ j q h. h) (λ k w. w)
-  owed_by (Row.puts_off r) order down o =
+  owed_by (Row.puts_off r kept) order down o =
       put_owed _ r.node r.page r.from r.later r.before r.rest r.is r.room r.loose o
-  owed_by (Row.copy_comes bytes r same) order down o =
+  owed_by (Row.copy_comes bytes r same quiet) order down o =
+      installed_owed _ r.node r.page bytes (freed c _ o r copying refl refl)
+  owed_by (Row.copy_comes_late bytes r same sent) order down o =
       installed_owed _ r.node r.page bytes (freed c _ o r copying refl refl)
   owed_by (Row.page_comes copies bytes r same none) order down o =
       installed_owed _ r.node r.page bytes (freed c _ o r owning refl refl)
@@ -249,10 +255,10 @@ module _ (c : Config) (config : IsConfig c) where
       (few c config r.state.copies low) (λ j q h. absurd (none-some q h)) r.loose
 
 -- beside any claim under which nets are orderly and requests go down
-pub owed-kept : {S : Type 0} (ops : Ops S) (c : Config) → IsConfig c → (Q : Claim S)
-    → IsPreserved ops c Q
+pub owed-kept : {S : Type 0} {sends : Bool} (ops : Ops S) (c : Config) → IsConfig c → (Q : Claim S)
+    → IsPreservedBy sends ops c Q
     → ((m : ℕ → S) (n : Net) (f : ℕ → List ℕ) → Q m n f → IsOrderly c n × Descends n)
-    → IsPreserved ops c (λ m n f. Q m n f × IsOwed n)
+    → IsPreservedBy sends ops c (λ m n f. Q m n f × IsOwed n)
 owed-kept ops c config Q kept known = both-kept kept (record {
   by = λ row of before after owed.
       (let k = known _ _ _ before in owed_by c config row k.0 k.1 owed);

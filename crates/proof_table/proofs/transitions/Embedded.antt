@@ -5,7 +5,7 @@ use Rattle.std.proofs.Common.{◌≡◌, ◌<◌, ℕ, Bool, true, false, List, 
 use Rattle.ivy_model.specs.declared.Config.{Config}
 use Rattle.ivy_pagetable.specs.stated.Manager.{Ops}
 use Rattle.proof_table.specs.stated.Letters.{Net}
-use Rattle.proof_table.specs.transitions.TableSteps.{Notice, Silent, Asked, Forwarded, Given, Replied, Invalidated, Claim, IsNamedBy, IsPreserved, noticed, with_manager}
+use Rattle.proof_table.specs.transitions.TableSteps.{Notice, Silent, Asked, Forwarded, Given, Replied, Invalidated, Claim, IsNamedBy, IsPreservedBy, noticed, with_manager}
 
 -- the calls of a manager of the large kind, where it is one of the small kind
 pub record Embeds {S T : Type 0} (small : Ops S) (large : Ops T) (embed : S → T) : Type 0 where
@@ -70,14 +70,14 @@ module _ {S T : Type 0} {small : Ops S} {large : Ops T} (embed : S → T)
       (λ v. e.on_invalidated v p by)
 
 -- Q says of managers of the large kind that they are of the small kind, and P holds of these
-pub embedded-kept : {S T : Type 0} {small : Ops S} {large : Ops T} (embed : S → T)
+pub embedded-kept : {S T : Type 0} {sends : Bool} {small : Ops S} {large : Ops T} (embed : S → T)
     → Embeds small large embed
     → (c : Config) (P : Claim S) (Q : Claim T)
     → ((m : ℕ → T) (n : Net) (f : ℕ → List ℕ) → Q m n f
     → (s : ℕ → S) × AreWithin embed c s m × P s n f)
     → ((s : ℕ → S) (m : ℕ → T) (n : Net) (f : ℕ → List ℕ) → AreWithin embed c s m → P s n f
     → Q m n f)
-    → IsPreserved small c P → IsPreserved large c Q
+    → IsPreservedBy sends small c P → IsPreservedBy sends large c Q
 embedded-kept {small = small} {large = large} embed e c P Q says said kept = record {
   by = λ {m} {n} {f} {notice} {n'} {f'} row of q. (
       let w = says m n f q in

@@ -13,12 +13,14 @@ use Rattle.ivy_pagetable.specs.declared.PutOff.{PutOff}
 use Rattle.ivy_pagetable.specs.declared.Request.{Request}
 use Rattle.ivy_pagetable.specs.declared.Request.TheVariants as request
 use Rattle.ivy_pagetable.specs.stated.Entries.{put_offs, readable, writable, is_owner, copies_of, can_put_off, with_put_off, without}
+use Rattle.ivy_pagetable.specs.stated.States.{WaitingState}
+use Rattle.ivy_coherence.specs.stated.MessageSteps.{sending}
 use Rattle.proof_table.specs.stated.Letters.{Letter, Net, Place, Underway, Aside, content_of, letter_of}
 use Rattle.proof_table.specs.transitions.Letters.{goes_on}
 use Rattle.proof_table.specs.stated.Orderly.{AwaitsCopy, AwaitsPage, Collects, CanWait, key_of, IsExpected, IsExpectedAs, IsOrderly}
 use Rattle.proof_table.specs.transitions.TableSteps.{letter, bare, Served, PutsOff}
 use Rattle.proof_table.proofs.transitions.Places.{get_append, written-other, served}
-use Rattle.proof_table.proofs.transitions.Needs.{needs_met, put_copy, put_page, put_acks}
+use Rattle.proof_table.proofs.transitions.Needs.{Needs, needs_met, put_copy, put_page, put_acks}
 use Rattle.proof_table.proofs.transitions.NetSteps.{IsStep}
 use Rattle.proof_table.proofs.transitions.Sole.{first_fits, copy_lost}
 use Rattle.proof_table.proofs.transitions.Parcels.{IsThe, rest_told, is_step, answer_step}
@@ -31,44 +33,82 @@ idle_without x = record {
   alone = λ h. absurd (let f : false ≡ true = h in cc);
 }
 
--- the letter that is served is posted to this node, at an idle entry
-abbrev sent_net : {c : Config} (n : Net) {ask : ℕ → Content} → Served c n entry.Idle ask → ℕ → Net
-sent_net n {ask = ask} r hop = goes_on n r.node r.page (entry.Idle r.state) r.rest
+-- the letter that is served is posted to this node, and the entry is this one
+abbrev sent_net : {c : Config} (n : Net) {T : Type 0} {at : T → Entry} {ask : ℕ → Content}
+    → Served c n at ask → Entry → ℕ → Net
+sent_net n {ask = ask} r z hop = goes_on n r.node r.page z r.rest
     (parcel_to r.node hop r.origin r.call (ask r.page) ∷ [])
 
+-- what an entry says that stays as it was, but for whether a request was sent on
+pub record IsStill (e z : Entry) : Type 0 where
+  pub put_off : put_offs z ≡ put_offs e
+  pub needs : (l : Letter) → Needs e l l.message.content → Needs z l l.message.content
+  pub entry : (x : ℕ) → IsEntryOf x e → IsEntryOf x z
+  pub owner : is_owner z ≡ true → (is_owner e ≡ true) × (copies_of z ≡ copies_of e)
+  pub reader : readable z ≡ true → readable e ≡ true
+
+pub same_still : (e : Entry) → IsStill e e
+same_still e = record {
+  put_off = refl;
+  needs = λ l h. h;
+  entry = λ x h. h;
+  owner = λ h. (h, refl);
+  reader = λ h. h;
+}
+
+pub sending_still : (s : WaitingState) → IsStill (entry.AwaitRead s) (entry.AwaitRead (sending s))
+sending_still s = record {
+  put_off = refl;
+  needs = λ l. needs_met (entry.AwaitRead s) (entry.AwaitRead (sending s)) l l.message.content
+      (λ k h. h) (λ k h. h) (λ k node h. h);
+  entry = λ x h. record {
+    foreign = h.foreign;
+    orders = h.orders;
+    alone = λ w. absurd (let f : false ≡ true = w in cc);
+  };
+  owner = λ h. absurd (let f : false ≡ true = h in cc);
+  reader = λ h. absurd (let f : false ≡ true = h in cc);
+}
+
 -- a request of another node is sent on
-module _ (c : Config) (n : Net) (order : IsOrderly c n) where
-  sent_on : {ask : ℕ → Content} (r : Served c n entry.Idle ask) (hop : ℕ)
+module _ (c : Config) (n : Net) (order : IsOrderly c n) {T : Type 0} {at : T → Entry} where
+  sent_on : {ask : ℕ → Content} (r : Served c n at ask) (z : Entry) (hop : ℕ)
+      → IsStill (at r.state) z
       → key_of (letter r.node hop r.origin r.call (ask r.page))
       ≡ key_of (letter r.from r.node r.origin r.call (ask r.page))
       → ((q : ℕ) (bytes : List ℕ) → ask r.page ≡ content.ReadRep q bytes → ⊥)
       → ((q bits : ℕ) (bytes : List ℕ) → ask r.page ≡ content.WriteRep q bits bytes → ⊥)
-      → IsExpected c (sent_net n r hop) (letter r.node hop r.origin r.call (ask r.page))
-      → IsOrderly c (sent_net n r hop)
-  sent_on {ask = ask} r hop key no_copy no_page fits =
-      calm_orderly c n _ x p (entry.Idle s) (entry.Idle s)
+      → IsExpected c (sent_net n r z hop) (letter r.node hop r.origin r.call (ask r.page))
+      → IsOrderly c (sent_net n r z hop)
+  sent_on {ask = ask} r z hop still key no_copy no_page fits =
+      calm_orderly c n _ x p (at s) z
       (Underway x hop (length (n.posted x hop)))
       (letter from x o call (ask p)) (letter x hop o call (ask p)) rest
-      (answer_step n x p (entry.Idle s) (entry.Idle s) _ rest hop o call (ask p) is loose
-      (λ k q h. h))
+      (answer_step n x p (at s) z _ rest hop o call (ask p) is loose
+      (λ k q h. ap (λ l. slice_get l k) (sym still.put_off) ∙ h))
       order
       (record {
         loose = loose;
         same_key = key;
         fits = fits;
-        keeps = λ l h. h;
-        entry = same_entry c n x p (entry.Idle s) order is;
+        keeps = still.needs;
+        entry = still.entry x (same_entry c n x p (at s) order is);
       })
-      (record { no_copy = no_copy; no_page = no_page; owner = λ h. (h, refl); reader = λ h. h })
+      (record {
+        no_copy = no_copy;
+        no_page = no_page;
+        owner = still.owner;
+        reader = still.reader;
+      })
     where
       open r use {node as x, page as p, from, origin as o, call, state as s, rest, loose, is}
 
-  pub read_sent_on : (r : Served c n entry.Idle content.ReadReq) (hop : ℕ)
-      → IsOrderly c (sent_net n r hop)
-  read_sent_on r hop = sent_on r hop refl (λ q bytes h. cc) (λ q bits bytes h. cc) (
+  pub read_sent_on : (r : Served c n at content.ReadReq) (z : Entry) (hop : ℕ)
+      → IsStill (at r.state) z → IsOrderly c (sent_net n r z hop)
+  read_sent_on r z hop still = sent_on r z hop still refl (λ q bytes h. cc) (λ q bits bytes h. cc) (
     record { below = fit.0.below; inside = fit.0.inside },
     subst (λ y. AwaitsCopy y call)
-        (sym (written-other n.entry x p (entry.Idle s) o p (inl foreign))) fit.1,
+        (sym (written-other n.entry x p z o p (inl foreign))) fit.1,
   )
     where
       open r use {node as x, page as p, from, origin as o, call, state as s, rest, loose, foreign}
@@ -76,12 +116,12 @@ module _ (c : Config) (n : Net) (order : IsOrderly c n) where
       fit : IsExpectedAs c n (letter from x o call (content.ReadReq p)) (content.ReadReq p)
       fit = first_fits c n order (letter from x o call (content.ReadReq p)) rest loose
 
-  pub write_sent_on : (r : Served c n entry.Idle content.WriteReq) (hop : ℕ)
-      → IsOrderly c (sent_net n r hop)
-  write_sent_on r hop = sent_on r hop refl (λ q bytes h. cc) (λ q bits bytes h. cc) (
+  pub write_sent_on : (r : Served c n at content.WriteReq) (z : Entry) (hop : ℕ)
+      → IsStill (at r.state) z → IsOrderly c (sent_net n r z hop)
+  write_sent_on r z hop still = sent_on r z hop still refl (λ q bytes h. cc) (λ q bits bytes h. cc) (
     record { below = fit.0.below; inside = fit.0.inside },
     subst (λ y. AwaitsPage y call)
-        (sym (written-other n.entry x p (entry.Idle s) o p (inl foreign))) fit.1,
+        (sym (written-other n.entry x p z o p (inl foreign))) fit.1,
   )
     where
       open r use {node as x, page as p, from, origin as o, call, state as s, rest, loose, foreign}

@@ -20,7 +20,7 @@ use Rattle.proof_table.specs.stated.Waiting.{IsReadPending, asks_copy, gets_copy
 use Rattle.proof_table.specs.waiting.Readers.{IsFair}
 use Rattle.proof_table.proofs.waiting.Readers.{asked_at}
 use Rattle.proof_table.proofs.waiting.Onward.{AsksFor, IsBounded}
-use Rattle.proof_table.proofs.waiting.Ranks.{IsSoon, IsServedBy, IsServedIn, holds, behind, IsAnsweredIn, copies, comes, collects, reads, writes, IsReachedIn, near, nears}
+use Rattle.proof_table.proofs.waiting.Ranks.{IsSoon, IsServedBy, IsServedIn, holds, behind, copies, comes, collects, IsAnsweredIn, brought, reads, writes, IsReachedIn, near, nears}
 
 -- how many of the first numbers pass
 abbrev bit : Bool → ℕ
@@ -323,8 +323,8 @@ module _ (c : Config) (config : IsConfig c) (m : ℕ → Owners) (n : Net) (orde
 
     by_reader : IsReadPending n o p → IsEither
     by_reader (gets_copy source k) =
-        inl (copies k.at k.letter k.bytes k.there k.dest k.brings
-        (inr (let some = some_nodes in omega (arith, some))))
+        inl (brought (copies k.at k.letter k.bytes k.there k.dest k.brings
+        (inr (let some = some_nodes in omega (arith, some)))))
     by_reader (asks_copy at k) = elim (cases_eq at w) [
       | inr ne ↦ inl (reads_near o at ne k)
       | inl same ↦ inr (k.at, k.letter, k.there, k.asker, inl k.asks, k.dest ∙ same)
@@ -333,7 +333,7 @@ module _ (c : Config) (config : IsConfig c) (m : ℕ → Owners) (n : Net) (orde
     by_waiter : is_owner (n.entry o p) ≡ false → IsWritePending n o p → IsEither
     by_waiter plain (gets_page (owns_page h)) = absurd (both_ways (is_owner (n.entry o p)) plain h)
     by_waiter plain (gets_page (page_comes at l bits bytes there to is)) =
-        inl (comes (record {
+        inl (brought (comes (record {
           at = at;
           letter = l;
           bits = bits;
@@ -341,7 +341,7 @@ module _ (c : Config) (config : IsConfig c) (m : ℕ → Owners) (n : Net) (orde
           there = there;
           dest = to;
           brings = is;
-        }) (inr (let some = some_nodes in omega (arith, some))))
+        }) (inr (let some = some_nodes in omega (arith, some)))))
     by_waiter plain (asks_page at k) = elim (cases_eq at w) [
       | inr ne ↦ inl (writes_near o at ne k)
       | inl same ↦ inr (k.at, k.letter, k.there, k.asker, inr k.asks, k.dest ∙ same)
@@ -356,8 +356,8 @@ module _ (c : Config) (config : IsConfig c) (m : ℕ → Owners) (n : Net) (orde
         (awaited.writers o p s.waiting.call
         (subst (λ v. AwaitsPage v s.waiting.call) (sym is) refl))
     either_by (entry.AwaitAcks s) is shut =
-        inl (collects 2 (ap is_owner is) (λ target call missed. tt)
-        (let some = some_nodes in omega (arith, some)))
+        inl (brought (collects 2 (ap is_owner is) (λ target call missed. tt)
+        (let some = some_nodes in omega (arith, some))))
 
     -- where all that is under way comes soon
     pub first_reached : ((a : Place) (l : Letter) → IsAt n a l → IsSoon due a)
@@ -370,12 +370,13 @@ module _ (c : Config) (config : IsConfig c) (m : ℕ → Owners) (n : Net) (orde
       where
         more : (r : ℕ) → r ≤ 6 * c.nodes → IsAnsweredIn n due p w o r
             → IsAnsweredIn n due p w o (6 * c.nodes)
-        more r le (copies a l bytes at to says less) =
-            copies a l bytes at to says (inr (let some = some_nodes in omega (arith, some)))
-        more r le (comes k less) =
-            comes k (inr (let some = some_nodes in omega (arith, some)))
-        more r le (collects e own recalled few) =
-            collects e own recalled (omega (arith, le, few))
+        more r le (brought (copies a l bytes at to says less)) =
+            brought (copies a l bytes at to says
+            (inr (let some = some_nodes in omega (arith, some))))
+        more r le (brought (comes k less)) =
+            brought (comes k (inr (let some = some_nodes in omega (arith, some))))
+        more r le (brought (collects e own recalled few)) =
+            brought (collects e own recalled (omega (arith, le, few)))
         more r le (reads a l k at origin says ne rest few) =
             reads a l k at origin says ne rest (omega (arith, le, few))
         more r le (writes a l k at origin says ne rest few) =

@@ -105,11 +105,16 @@ abbrev pub AsksFor : ℕ → Letter → Type 0
 AsksFor page l =
     (l.message.content ≡ content.ReadReq page) ⊎ (l.message.content ≡ content.WriteReq page)
 
--- a node that gives the page has no other request about it, but where it manages the page
-pub record IsGivenAway (c : Config) (n n' : Net) (node page : ℕ) : Type 0 where
+-- elsewhere than at the node that manages the page
+abbrev pub IsElsewhere : Config → ℕ → ℕ → Type 0
+IsElsewhere c node page = node ≢ page % c.nodes
+
+-- A node that gives the page has no other request about it, if it is one of those at which requests
+-- are `alone` then: under managing nodes, elsewhere than at the one that manages the page.
+pub record IsGivenAway (alone : ℕ → ℕ → Type 0) (n n' : Net) (node page : ℕ) : Type 0 where
   pub idle : is_locked (n.entry node page) ≡ false
   pub none : (a : Place) (l : Letter) → IsAt n a l → l.dest ≡ node → AsksFor page l
-      → node ≢ page % c.nodes → IsStill n' a l → ⊥
+      → alone node page → IsStill n' a l → ⊥
 
 -- the letter is to be delivered in this step, or was; or it is new
 abbrev pub IsDue : (ℕ → ℕ → ℕ) → Place → Type 0
@@ -141,7 +146,7 @@ abbrev pub IsBounded : Config → Net → Type 0
 IsBounded c n = (y p : ℕ) → c.nodes ≤ y → claims (n.entry y p) ≡ false
 
 -- what a step does
-pub record IsOnward (c : Config) (n n' : Net) : Type 0 where
+pub record IsOnward (c : Config) (alone : ℕ → ℕ → Type 0) (n n' : Net) : Type 0 where
   -- a letter that is due was so before, and was not served, but where a word was carried out
   pub dues : (due : ℕ → ℕ → ℕ) → IsPromised due n → IsWithin due n' → (b : Place) (l : Letter)
       → IsAt n' b l → IsDue due b
@@ -158,7 +163,7 @@ pub record IsOnward (c : Config) (n n' : Net) : Type 0 where
   pub stays : (a : Place) (l : Letter) → IsAt n a l
       → IsStill n' a l ⊎ IsAnswered n n' l l.message.content
   pub owners : (y p : ℕ) → is_owner (n.entry y p) ≡ true
-      → (is_owner (n'.entry y p) ≡ true) ⊎ IsGivenAway c n n' y p
+      → (is_owner (n'.entry y p) ≡ true) ⊎ IsGivenAway alone n n' y p
   pub collects : (y p target call : ℕ) → is_owner (n.entry y p) ≡ true
       → Collects (n'.entry y p) call target
       → Collects (n.entry y p) call target
@@ -271,8 +276,8 @@ module _ (n : Net) (x p : ℕ) (e z : Entry) (left : List Letter) (parcels : Lis
       absurd (none-some l (ap (λ v. slice_get v k) (sym none) ∙ at))
 
 -- an entry is written: what has to be shown of it
-module _ (c : Config) (n n' : Net) (x p : ℕ) (e z : Entry) (now : Place → Place)
-    (New : Place → Letter → Type 0) (step : IsStep n n' x p e z now New) where
+module _ (c : Config) (alone : ℕ → ℕ → Type 0) (n n' : Net) (x p : ℕ) (e z : Entry)
+    (now : Place → Place) (New : Place → Letter → Type 0) (step : IsStep n n' x p e z now New) where
   pub record IsEntryOnward : Type 0 where
     pub here : x < c.nodes
     pub how : ((a : Place) → now a ≡ served a)
@@ -285,7 +290,7 @@ module _ (c : Config) (n n' : Net) (x p : ℕ) (e z : Entry) (now : Place → Pl
     pub moves : (a : Place) → a ≢ Loose 0 → IsLater a (now a)
     pub stays : (a : Place) (l : Letter) → IsAt n a l
         → IsStill n' a l ⊎ IsAnswered n n' l l.message.content
-    pub owner : is_owner e ≡ true → (is_owner z ≡ true) ⊎ IsGivenAway c n n' x p
+    pub owner : is_owner e ≡ true → (is_owner z ≡ true) ⊎ IsGivenAway alone n n' x p
     pub collects : (target call : ℕ) → is_owner e ≡ true → Collects z call target
         → Collects e call target ⊎ ((n.loose ≡ []) × (is_locked e ≡ false))
     pub locks : is_locked e ≡ true → (is_locked z ≡ true) ⊎ IsFreed n x p
@@ -343,7 +348,7 @@ module _ (c : Config) (n n' : Net) (x p : ℕ) (e z : Entry) (now : Place → Pl
     ]
   ]
 
-  pub entry_onward : IsEntryOnward → IsOnward c n n'
+  pub entry_onward : IsEntryOnward → IsOnward c alone n n'
   entry_onward k = record {
     dues = λ due most within b l at soon. due_before k due most b l at soon;
     entries = λ y q. elim (step.elsewhere y q) [
@@ -360,7 +365,7 @@ module _ (c : Config) (n n' : Net) (x p : ℕ) (e z : Entry) (now : Place → Pl
       | inr other ↦ other.1
     ];
     stays = k.stays;
-    owners = at_entry (λ y q u v. is_owner u ≡ true → (is_owner v ≡ true) ⊎ IsGivenAway c n n' y q)
+    owners = at_entry (λ y q u v. is_owner u ≡ true → (is_owner v ≡ true) ⊎ IsGivenAway alone n n' y q)
         k.owner (λ y q v h. inl h);
     collects = λ y q target call.
         at_entry (λ a b u v. is_owner u ≡ true → Collects v call target
@@ -389,7 +394,8 @@ uninstalls n x p bytes (Underway i j k) l at = at
 uninstalls n x p bytes (Aside i q k) l at = at
 uninstalls n x p bytes (Loose k) l at = at
 
-module _ (c : Config) (n n' : Net) (x p : ℕ) (bytes : List ℕ) (on : IsOnward c n n') where
+module _ (c : Config) {alone : ℕ → ℕ → Type 0} (n n' : Net) (x p : ℕ) (bytes : List ℕ)
+    (on : IsOnward c alone n n') where
   abbrev installed : Net
   installed = installs n' x p bytes
 
@@ -467,7 +473,7 @@ module _ (c : Config) (n n' : Net) (x p : ℕ) (bytes : List ℕ) (on : IsOnward
     source = k.source;
   }
 
-  pub installed_onward : IsOnward c n installed
+  pub installed_onward : IsOnward c alone n installed
   installed_onward = record {
     dues = λ due most within b l at soon. on.dues due most within b l (uninstalls n' x p bytes b l at) soon;
     entries = on.entries;
@@ -491,7 +497,7 @@ module _ (c : Config) (n n' : Net) (x p : ℕ) (bytes : List ℕ) (on : IsOnward
   }
 
 -- nothing is done
-pub none_onward : (c : Config) (n : Net) → IsOnward c n n
+pub none_onward : (c : Config) {alone : ℕ → ℕ → Type 0} (n : Net) → IsOnward c alone n n
 none_onward c n = record {
   dues = λ due most within b l at soon. inl (b, at, soon, inr (λ y q. refl));
   entries = λ y q. inl refl;
@@ -515,5 +521,6 @@ posts_longer n x p z left parcels i j = (
 )
 
 -- a step leaves it so
-pub still_bounded : (c : Config) (n n' : Net) → IsOnward c n n' → IsBounded c n → IsBounded c n'
+pub still_bounded : (c : Config) {alone : ℕ → ℕ → Type 0} (n n' : Net) → IsOnward c alone n n'
+    → IsBounded c n → IsBounded c n'
 still_bounded c n n' on bounded y p past = ap claims (on.beyond y p past) ∙ bounded y p past

@@ -549,7 +549,7 @@ claims_on n x p z sure y h = elim (same_or_other y p x p) [
 module _ (c : Config) (config : IsConfig c) where
   -- each row keeps it
   pub fair_by : {m : ℕ → Owners} {n : Net} {f : ℕ → List ℕ} {notice : Notice} {n' : Net}
-      {f' : ℕ → List ℕ} → Row c n f notice n' f' → IsNamedBy fixed_ops c m notice
+      {f' : ℕ → List ℕ} → Row false c n f notice n' f' → IsNamedBy fixed_ops c m notice
       → IsOrderly c n → IsManaged c m n → IsFair c n → IsFair c n'
   fair_by (Row.carries r) of o h fair = installed_fair c _ fair r.node r.page _
   fair_by (Row.takes r) of o h fair = λ q.
@@ -577,8 +577,14 @@ module _ (c : Config) (config : IsConfig c) where
       answered_fair c _ fair r _ _ _ (λ k q g. g) (λ g. g) (sym plain)
   fair_by (Row.gives_up r sender) of o h fair =
       answered_fair c _ fair r _ _ _ (λ k q g. g) (λ g. g) refl
-  fair_by (Row.puts_off r) of o h fair = put_fair c _ fair r
-  fair_by (Row.copy_comes bytes r same) of o h fair =
+  fair_by (Row.puts_off r kept) of o h fair = put_fair c _ fair r
+  fair_by (Row.reader_sends_on_read r hop sends away) of o h fair =
+      absurd (let g : false ≡ true = sends in cc)
+  fair_by (Row.reader_sends_on_write r hop sends away) of o h fair =
+      absurd (let g : false ≡ true = sends in cc)
+  fair_by (Row.copy_comes_late bytes r same sent) of o h fair =
+      installed_fair c _ (came_fair c _ fair r (entry.Idle copying) refl refl) r.node r.page bytes
+  fair_by (Row.copy_comes bytes r same quiet) of o h fair =
       installed_fair c _ (came_fair c _ fair r (entry.Idle copying) refl refl) r.node r.page bytes
   fair_by (Row.page_comes copies bytes r same none) of o h fair =
       installed_fair c _ (came_fair c _ fair r (entry.Idle owning) refl refl) r.node r.page bytes

@@ -18,7 +18,7 @@ use Rattle.proof_table.proofs.transitions.Sole.{fits_as}
 use Rattle.proof_table.specs.stated.Sending.{IsPosted}
 use Rattle.proof_table.specs.stated.Waiting.{IsAwaited, IsRecallPending, ordered, gave_up}
 use Rattle.proof_table.proofs.waiting.Onward.{IsArrived, IsComing, AsksFor}
-use Rattle.proof_table.proofs.waiting.Ranks.{IsSoon, IsOrdered, IsRecalled, AreRecalled, IsHeld, IsServedBy, holds, behind, IsAnsweredIn, copies, comes, collects, reads, writes, IsReachedIn, near, waits, free, nears, unlocked_loose}
+use Rattle.proof_table.proofs.waiting.Ranks.{IsSoon, IsOrdered, IsRecalled, AreRecalled, IsHeld, IsServedBy, holds, behind, IsBroughtIn, copies, comes, collects, IsAnsweredIn, brought, reads, writes, IsReachedIn, near, waits, free, nears, unlocked_loose}
 
 -- what can be put off
 abbrev pub IsPut : Content → Type 0
@@ -73,11 +73,11 @@ module _ (c : Config) (n : Net) (order : IsOrderly c n) (awaited : IsAwaited n) 
   abbrev due' : ℕ → ℕ → ℕ
   due' = next_due n
 
-  all_soon : (a : Place) (l : Letter) → IsAt n a l → IsSoon due' a
+  pub all_soon : (a : Place) (l : Letter) → IsAt n a l → IsSoon due' a
   all_soon = all_next n
 
   -- what came soon is put off now
-  soon_put : (a : Place) (l : Letter) → IsAt n a l → IsSoon due a
+  pub soon_put : (a : Place) (l : Letter) → IsAt n a l → IsSoon due a
       → IsPut l.message.content × IsArrived a
   soon_put (Underway i j k) l at soon =
       absurd (let e = ended i j in let low = at.0 in omega (arith, e, low, soon))
@@ -90,14 +90,14 @@ module _ (c : Config) (n : Net) (order : IsOrderly c n) (awaited : IsAwaited n) 
   no_ack : (y x : ℕ) (k : IsPosted n (content.InvalAck p) x y) → IsSoon due k.at → ⊥
   no_ack y x k soon = subst IsPut k.says (soon_put k.at k.letter k.there soon).0
 
-  no_page : (y : ℕ) (k : IsComing n p y) → IsSoon due k.at → ⊥
+  pub no_page : (y : ℕ) (k : IsComing n p y) → IsSoon due k.at → ⊥
   no_page y k soon = subst IsPut k.brings (soon_put k.at k.letter k.there soon).0
 
-  no_copy : (a : Place) (l : Letter) (bytes : List ℕ) → IsAt n a l
+  pub no_copy : (a : Place) (l : Letter) (bytes : List ℕ) → IsAt n a l
       → l.message.content ≡ content.ReadRep p bytes → IsSoon due a → ⊥
   no_copy a l bytes at says soon = subst IsPut says (soon_put a l at soon).0
 
-  recalled_none : (y : ℕ) → is_owner (n.entry y p) ≡ true → is_locked (n.entry y p) ≡ true
+  pub recalled_none : (y : ℕ) → is_owner (n.entry y p) ≡ true → is_locked (n.entry y p) ≡ true
       → AreRecalled n due p w 0 y → ⊥
   recalled_none y own shut recalled =
       missed.some y own shut
@@ -133,7 +133,7 @@ module _ (c : Config) (n : Net) (order : IsOrderly c n) (awaited : IsAwaited n) 
       fits_as c n order k.at k.letter (content.Inval p) k.there k.says in
       sym fit.1 ∙ k.from
 
-  recalled_less : (e y : ℕ) → AreRecalled n due p w (suc e) y → AreRecalled n due' p w e y
+  pub recalled_less : (e y : ℕ) → AreRecalled n due p w (suc e) y → AreRecalled n due' p w e y
   recalled_less zero y recalled x call col = elim (recalled x call col) [
     | inl back ↦ (back, all_soon back.at back.letter back.there)
     | inr k ↦ elim (missed.has y x call col) [
@@ -158,7 +158,7 @@ module _ (c : Config) (n : Net) (order : IsOrderly c n) (awaited : IsAwaited n) 
   recalled_less (suc (suc e)) y recalled x call col = tt
 
   -- a request that came is put off at a locked entry
-  put_locked : (a : Place) (l : Letter) (y : ℕ) → IsAt n a l → l.dest ≡ y → AsksFor p l
+  pub put_locked : (a : Place) (l : Letter) (y : ℕ) → IsAt n a l → l.dest ≡ y → AsksFor p l
       → IsArrived a → is_locked (n.entry y p) ≡ true
   put_locked a l y at to asks arrived = elim (cases_Bool (is_locked (n.entry y p))) [
     | inl shut ↦ shut
@@ -207,33 +207,41 @@ module _ (c : Config) (n : Net) (order : IsOrderly c n) (awaited : IsAwaited n) 
       behind b k j bt origin says ne
       (served_less d b k.dest (suc j) j k refl bt refl (inr says) rest) (omega (arith, is, le))
 
-  pub answered_none : (o s : ℕ) → s ≡ 0 → is_locked (n.entry o p) ≡ true
-      → IsAnsweredIn n due p w o s → ⊥
-  answered_none o s is shut (copies a l bytes at to says less) = elim less [
+  pub brought_none : (o s : ℕ) → s ≡ 0 → is_locked (n.entry o p) ≡ true
+      → IsBroughtIn n due p w o s → ⊥
+  brought_none o s is shut (copies a l bytes at to says less) = elim less [
     | inl soon ↦ no_copy a l bytes at says soon
     | inr le ↦ omega (arith, is, le)
   ]
-  answered_none o s is shut (comes k less) = elim less [
+  brought_none o s is shut (comes k less) = elim less [
     | inl h ↦ no_page o k h.0
     | inr le ↦ omega (arith, is, le)
   ]
-  answered_none o s is shut (collects zero own recalled le) = recalled_none o own shut recalled
-  answered_none o s is shut (collects (suc e) own recalled le) = omega (arith, is, le)
+  brought_none o s is shut (collects zero own recalled le) = recalled_none o own shut recalled
+  brought_none o s is shut (collects (suc e) own recalled le) = omega (arith, is, le)
+
+  pub brought_less : (o s r : ℕ) → s ≡ suc r → is_locked (n.entry o p) ≡ true
+      → IsBroughtIn n due p w o s → IsBroughtIn n due' p w o r
+  brought_less o s r is shut (copies a l bytes at to says less) =
+      copies a l bytes at to says (inl (all_soon a l at))
+  brought_less o s r is shut (comes k less) = elim less [
+    | inl h ↦ absurd (no_page o k h.0)
+    | inr le ↦ comes k (inl (all_soon k.at k.letter k.there, omega (arith, is, le)))
+  ]
+  brought_less o s r is shut (collects zero own recalled le) =
+      absurd (recalled_none o own shut recalled)
+  brought_less o s r is shut (collects (suc e) own recalled le) =
+      collects e own (recalled_less e o recalled) (omega (arith, is, le))
+
+  pub answered_none : (o s : ℕ) → s ≡ 0 → is_locked (n.entry o p) ≡ true
+      → IsAnsweredIn n due p w o s → ⊥
+  answered_none o s is shut (brought h) = brought_none o s is shut h
   answered_none o s is shut (reads a l k at origin says ne rest le) = omega (arith, is, le)
   answered_none o s is shut (writes a l k at origin says ne rest le) = omega (arith, is, le)
 
   pub answered_less : (o s r : ℕ) → s ≡ suc r → is_locked (n.entry o p) ≡ true
       → IsAnsweredIn n due p w o s → IsAnsweredIn n due' p w o r
-  answered_less o s r is shut (copies a l bytes at to says less) =
-      copies a l bytes at to says (inl (all_soon a l at))
-  answered_less o s r is shut (comes k less) = elim less [
-    | inl h ↦ absurd (no_page o k h.0)
-    | inr le ↦ comes k (inl (all_soon k.at k.letter k.there, omega (arith, is, le)))
-  ]
-  answered_less o s r is shut (collects zero own recalled le) =
-      absurd (recalled_none o own shut recalled)
-  answered_less o s r is shut (collects (suc e) own recalled le) =
-      collects e own (recalled_less e o recalled) (omega (arith, is, le))
+  answered_less o s r is shut (brought h) = brought (brought_less o s r is shut h)
   answered_less o s r is shut (reads a l zero at origin says ne rest le) =
       absurd (served_none rest.0 a l.dest 0 l refl at refl (inl says) rest.1)
   answered_less o s r is shut (reads a l (suc k) at origin says ne rest le) =

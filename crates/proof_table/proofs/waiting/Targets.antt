@@ -1,22 +1,15 @@
 -- A word that waits, followed through a step of a world: one letter at most is delivered in it. The
 -- word waits on, and no longer than before; or that letter is what it waited for last.
-use Rattle.std.proofs.Common.{◌≡◌, ◌≢◌, ◌⊎◌, ◌<◌, ◌%◌, ℕ, true, false, slice_get, refl, sym, ap, ◌∙◌, subst, inl, inr, arith}
+use Rattle.std.proofs.Common.{◌≡◌, ◌≢◌, ◌⊎◌, ◌<◌, ℕ, true, false, slice_get, refl, sym, ap, ◌∙◌, subst, inl, inr, arith}
 use Rattle.std.proofs.lemmas.Bool.{cases_Bool, cases_eq, both_ways}
 use Rattle.std.proofs.lemmas.Option.{none-some}
 use Rattle.ivy_model.specs.declared.Config.{Config}
-use Rattle.ivy_model.specs.stated.Config.{IsConfig}
 use Rattle.ivy_pagetable.specs.declared.Entry.{Entry}
 use Rattle.ivy_pagetable.specs.declared.Entry.TheVariants as entry
 use Rattle.ivy_pagetable.specs.stated.Entries.{is_locked}
-use Rattle.ivy_fixed.specs.stated.Fixed.{Owners}
 use Rattle.proof_table.specs.stated.Letters.{Letter, Net, Place, Loose, IsAt}
 use Rattle.proof_table.specs.stated.Orderly.{key_of, IsOrderly}
-use Rattle.proof_table.specs.routing.Managing.{IsManaged}
-use Rattle.proof_table.specs.stated.Waiting.{IsAwaited}
-use Rattle.proof_table.specs.waiting.Readers.{IsFair}
-use Rattle.proof_table.proofs.waiting.Onward.{IsDue, IsPromised, IsWithin, IsLast, IsFreed, IsBounded, IsOnward}
-use Rattle.proof_table.proofs.waiting.Ranks.{IsReachedIn, reached_on}
-use Rattle.proof_table.proofs.waiting.Bounds.{served_soon}
+use Rattle.proof_table.proofs.waiting.Onward.{IsDue, IsPromised, IsWithin, IsLast, IsFreed, IsOnward}
 
 pub last_locked : (e : Entry) (l : Letter) (p : ℕ) → IsLast e l p → is_locked e ≡ true
 last_locked (entry.Idle s) l p h = absurd h
@@ -31,32 +24,32 @@ pub record IsLastAt (i p : ℕ) (e : Entry) (l : Letter) : Type 0 where
   pub last : IsLast e l p
 
 -- Node i waits at page p, and at no other; a letter that is due to it is this one, and finds the
--- entry as it was. By the end of the round `due` is delivered, by that of the step `step`.
-pub record IsAimed (c : Config) (due step : ℕ → ℕ → ℕ) (i p : ℕ) (e : Entry) (l : Letter) (r : ℕ)
-    (n : Net) : Type 0 where
+-- entry as it was; and this holds. By the end of the step `step` is delivered.
+pub record IsAimed (Holds : Type 0) (step : ℕ → ℕ → ℕ) (i p : ℕ) (e : Entry) (l : Letter) (n : Net)
+    : Type 0 where
   pub shut : is_locked (n.entry i p) ≡ true
   pub others : (q : ℕ) → q ≢ p → is_locked (n.entry i q) ≡ false
   pub only : (a : Place) (k : Letter) → IsAt n a k → IsDue step a → k.dest ≡ i
       → (k ≡ l) × (n.entry i p ≡ e)
-  pub reached : IsReachedIn n due p (p % c.nodes) c.nodes i r
+  pub holds : Holds
 
 -- so it is while no more is delivered than in the step
-pub record IsFollowed (c : Config) (due step : ℕ → ℕ → ℕ) (i p : ℕ) (e : Entry) (l : Letter) (r : ℕ)
-    (n : Net) : Type 0 where
+pub record IsFollowed (Holds : Type 0) (step : ℕ → ℕ → ℕ) (i p : ℕ) (e : Entry) (l : Letter) (n : Net)
+    : Type 0 where
   pub promised : IsPromised step n
-  pub aims : IsWithin step n → IsAimed c due step i p e l r n ⊎ IsLastAt i p e l
+  pub aims : IsWithin step n → IsAimed Holds step i p e l n ⊎ IsLastAt i p e l
 
-module _ (c : Config) (config : IsConfig c) (m m' : ℕ → Owners) (n n' : Net) (on : IsOnward c n n')
-    (order : IsOrderly c n) (managed : IsManaged c m n) (fair : IsFair c n)
-    (order' : IsOrderly c n') (managed' : IsManaged c m' n') (awaited' : IsAwaited n')
-    (fair' : IsFair c n') (bounded' : IsBounded c n') (due step : ℕ → ℕ → ℕ) (i p : ℕ)
-    (inside : p < c.pages) (e : Entry) (l : Letter) (r : ℕ) where
+-- `keeps`: what holds while the word waits holds after the step if it waits on
+module _ (c : Config) {alone : ℕ → ℕ → Type 0} (n n' : Net) (on : IsOnward c alone n n')
+    (order : IsOrderly c n) (step : ℕ → ℕ → ℕ) (i p : ℕ) (e : Entry) (l : Letter)
+    {Before After : Type 0}
+    (keeps : is_locked (n.entry i p) ≡ true → is_locked (n'.entry i p) ≡ true → Before → After) where
   was_within : IsWithin step n' → IsWithin step n
   was_within within x y =
       let a = (on.grows x y).1 in let b = within x y in omega (arith, a, b)
 
   module _ (promised : IsPromised step n) (within : IsWithin step n')
-      (a : IsAimed c due step i p e l r n) where
+      (a : IsAimed Before step i p e l n) where
     to_last : IsFreed n i p → IsLastAt i p e l
     to_last f =
         let it = a.only (Loose 0) f.letter (ap (λ v. slice_get v 0) f.loose) tt f.dest in
@@ -116,18 +109,15 @@ module _ (c : Config) (config : IsConfig c) (m m' : ℕ → Owners) (n n' : Net)
       ])
     ]
 
-    aimed_on : is_locked (n'.entry i p) ≡ true → IsAimed c due step i p e l r n'
+    aimed_on : is_locked (n'.entry i p) ≡ true → IsAimed After step i p e l n'
     aimed_on shut = record {
       shut = shut;
       others = others_on;
       only = only_on shut;
-      reached =
-          reached_on c m n n' on order managed fair due p inside
-          (λ b k at asks ne. served_soon c config m' n' order' managed' awaited' fair' bounded' due p
-          inside b k at asks ne) config.nodes_from i r a.shut shut a.reached;
+      holds = keeps a.shut shut a.holds;
     }
 
-  pub followed_on : IsFollowed c due step i p e l r n → IsFollowed c due step i p e l r n'
+  pub followed_on : IsFollowed Before step i p e l n → IsFollowed After step i p e l n'
   followed_on h = record {
     promised = λ x y. (let a = (on.grows x y).0 in let b = h.promised x y in omega (arith, a, b));
     aims = λ within. elim (h.aims (was_within within)) [

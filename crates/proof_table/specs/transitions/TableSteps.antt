@@ -20,6 +20,7 @@ use Rattle.ivy_pagetable.specs.stated.Entries.{is_locked, is_owner, can_put_off,
 use Rattle.ivy_pagetable.specs.stated.Words.{IsWord, carried_out}
 use Rattle.ivy_pagetable.specs.stated.Manager.{Ops}
 use Rattle.ivy_coherence.specs.stated.Serving.{counted, invalidations}
+use Rattle.ivy_coherence.specs.stated.MessageSteps.{sending}
 use Rattle.ivy_coherence.specs.stated.PageFaults.{waiting_from}
 use Rattle.ivy_moves.specs.stated.FifoWorld.{one_more}
 use Rattle.proof_table.specs.stated.Letters.{Letter, Net, content_of, letter_of}
@@ -217,25 +218,25 @@ abbrev pub bare : AwaitWriteState → AwaitWriteState
 bare s = record { had_copy = false; waiting = s.waiting }
 
 -- One step from this net and these pages of the flat memory to those, of which a manager has this
--- notice.
-pub data Row (c : Config) (n : Net) (f : ℕ → List ℕ) : Notice → Net → (ℕ → List ℕ) → Type 0 where
+-- notice. `sends` says whether requests are sent on where a copy is awaited, and not put off.
+pub data Row (sends : Bool) (c : Config) (n : Net) (f : ℕ → List ℕ) : Notice → Net → (ℕ → List ℕ) → Type 0 where
   -- a word is carried out where access suffices
-  carries : (r : Carries c n) → Row c n f Silent
+  carries : (r : Carries c n) → Row sends c n f Silent
       (installs n r.node r.page (carried_out r.word (n.page r.node r.page)).bytes)
       (with_flat_page f r.page (carried_out r.word (f r.page)).bytes)
   -- a letter is taken; one that fits no rule is dropped
-  takes : (r : Takes n) → Row c n f Silent (taken n r.source r.dest r.message) f
-  drops : (r : Drops c n) → Row c n f Silent (dropped n r.node r.rest) f
+  takes : (r : Takes n) → Row sends c n f Silent (taken n r.source r.dest r.message) f
+  drops : (r : Drops c n) → Row sends c n f Silent (dropped n r.node r.rest) f
   -- at an idle entry of the owner: a copy is given, or the page itself
   shares : (r : Served c n entry.Idle content.ReadReq) → r.state.owner ≡ true
       → IsBelow c.nodes r.state.copies
-      → Row c n f Silent
+      → Row sends c n f Silent
       (goes_on n r.node r.page (entry.Idle (sharing (set.insert r.state.copies r.origin))) r.rest
       (parcel_to r.node r.origin r.origin r.call
       (content.ReadRep r.page (n.page r.node r.page)) ∷ [])) f
   gives : (r : Served c n entry.Idle content.WriteReq) → r.state.owner ≡ true
       → IsBelow c.nodes r.state.copies
-      → Row c n f (Given r.node r.page r.origin)
+      → Row sends c n f (Given r.node r.page r.origin)
       (goes_on n r.node r.page (entry.Idle without) r.rest
       (parcel_to r.node r.origin r.origin r.call
       (content.WriteRep r.page (bits_of (set.remove r.state.copies r.origin))
@@ -243,39 +244,62 @@ pub data Row (c : Config) (n : Net) (f : ℕ → List ℕ) : Notice → Net → 
   -- at an idle entry of another node: a request is sent on, or the copy is given up
   sends_on_read : (r : Served c n entry.Idle content.ReadReq) (hop : ℕ) → r.state.owner ≡ false
       → IsHop c r.node hop
-      → Row c n f (Forwarded r.node r.page false r.origin hop)
+      → Row sends c n f (Forwarded r.node r.page false r.origin hop)
       (goes_on n r.node r.page (entry.Idle r.state) r.rest
       (parcel_to r.node hop r.origin r.call
       (content.ReadReq r.page) ∷ [])) f
   sends_on_write : (r : Served c n entry.Idle content.WriteReq) (hop : ℕ) → r.state.owner ≡ false
       → IsHop c r.node hop
-      → Row c n f (Forwarded r.node r.page true r.origin hop)
+      → Row sends c n f (Forwarded r.node r.page true r.origin hop)
       (goes_on n r.node r.page (entry.Idle r.state) r.rest
+      (parcel_to r.node hop r.origin r.call
+      (content.WriteReq r.page) ∷ [])) f
+  -- where a copy is awaited: a request is sent on, the way that the node's own went
+  reader_sends_on_read : (r : Served c n entry.AwaitRead content.ReadReq) (hop : ℕ)
+      → sends ≡ true → IsHop c r.node hop
+      → Row sends c n f (Forwarded r.node r.page false r.origin hop)
+      (goes_on n r.node r.page (entry.AwaitRead (sending r.state)) r.rest
+      (parcel_to r.node hop r.origin r.call
+      (content.ReadReq r.page) ∷ [])) f
+  reader_sends_on_write : (r : Served c n entry.AwaitRead content.WriteReq) (hop : ℕ)
+      → sends ≡ true → IsHop c r.node hop
+      → Row sends c n f (Forwarded r.node r.page true r.origin hop)
+      (goes_on n r.node r.page (entry.AwaitRead (sending r.state)) r.rest
       (parcel_to r.node hop r.origin r.call
       (content.WriteReq r.page) ∷ [])) f
   ends_copy : (r : Served c n entry.Idle content.Inval) → r.from ≡ r.origin
       → r.state.owner ≡ false
-      → Row c n f (Invalidated r.node r.page r.origin)
+      → Row sends c n f (Invalidated r.node r.page r.origin)
       (goes_on n r.node r.page (entry.Idle without) r.rest
       (parcel_to r.node r.origin r.origin r.call (content.InvalAck r.page) ∷ [])) f
-  -- at a locked entry: a copy is given up at once where the page is awaited, all else is put off
+  -- at a locked entry: a copy is given up at once where the page is awaited, all else is put off; but
+  -- where a copy is awaited, only orders if requests are sent on there
   gives_up : (r : Served c n entry.AwaitWrite content.Inval) → r.from ≡ r.origin
-      → Row c n f (Invalidated r.node r.page r.origin)
+      → Row sends c n f (Invalidated r.node r.page r.origin)
       (goes_on n r.node r.page (entry.AwaitWrite (bare r.state)) r.rest
       (parcel_to r.node r.origin r.origin r.call (content.InvalAck r.page) ∷ [])) f
   puts_off : (r : PutsOff c n)
-      → Row c n f Silent (goes_on n r.node r.page (with_put_off r.before r.later) r.rest []) f
+      → ((s : WaitingState) → r.before ≡ entry.AwaitRead s → sends ≡ true
+      → r.later.kind ≡ request.Invalidate)
+      → Row sends c n f Silent (goes_on n r.node r.page (with_put_off r.before r.later) r.rest []) f
   -- what a word waits for comes: what was put off is loose then
   copy_comes : (bytes : List ℕ) (r : Comes c n entry.AwaitRead (λ p. content.ReadRep p bytes))
-      → r.state.call ≡ r.call
-      → Row c n f (Replied r.node r.page false r.from)
+      → r.state.call ≡ r.call → r.state.sent_on ≡ false
+      → Row sends c n f (Replied r.node r.page false r.from)
+      (installs
+      (goes_on n r.node r.page (entry.Idle copying)
+      (map (letter_of r.node r.page) r.state.put_off) []) r.node r.page bytes) f
+  -- the same after a request was sent on meanwhile: the hop stays
+  copy_comes_late : (bytes : List ℕ) (r : Comes c n entry.AwaitRead (λ p. content.ReadRep p bytes))
+      → r.state.call ≡ r.call → r.state.sent_on ≡ true
+      → Row sends c n f Silent
       (installs
       (goes_on n r.node r.page (entry.Idle copying)
       (map (letter_of r.node r.page) r.state.put_off) []) r.node r.page bytes) f
   page_comes : (copies : ℕ) (bytes : List ℕ)
       (r : Comes c n entry.AwaitWrite (λ p. content.WriteRep p copies bytes))
       → r.state.waiting.call ≡ r.call → nodes_with copies ≡ set.empty
-      → Row c n f (Replied r.node r.page true r.from)
+      → Row sends c n f (Replied r.node r.page true r.from)
       (installs
       (goes_on n r.node r.page (entry.Idle owning)
       (map (letter_of r.node r.page) r.state.waiting.put_off) []) r.node r.page bytes) f
@@ -283,7 +307,7 @@ pub data Row (c : Config) (n : Net) (f : ℕ → List ℕ) : Notice → Net → 
       (r : Comes c n entry.AwaitWrite (λ p. content.WriteRep p copies bytes))
       → r.state.waiting.call ≡ r.call → nodes_with copies ≢ set.empty
       → set.contains (nodes_with copies) r.node ≡ false → IsBelow c.nodes (nodes_with copies)
-      → Row c n f (Replied r.node r.page true r.from)
+      → Row sends c n f (Replied r.node r.page true r.from)
       (installs
       (goes_on n r.node r.page
       (entry.AwaitAcks (record { left = nodes_with copies; waiting = r.state.waiting })) []
@@ -291,26 +315,26 @@ pub data Row (c : Config) (n : Net) (f : ℕ → List ℕ) : Notice → Net → 
   acknowledges : (r : Comes c n entry.AwaitAcks content.InvalAck)
       → r.state.waiting.call ≡ r.call → set.contains r.state.left r.from ≡ true
       → set.remove r.state.left r.from ≢ set.empty
-      → Row c n f Silent
+      → Row sends c n f Silent
       (goes_on n r.node r.page
       (entry.AwaitAcks
       (record { left = set.remove r.state.left r.from; waiting = r.state.waiting })) [] []) f
   acknowledges_last : (r : Comes c n entry.AwaitAcks content.InvalAck)
       → r.state.waiting.call ≡ r.call → set.contains r.state.left r.from ≡ true
       → set.remove r.state.left r.from ≡ set.empty
-      → Row c n f Silent
+      → Row sends c n f Silent
       (goes_on n r.node r.page (entry.Idle owning)
       (map (letter_of r.node r.page) r.state.waiting.put_off) []) f
   -- a word begins to wait: for a copy, for the page, for the others to give their copies up
   asks_copy : (r : Begins c n) (hop : ℕ) → r.state.owner ≡ false → reads r.state.access ≡ false
       → IsHop c r.node hop
-      → Row c n f (Asked r.node r.page hop)
+      → Row sends c n f (Asked r.node r.page hop)
       (goes_on n r.node r.page (entry.AwaitRead (waiting_from r.word r.call)) []
       (parcel_to r.node hop r.node r.call
       (content.ReadReq r.page) ∷ [])) f
   asks_page : (r : Begins c n) (hop : ℕ) → r.state.owner ≡ false
       → IsHop c r.node hop
-      → Row c n f (Asked r.node r.page hop)
+      → Row sends c n f (Asked r.node r.page hop)
       (goes_on n r.node r.page
       (entry.AwaitWrite
       (record { had_copy = reads r.state.access; waiting = waiting_from r.word r.call })) []
@@ -319,7 +343,7 @@ pub data Row (c : Config) (n : Net) (f : ℕ → List ℕ) : Notice → Net → 
   ends_copies : (r : Begins c n) → r.state.owner ≡ true → reads r.state.access ≡ true
       → writes r.state.access ≡ false → IsBelow c.nodes r.state.copies
       → set.contains r.state.copies r.node ≡ false
-      → Row c n f Silent
+      → Row sends c n f Silent
       (goes_on n r.node r.page
       (entry.AwaitAcks
       (record { left = r.state.copies; waiting = waiting_from r.word r.call })) []
@@ -330,7 +354,12 @@ abbrev pub Claim : Type 0 → Type 1
 Claim S = (ℕ → S) → Net → (ℕ → List ℕ) → Type 0
 
 -- each step keeps it: where it holds before the step, it holds after it
-pub record IsPreserved {S : Type 0} (ops : Ops S) (c : Config) (P : Claim S) : Type 0 where
+pub record IsPreservedBy {S : Type 0} (sends : Bool) (ops : Ops S) (c : Config) (P : Claim S)
+    : Type 0 where
   pub by : {m : ℕ → S} {n : Net} {f : ℕ → List ℕ} {notice : Notice} {n' : Net}
-      {f' : ℕ → List ℕ} → Row c n f notice n' f' → IsNamedBy ops c m notice → P m n f
+      {f' : ℕ → List ℕ} → Row sends c n f notice n' f' → IsNamedBy ops c m notice → P m n f
       → P (noticed ops m notice) n' f'
+
+-- where what finds a copy awaited is put off
+abbrev pub IsPreserved : {S : Type 0} → Ops S → Config → Claim S → Type 0
+IsPreserved ops c P = IsPreservedBy false ops c P

@@ -1,6 +1,6 @@
 -- From move to move the order goes on by what was carried out alone. For every manager that keeps the
 -- laws.
-use Rattle.std.proofs.Common.{◌≡◌, ◌≢◌, ℕ, zero, suc, List, [], ◌∷◌, ◌++◌, length, get_or, map, set, slice_get, Option, Some, None, refl, ap, sym, subst, ◌∙◌, append-nil, append_assoc, inl}
+use Rattle.std.proofs.Common.{◌≡◌, ◌≢◌, ℕ, zero, suc, Bool, List, [], ◌∷◌, ◌++◌, length, get_or, map, set, slice_get, Option, Some, None, refl, ap, sym, subst, ◌∙◌, append-nil, append_assoc, inl}
 use Rattle.std.specs.Prelude.{All}
 use Rattle.std.specs.Option.{option_map}
 use Rattle.std.proofs.lemmas.List.Elements.{All-nil, All-cons, All-append}
@@ -22,8 +22,9 @@ use Rattle.ivy_moves.specs.Following.{FollowsStep}
 use Rattle.ivy_moves.proofs.Following.{follows, early-follows, went, remembered-went}
 use Rattle.ivy_moves.proofs.Places.{guarded}
 use Rattle.ivy_host.specs.stated.Hosts.{Host, host_rules}
-use Rattle.ivy_host.specs.stated.Openings.{opening}
+use Rattle.ivy_host.specs.stated.Openings.{Start, opening}
 use Rattle.ivy_host.specs.stated.Sound.{IsSoundHost}
+use Rattle.ivy_host.proofs.Starts.{IsStart}
 use Rattle.ivy_host.proofs.WellBehaved.{well_behaved}
 use Rattle.proof_worlds.specs.consistency.Alone.{HasNoPart, IsAlone, AreAlone, AreCurrent, entries_in, GoesOnAlone}
 use Rattle.proof_worlds.specs.stated.Nets.{entry_of}
@@ -100,16 +101,16 @@ module _ {C : Type 0} where
         pulse_elsewhere w v from to (slice_get w.nodes from)
         (guarded (is_named w (Pulse from to)) (made_by rules c w (Pulse from to)) v made).1
 
-module _ {S : Type 0} (ops : Ops S) (laws : Laws ops) (c : Config) (config : IsConfig c)
-    (programs : List Program) where
+module _ {S : Type 0} (sends : Bool) (ops : Ops S) (laws : Laws ops) (c : Config)
+    (config : IsConfig c) (programs : List Program) where
   -- within a move of node i from the world w: the order goes on from that of w, by what was carried
   -- out alone by the entries of w
   record Within (past : List (World (Host S))) (order : List Record) (w : World (Host S)) (i : ℕ)
       (v : World (Host S)) (posted : ℕ → ℕ → List Message) : Type 0 where
     more : List Record
-    faithful : IsFaithful ops c (fifo_of v posted) (order ++ more)
+    faithful : IsFaithful sends ops c (fifo_of v posted) (order ++ more)
     runs : HasPrograms programs (fifo_of v posted)
-    since : All (IsSince ops laws c config (fifo_of v posted) (order ++ more)) past
+    since : All (IsSince sends ops laws c config (fifo_of v posted) (order ++ more)) past
     alone : AreAlone c (entries_in w) more
     stays : StaysBut i w v
 
@@ -125,7 +126,7 @@ module _ {S : Type 0} (ops : Ops S) (laws : Laws ops) (c : Config) (config : IsC
         → Reaches past order w i u
     stepped v u r next stays =
         let k : Within past order w i v r.0 = r.2 in
-        let on : GoesOn ops c (fifo_of v r.0) (fifo_of u next.0) (order ++ k.more) =
+        let on : GoesOn sends ops c (fifo_of v r.0) (fifo_of u next.0) (order ++ k.more) =
         faithful_next ops laws c config (fifo_of v r.0) (fifo_of u next.0) (order ++ k.more)
         k.faithful next.2 in
         let same = append_assoc order k.more on.more in (
@@ -133,7 +134,7 @@ module _ {S : Type 0} (ops : Ops S) (laws : Laws ops) (c : Config) (config : IsC
           next.1,
           record {
             more = k.more ++ on.more;
-            faithful = subst (IsFaithful ops c (fifo_of u next.0)) same on.faithful;
+            faithful = subst (IsFaithful sends ops c (fifo_of u next.0)) same on.faithful;
             runs = on.programs programs k.runs;
             since = λ p d below j n there.
                 subst (λ all. Since j n (fifo_of u next.0) all) same
@@ -173,27 +174,27 @@ module _ {S : Type 0} (ops : Ops S) (laws : Laws ops) (c : Config) (config : IsC
 
   -- copies are those of the flat memory
   current : (w : World (Host S)) (posted : ℕ → ℕ → List Message) (order : List Record)
-      → IsFaithful ops c (fifo_of w posted) order → AreCurrent c w order
+      → IsFaithful sends ops c (fifo_of w posted) order → AreCurrent c w order
   current w posted order f =
       (f.memory, f.legal, λ i page inside reads. f.copied.had i page (inl reads) ∙ f.shows page inside)
 
   pub goes_on_alone : (past : List (World (Host S))) (w : World (Host S))
       (posted : ℕ → ℕ → List Message) (order : List Record) (moves : List Move)
-      → Follows c (IsSoundHost ops c) w posted → IsFaithful ops c (fifo_of w posted) order
+      → Follows c (IsSoundHost ops c) w posted → IsFaithful sends ops c (fifo_of w posted) order
       → HasPrograms programs (fifo_of w posted)
-      → All (IsSince ops laws c config (fifo_of w posted) order) past
+      → All (IsSince sends ops laws c config (fifo_of w posted) order) past
       → GoesOnAlone (host_rules ops) c past w order moves
   goes_on_alone past w posted order [] h f has since = (
-    explains_after ops laws c config past w posted order f
-        (All-cons (IsSince ops laws c config (fifo_of w posted) order) w past
-        (since_here ops laws c config w posted order f) since),
+    explains_after sends ops laws c config past w posted order f
+        (All-cons (IsSince sends ops laws c config (fifo_of w posted) order) w past
+        (since_here sends ops laws c config w posted order f) since),
     current w posted order f,
   )
   goes_on_alone past w posted order (move ∷ moves) h f has since =
       let all =
-      All-cons (IsSince ops laws c config (fifo_of w posted) order) w past
-      (since_here ops laws c config w posted order f) since in (
-        explains_after ops laws c config past w posted order f all,
+      All-cons (IsSince sends ops laws c config (fifo_of w posted) order) w past
+      (since_here sends ops laws c config w posted order f) since in (
+        explains_after sends ops laws c config past w posted order f all,
         current w posted order f,
         λ mid made.
             (let same = sym (append-nil order) in
@@ -202,10 +203,11 @@ module _ {S : Type 0} (ops : Ops S) (laws : Laws ops) (c : Config) (config : IsC
               h,
               record {
                 more = [];
-                faithful = subst (IsFaithful ops c (fifo_of w posted)) same f;
+                faithful = subst (IsFaithful sends ops c (fifo_of w posted)) same f;
                 runs = has;
-                since = subst (λ os. All (IsSince ops laws c config (fifo_of w posted) os) (w ∷ past)) same
-                    all;
+                since =
+                    subst (λ os. All (IsSince sends ops laws c config (fifo_of w posted) os) (w ∷ past))
+                    same all;
                 alone = All-nil (λ (x : Record). IsAlone c (entries_in w) x.node x.call);
                 stays = λ j ne. refl;
               },
@@ -224,11 +226,15 @@ module _ {S : Type 0} (ops : Ops S) (laws : Laws ops) (c : Config) (config : IsC
             )),
       )
 
+module _ {S : Type 0} (ops : Ops S) (laws : Laws ops) (start : Start S) (c : Config)
+    (config : IsConfig c) (new : IsStart ops c start) (programs : List Program) where
   -- so it does from the opening
   pub opening_alone : length programs ≡ c.nodes
-      → Follows c (IsSoundHost ops c) (opening ops c programs) (λ i j. []) → (moves : List Move)
-      → GoesOnAlone (host_rules ops) c [] (opening ops c programs) [] moves
+      → Follows c (IsSoundHost ops c) (opening start c programs) (λ i j. []) → (moves : List Move)
+      → GoesOnAlone (host_rules ops) c [] (opening start c programs) [] moves
   opening_alone many follow moves =
-      goes_on_alone [] (opening ops c programs) (λ i j. []) [] moves follow
-      (opening_faithful ops laws c config programs many) (opening_programs ops c programs)
-      (All-nil (IsSince ops laws c config (fifo_of (opening ops c programs) (λ i j. [])) []))
+      goes_on_alone start.sends_on ops laws c config programs [] (opening start c programs)
+      (λ i j. []) [] moves follow (opening_faithful ops start c config new programs many)
+      (opening_programs start c programs)
+      (All-nil (IsSince start.sends_on ops laws c config
+      (fifo_of (opening start c programs) (λ i j. [])) []))

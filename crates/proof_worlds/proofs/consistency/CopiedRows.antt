@@ -1,6 +1,6 @@
 -- Each row of the table of coherence events keeps all copies those of the flat memory, under every
 -- manager.
-use Rattle.std.proofs.Common.{◌≡◌, ◌<◌, ℕ, true, false, List, [], ◌∷◌, length, map, replicate, slice_get, Some, refl, sym, ap, ◌∙◌, subst, inl, inr}
+use Rattle.std.proofs.Common.{◌≡◌, ◌<◌, ℕ, Bool, true, false, List, [], ◌∷◌, length, map, replicate, slice_get, Some, refl, sym, ap, ◌∙◌, subst, inl, inr}
 use Rattle.std.proofs.lemmas.List.{length-replicate}
 use Rattle.std.proofs.lemmas.Option.{none-some}
 use Rattle.ivy_model.specs.declared.Config.{Config}
@@ -17,11 +17,12 @@ use Rattle.ivy_pagetable.specs.stated.Accesses.{reads as can_read}
 use Rattle.ivy_pagetable.specs.stated.Entries.{put_offs, readable, is_owner, with_put_off, without, copying, owning}
 use Rattle.ivy_pagetable.specs.stated.Manager.{Ops}
 use Rattle.ivy_coherence.specs.stated.Serving.{invalidations}
+use Rattle.ivy_coherence.specs.stated.MessageSteps.{sending}
 use Rattle.ivy_coherence.specs.stated.PageFaults.{waiting_from}
 use Rattle.proof_table.specs.stated.Letters.{Letter, Net, Place, Underway, Loose, letter_of, IsAt}
 use Rattle.proof_table.specs.transitions.Letters.{goes_on, installs}
 use Rattle.proof_table.specs.stated.Orderly.{IsOrderly}
-use Rattle.proof_table.specs.transitions.TableSteps.{letter, bare, Served, Comes, Begins, Notice, Row, IsPreserved}
+use Rattle.proof_table.specs.transitions.TableSteps.{letter, bare, Served, Comes, Begins, Notice, Row, IsPreservedBy}
 use Rattle.proof_table.proofs.transitions.Places.{written_here, served, freed}
 use Rattle.proof_table.proofs.transitions.Parcels.{IsThe, IsNone, IsOrder, answer_step, ask_step, orders_step, free_step, stay_step}
 use Rattle.proof_table.proofs.transitions.OrderlyKept.{orderly-kept}
@@ -158,8 +159,8 @@ module _ (c : Config) (n : Net) (f : ℕ → List ℕ) (h : IsCopied c n f) {T :
       put (λ has. has_them c n f h r bytes brings)
 
 module _ (c : Config) where
-  copied_by : {n : Net} {f : ℕ → List ℕ} {notice : Notice} {n' : Net} {f' : ℕ → List ℕ}
-      → Row c n f notice n' f'
+  copied_by : {sends : Bool} {n : Net} {f : ℕ → List ℕ} {notice : Notice} {n' : Net} {f' : ℕ → List ℕ}
+      → Row sends c n f notice n' f'
       → IsOrderly c n → IsCopied c n f → IsCopied c n' f'
   copied_by {n} {f} (Row.carries r) o h =
       word_copied c n f r.node r.page r.state r.word r.is r.enough o h r.here r.inside r.is_word
@@ -176,14 +177,22 @@ module _ (c : Config) where
   copied_by (Row.sends_on_write r hop plain away) o h =
       answered c _ _ h r _ _ _ (λ k q there. there)
       (λ has. h.had r.node r.page (subst HasBytes (sym r.is) has)) tt
+  copied_by (Row.reader_sends_on_read r hop sends away) o h =
+      answered c _ _ h r _ _ _ (λ k q there. there)
+      (λ has. absurd (no_bytes (entry.AwaitRead (sending r.state)) refl refl has)) tt
+  copied_by (Row.reader_sends_on_write r hop sends away) o h =
+      answered c _ _ h r _ _ _ (λ k q there. there)
+      (λ has. absurd (no_bytes (entry.AwaitRead (sending r.state)) refl refl has)) tt
   copied_by (Row.ends_copy r sender plain) o h = answered c _ _ h r _ _ _ (λ k q there. there)
       (λ has. absurd (no_bytes (entry.Idle without) refl refl has)) tt
   copied_by (Row.gives_up r sender) o h = answered c _ _ h r _ _ _ (λ k q there. there)
       (λ has. absurd (no_bytes (entry.AwaitWrite (bare r.state)) refl refl has)) tt
-  copied_by (Row.puts_off r) o h =
+  copied_by (Row.puts_off r kept) o h =
       aside_copied c _ _ h r.node r.page r.before (with_put_off r.before r.later) _ r.rest r.is
       r.loose (put_bytes r.before r.later)
-  copied_by (Row.copy_comes bytes r same) o h =
+  copied_by (Row.copy_comes bytes r same quiet) o h =
+      freed_with c _ _ h r bytes (λ b. b) (entry.Idle copying) refl
+  copied_by (Row.copy_comes_late bytes r same sent) o h =
       freed_with c _ _ h r bytes (λ b. b) (entry.Idle copying) refl
   copied_by (Row.page_comes copies bytes r same none) o h =
       freed_with c _ _ h r bytes (λ b. b) (entry.Idle owning) refl
@@ -204,8 +213,8 @@ module _ (c : Config) where
       (λ k q there. absurd (none-some q there))
       (λ has. owner_had c _ _ h r.node r.page (entry.Idle r.state) r.is owner)
 
-pub copied-kept : {S : Type 0} (ops : Ops S) (c : Config) → IsConfig c
-    → IsPreserved ops c (λ m n f. IsOrderly c n × IsCopied c n f)
+pub copied-kept : {S : Type 0} {sends : Bool} (ops : Ops S) (c : Config) → IsConfig c
+    → IsPreservedBy sends ops c (λ m n f. IsOrderly c n × IsCopied c n f)
 copied-kept ops c config =
     both-kept (orderly-kept ops c config)
     (record { by = λ row of order after copied. copied_by c row order copied })

@@ -1,6 +1,6 @@
 -- The order explains each FIFO world that is reached, and goes on from step to step. For every
 -- manager that keeps the laws.
-use Rattle.std.proofs.Common.{◌≡◌, ◌≢◌, ◌⊎◌, inl, inr, ◌<◌, ℕ, zero, suc, Option, List, [], ◌∷◌, ◌++◌, map, set, slice_get, Some, refl, ap, sym, subst, ◌∙◌, arith}
+use Rattle.std.proofs.Common.{◌≡◌, ◌≢◌, ◌⊎◌, inl, inr, ◌<◌, ℕ, zero, suc, Bool, Option, List, [], ◌∷◌, ◌++◌, map, set, slice_get, Some, refl, ap, sym, subst, ◌∙◌, arith}
 use Rattle.std.proofs.lemmas.List.{append-nil}
 use Rattle.std.proofs.lemmas.Option.{same_Some, none-some}
 use Rattle.ivy_model.specs.declared.Config.{Config}
@@ -24,7 +24,7 @@ use Rattle.ivy_host.specs.stated.Sound.{IsSoundHost}
 use Rattle.proof_table.specs.stated.Orderly.{IsOrderly}
 use Rattle.proof_worlds.specs.stated.HeapRequests.{heap_way}
 use Rattle.proof_table.proofs.transitions.Places.{get_map}
-use Rattle.proof_worlds.proofs.refinement.LiftedWorlds.{net_of, IsSoundWorld}
+use Rattle.proof_worlds.proofs.refinement.LiftedWorlds.{net_of, IsSoundWorldBy}
 use Rattle.proof_worlds.specs.consistency.Copied.{IsCopied}
 use Rattle.proof_worlds.proofs.consistency.OwedCalls.{pending-calls}
 use Rattle.proof_worlds.proofs.consistency.Owing.{pending, IsRunning, GoOn, blocks_stay, blocks_change, Adds}
@@ -33,13 +33,13 @@ use Rattle.proof_worlds.proofs.consistency.Adjacent.{grown_together}
 -- The order is one that the flat memory leads through, all copies and the live blocks of the heap
 -- are those of the memory then, and each node's part of the order is its history and what is owed
 -- to it, which stands together there.
-pub record IsFaithful {S : Type 0} (ops : Ops S) (c : Config) (o : FifoWorld (Host S))
-    (order : List Record) : Type 0 where
+pub record IsFaithful {S : Type 0} (sends : Bool) (ops : Ops S) (c : Config)
+    (o : FifoWorld (Host S)) (order : List Record) : Type 0 where
   pub memory : model.Memory
   pub legal : ServesAll c (first c) order memory
   pub pages : ℕ → List ℕ
   pub shows : (p : ℕ) → p < c.pages → pages p ≡ flat_page c memory p
-  pub sound : IsSoundWorld ops c o
+  pub sound : IsSoundWorldBy sends ops c o
   pub orderly : IsOrderly c (net_of o)
   pub copied : IsCopied c (net_of o) pages
   pub running : (i : ℕ) (n : Host S) → slice_get o.cores i ≡ Some n → IsRunning c n
@@ -79,7 +79,8 @@ map-places {X = X} f xs i y e =
 
 module _ {S : Type 0} (ops : Ops S) (c : Config) where
   -- the order explains what the nodes were answered
-  pub faithful_explained : (o : FifoWorld (Host S)) (order : List Record) → IsFaithful ops c o order
+  pub faithful_explained : {sends : Bool} (o : FifoWorld (Host S)) (order : List Record)
+      → IsFaithful sends ops c o order
       → IsExplained c order (map (λ (n : Host S). answered_by n) o.cores)
   faithful_explained o order f = record {
     legal = (f.memory, f.legal);
@@ -96,7 +97,8 @@ module _ {S : Type 0} (ops : Ops S) (c : Config) where
   }
 
   -- and what it has of each past its history stands together in it
-  pub faithful_together : (o : FifoWorld (Host S)) (order : List Record) → IsFaithful ops c o order
+  pub faithful_together : {sends : Bool} (o : FifoWorld (Host S)) (order : List Record)
+      → IsFaithful sends ops c o order
       → AreTogether order (map (λ (n : Host S). answered_by n) o.cores)
   faithful_together o order f i a h =
       let found : (n : Host S) × (slice_get o.cores i ≡ Some n) × (answered_by n ≡ a) =
@@ -109,13 +111,15 @@ module _ {S : Type 0} (ops : Ops S) (c : Config) where
       )
 
   -- each history is a run of its program
-  pub faithful_runs : (o : FifoWorld (Host S)) (order : List Record) → IsFaithful ops c o order
+  pub faithful_runs : {sends : Bool} (o : FifoWorld (Host S)) (order : List Record)
+      → IsFaithful sends ops c o order
       → (i : ℕ) (n : Host S) → slice_get o.cores i ≡ Some n
       → IsRunTo n.process.program n.history n.process.state
   faithful_runs o order f i n h = (f.running i n h).run
 
   -- the heap is at node 0
-  pub at_home : (o : FifoWorld (Host S)) → IsSoundWorld ops c o → (i : ℕ) (n : Host S) (h : HeapState)
+  pub at_home : {sends : Bool} (o : FifoWorld (Host S)) → IsSoundWorldBy sends ops c o
+      → (i : ℕ) (n : Host S) (h : HeapState)
       → slice_get o.cores i ≡ Some n → n.memory.side.heap ≡ Some h → i ≡ 0
   at_home o sound i n h there has =
       let good : IsSoundHost ops c i n = sound.sound i n there in
@@ -136,12 +140,14 @@ module _ {S : Type 0} (ops : Ops S) (c : Config) where
   blocks_there b b' heap heap' none (blocks_change g t was now same) = absurd (none g was)
 
   -- an event of one node, in the world, which changes no message of the heap that comes from node 0
-  pub faithful-on : {was : ℕ → ℕ → Entry} (o o' : FifoWorld (Host S)) (order : List Record) (i : ℕ)
-      (n n' : Host S) (pages : ℕ → List ℕ) → (f : IsFaithful ops c o order) → slice_get o.cores i ≡ Some n
+  pub faithful-on : {sends : Bool} {was : ℕ → ℕ → Entry} (o o' : FifoWorld (Host S))
+      (order : List Record) (i : ℕ)
+      (n n' : Host S) (pages : ℕ → List ℕ) → (f : IsFaithful sends ops c o order)
+      → slice_get o.cores i ≡ Some n
       → (a : Adds c was f.memory i n n' (heap_way o 0 i) pages)
       → o'.cores ≡ set o.cores i n' → ((j : ℕ) → heap_way o' 0 j ≡ heap_way o 0 j)
-      → IsSoundWorld ops c o' → IsOrderly c (net_of o') → IsCopied c (net_of o') pages
-      → IsFaithful ops c o' (order ++ a.more)
+      → IsSoundWorldBy sends ops c o' → IsOrderly c (net_of o') → IsCopied c (net_of o') pages
+      → IsFaithful sends ops c o' (order ++ a.more)
   faithful-on o o' order i n n' pages f there a cores ways sound orderly copied = record {
     memory = a.new;
     legal = leads-append c (first c) f.memory a.new order a.more f.legal a.legal;
@@ -206,9 +212,10 @@ module _ {S : Type 0} (ops : Ops S) (c : Config) where
       ]
 
 -- after a step: more stands in the order, and each node keeps its program
-pub record GoesOn {S : Type 0} (ops : Ops S) (c : Config) (o o' : FifoWorld (Host S))
+pub record GoesOn {S : Type 0} (sends : Bool) (ops : Ops S) (c : Config)
+    (o o' : FifoWorld (Host S))
     (order : List Record) : Type 0 where
   pub more : List Record
-  pub faithful : IsFaithful ops c o' (order ++ more)
+  pub faithful : IsFaithful sends ops c o' (order ++ more)
   pub programs : (programs : List Program) → HasPrograms programs o
       → HasPrograms programs o'

@@ -1,6 +1,6 @@
 -- A message of the heap keeps the FIFO world faithful: a call that node 0 serves stands in the
 -- order from then on, and the answer is owed to its caller wherever it is.
-use Rattle.std.proofs.Common.{◌≡◌, ◌≢◌, ◌<◌, ℕ, List, [], ◌∷◌, ◌++◌, set, slice_get, Some, None, refl, ap, sym, subst, ◌∙◌, inl, inr}
+use Rattle.std.proofs.Common.{◌≡◌, ◌≢◌, ◌<◌, ℕ, Bool, List, [], ◌∷◌, ◌++◌, set, slice_get, Some, None, refl, ap, sym, subst, ◌∙◌, inl, inr}
 use Rattle.std.proofs.lemmas.Bool.{cases_eq}
 use Rattle.std.proofs.lemmas.List.{append-nil}
 use Rattle.std.proofs.lemmas.List.Elements.{All-nil, All-cons}
@@ -28,7 +28,7 @@ use Rattle.ivy_host.specs.stated.Hosts.{Host, number_of}
 use Rattle.ivy_host.specs.stated.Sound.{IsSoundHost}
 use Rattle.proof_table.specs.stated.Orderly.{IsOrderly}
 use Rattle.proof_worlds.specs.stated.HeapRequests.{heap_way}
-use Rattle.proof_worlds.proofs.refinement.LiftedWorlds.{net_of, IsSoundWorld}
+use Rattle.proof_worlds.proofs.refinement.LiftedWorlds.{net_of, IsSoundWorldBy}
 use Rattle.proof_worlds.specs.consistency.Alone.{IsAlone, AreAlone, IsOf, AreOf}
 use Rattle.proof_worlds.specs.consistency.Copied.{IsCopied}
 use Rattle.proof_worlds.proofs.consistency.HeapServed.{memory_told, heap_served}
@@ -71,9 +71,9 @@ with_reply-running c n y r = record {
   told = r.told;
 }
 
-module _ {S : Type 0} (ops : Ops S) (c : Config) (o o' : FifoWorld (Host S)) (order : List Record)
-    (f : IsFaithful ops c o order)
-    (sound : IsSoundWorld ops c o') (orderly : IsOrderly c (net_of o'))
+module _ {S : Type 0} {sends : Bool} (ops : Ops S) (c : Config) (o o' : FifoWorld (Host S))
+    (order : List Record) (f : IsFaithful sends ops c o order)
+    (sound : IsSoundWorldBy sends ops c o') (orderly : IsOrderly c (net_of o'))
     (copied : IsCopied c (net_of o') f.pages) where
   -- node 0 serves the call of the heap that another node asks for
   module _ (home source number : ℕ) (core asker : Host S) (k : HeapCall) (heap : HeapState)
@@ -217,7 +217,7 @@ module _ {S : Type 0} (ops : Ops S) (c : Config) (o o' : FifoWorld (Host S)) (or
         sym (subst (λ d. asked_of d called.call ≡ kinds.Heap k) good.config called.of) ∙ is in cc
         )) (All-nil (λ (r : Record). IsOf c x r))
 
-    pub serves_faithful : IsFaithful ops c o' (order ++ given ∷ [])
+    pub serves_faithful : IsFaithful sends ops c o' (order ++ given ∷ [])
     serves_faithful = record {
       memory = memory_told f.memory heap k;
       legal = leads-append c (first c) f.memory (memory_told f.memory heap k) order (given ∷ [])
@@ -290,7 +290,7 @@ module _ {S : Type 0} (ops : Ops S) (c : Config) (o o' : FifoWorld (Host S)) (or
         core.memory.coherence.done) before
         ∙ ap (λ y. first_reply y (reply_there core.memory.coherence.done)) is_reply)
 
-    pub learns_faithful : IsFaithful ops c o' order
+    pub learns_faithful : IsFaithful sends ops c o' order
     learns_faithful = record {
       memory = f.memory;
       legal = f.legal;

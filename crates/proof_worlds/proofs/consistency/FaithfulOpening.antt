@@ -15,18 +15,18 @@ use Rattle.ivy_pagetable.specs.declared.PutOff.{PutOff}
 use Rattle.ivy_pagetable.specs.stated.Entries.{put_offs, nothing, owned}
 use Rattle.ivy_pagetable.specs.stated.Tables.{first_entry}
 use Rattle.ivy_pagetable.specs.stated.Manager.{Ops}
-use Rattle.ivy_pagetable.specs.Manager.{Laws}
 use Rattle.ivy_program.specs.stated.Programs.{Program, Called}
 use Rattle.ivy_alloc.specs.stated.Heap.{HeapState, first_heap}
 use Rattle.ivy_alloc.specs.stated.HeapCalls.{first_side}
 use Rattle.ivy_moves.specs.stated.Explained.{StandTogether}
 use Rattle.ivy_moves.specs.stated.FifoWorld.{FifoWorld}
 use Rattle.ivy_moves.specs.stated.Following.{fifo_of}
-use Rattle.ivy_host.specs.stated.Hosts.{Host, first_host}
-use Rattle.ivy_host.specs.stated.Openings.{opening}
+use Rattle.ivy_host.specs.stated.Hosts.{Host}
+use Rattle.ivy_host.specs.stated.Openings.{Start, first_host, opening}
+use Rattle.ivy_host.proofs.Starts.{IsStart}
 use Rattle.proof_table.specs.stated.Letters.{Letter, Place, Underway, Aside, Loose, IsAt}
 use Rattle.proof_worlds.specs.stated.HeapRequests.{heap_way}
-use Rattle.proof_worlds.proofs.refinement.LiftedWorlds.{entry_of, page_of, net_of, IsSoundWorld}
+use Rattle.proof_worlds.proofs.refinement.LiftedWorlds.{entry_of, page_of, net_of, IsSoundWorldBy}
 use Rattle.proof_worlds.proofs.refinement.LiftedRuns.{sound_opening}
 use Rattle.proof_table.proofs.transitions.Opening.{IsFirst, orderly_opening}
 use Rattle.proof_worlds.proofs.refinement.Led.{opening_first}
@@ -59,20 +59,21 @@ first_at i pages p = elim (cases_lt p pages) [
   ]
 ]
 
-module _ {S : Type 0} (ops : Ops S) (laws : Laws ops) (c : Config) (config : IsConfig c)
-    (programs : List Program) (many : length programs ≡ c.nodes) where
+module _ {S : Type 0} (ops : Ops S) (start : Start S) (c : Config) (config : IsConfig c)
+    (fresh : IsStart ops c start) (programs : List Program)
+    (many : length programs ≡ c.nodes) where
   abbrev begun : FifoWorld (Host S)
-  begun = fifo_of (opening ops c programs) (λ i j. [])
+  begun = fifo_of (opening start c programs) (λ i j. [])
 
-  sound : IsSoundWorld ops c begun
-  sound = sound_opening laws c config programs many
+  sound : IsSoundWorldBy start.sends_on ops c begun
+  sound = sound_opening start c config fresh programs many
 
   entry_there : (i p : ℕ) (h : Option (Host S)) → slice_get begun.cores i ≡ h
       → ((i ≡ 0) × (i < c.nodes) × (p < c.pages) × (entry_of h p ≡ owned))
       ⊎ (entry_of h p ≡ nothing)
   entry_there i p None there = inr refl
   entry_there i p (Some n) there =
-      let new = opening_first ops c programs i n there in
+      let new = opening_first start c programs i n there in
       let low : i < c.nodes =
       (let within = slice_get_within begun.cores i n there in let count = sound.count in
       omega (arith, within, count)) in
@@ -85,7 +86,7 @@ module _ {S : Type 0} (ops : Ops S) (laws : Laws ops) (c : Config) (config : IsC
       ]
 
   first : IsFirst (net_of begun)
-  first = first_net ops c programs
+  first = first_net start c programs
 
   inside : (i p : ℕ) → HasBytes ((net_of begun).entry i p) → (i < c.nodes) × (p < c.pages)
   inside i p has =
@@ -102,11 +103,12 @@ module _ {S : Type 0} (ops : Ops S) (laws : Laws ops) (c : Config) (config : IsC
           → page_of h p ≡ replicate c.page_size 0
       at None gone =
           let there =
-          slice_get-get_or begun.cores i (first_host ops c i (Called []))
+          slice_get-get_or begun.cores i (first_host start c i (Called []))
           (let count = sound.count in omega (arith, low, count)) in
-          absurd (none-some (get_or begun.cores i (first_host ops c i (Called []))) (sym gone ∙ there))
+          absurd (none-some (get_or begun.cores i (first_host start c i (Called [])))
+          (sym gone ∙ there))
       at (Some n) there =
-          let new = opening_first ops c programs i n there in
+          let new = opening_first start c programs i n there in
           ap (λ (x : Host S). page_of (Some x) p) new.1
           ∙ get_or-replicate c.pages p (replicate c.page_size 0) [] within
 
@@ -135,7 +137,7 @@ module _ {S : Type 0} (ops : Ops S) (laws : Laws ops) (c : Config) (config : IsC
       at false is = absurd (none-some h is)
 
   -- nothing is to be explained yet
-  pub opening_faithful : IsFaithful ops c begun []
+  pub opening_faithful : IsFaithful start.sends_on ops c begun []
   opening_faithful = record {
     memory = first_memory c;
     legal = refl;
@@ -146,7 +148,7 @@ module _ {S : Type 0} (ops : Ops S) (laws : Laws ops) (c : Config) (config : IsC
     copied =
         opening_copied c (net_of begun) (flat_page c (first_memory c)) inside zeros
         (λ p within. zero_page c p config within) no_letter;
-    running = λ i n there. (let new = opening_first ops c programs i n there in
+    running = λ i n there. (let new = opening_first start c programs i n there in
         subst (IsRunning c) (sym new.1) (record {
           run = (0, refl);
           makes = λ called is. absurd (none-some called is);
@@ -157,14 +159,14 @@ module _ {S : Type 0} (ops : Ops S) (laws : Laws ops) (c : Config) (config : IsC
           told = λ o done. inl refl;
         }));
     parts = λ i n there.
-        (let new = opening_first ops c programs i n there in
+        (let new = opening_first start c programs i n there in
         ap (λ (x : Host S). x.history ++ pending x (heap_way begun 0 i)) (sym new.1));
     together = λ i n there.
-        (let new = opening_first ops c programs i n there in
+        (let new = opening_first start c programs i n there in
         subst (λ (x : Host S). StandTogether (pending x (heap_way begun 0 i)) []) (sym new.1)
         (none_together []));
     blocks =
         λ i n h there has.
-        (let new = opening_first ops c programs i n there in
+        (let new = opening_first start c programs i n there in
         first_blocks i h (ap (λ (x : Host S). x.memory.side.heap) (sym new.1) ∙ has));
   }

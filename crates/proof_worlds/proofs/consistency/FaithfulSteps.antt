@@ -34,7 +34,7 @@ use Rattle.ivy_host.proofs.WellBehaved.{well_behaved}
 use Rattle.proof_table.specs.stated.Orderly.{IsOrderly}
 use Rattle.proof_worlds.specs.stated.HeapRequests.{about_heap, heap_way, call_message, IsHeapRequestAt, resting, asking, answered}
 use Rattle.proof_worlds.proofs.refinement.Led.{get_set}
-use Rattle.proof_worlds.proofs.refinement.LiftedWorlds.{net_of, IsSoundWorld, steps_sound}
+use Rattle.proof_worlds.proofs.refinement.LiftedWorlds.{net_of, IsSoundWorldBy, steps_sound}
 use Rattle.proof_worlds.proofs.refinement.HostTurns.{HostTurn, answers, tries_again, goes_on, refuses, asks_for, serves_heap, asks_heap, asks, made_along, without_call, asked_posted}
 use Rattle.ivy_memory.specs.stated.Beside.{nothing_beside}
 use Rattle.proof_worlds.proofs.refinement.HeapWays.{way_turned, way_other, way_page, heap_there, heap_elsewhere, heap_quiet}
@@ -51,10 +51,11 @@ use Rattle.proof_worlds.proofs.consistency.FaithfulHeap.{with_heap, with_reply, 
 
 -- after a step: more stands in the order, each node of which had alone what it asked for; where one
 -- node alone is not as it was, all words among it are that node's; and each node keeps its program
-pub record GoesOn {S : Type 0} (ops : Ops S) (c : Config) (o o' : FifoWorld (Host S))
+pub record GoesOn {S : Type 0} (sends : Bool) (ops : Ops S) (c : Config)
+    (o o' : FifoWorld (Host S))
     (order : List Record) : Type 0 where
   pub more : List Record
-  pub faithful : IsFaithful ops c o' (order ++ more)
+  pub faithful : IsFaithful sends ops c o' (order ++ more)
   pub alone : AreAlone c (net_of o).entry more
   pub mine : (x : ℕ) → ((j : ℕ) → j ≢ x → slice_get o'.cores j ≡ slice_get o.cores j)
       → AreOf c x more
@@ -147,16 +148,19 @@ module _ {S : Type 0} (ops : Ops S) (c : Config) (x : ℕ) (h : Host S) (good : 
       ∙ heap_elsewhere h.memory.coherence.me 0 0 j h.memory.coherence.me (length h.history + 1)
       (request k) (λ home. absurd (good.memory.side.away away home))
 
-module _ {S : Type 0} (ops : Ops S) (laws : Laws ops) (c : Config) (config : IsConfig c)
-    (o o' : FifoWorld (Host S)) (order : List Record) (f : IsFaithful ops c o order) where
+module _ {S : Type 0} {sends : Bool} (ops : Ops S) (laws : Laws ops) (c : Config)
+    (config : IsConfig c) (o o' : FifoWorld (Host S)) (order : List Record)
+    (f : IsFaithful sends ops c o order) where
   sized : IsSized c f.memory
   sized = leads_sized c (first c) f.memory order config (first_sized c) f.legal
 
-  module _ (pages : ℕ → List ℕ) (sound : IsSoundWorld ops c o') (orderly : IsOrderly c (net_of o'))
+  module _ (pages : ℕ → List ℕ) (sound : IsSoundWorldBy sends ops c o')
+      (orderly : IsOrderly c (net_of o'))
       (copied : IsCopied c (net_of o') pages) where
     event_on : (i : ℕ) (n n' : Host S) → slice_get o.cores i ≡ Some n → o'.cores ≡ set o.cores i n'
         → ((j : ℕ) → heap_way o' 0 j ≡ heap_way o 0 j)
-        → Adds c (net_of o).entry f.memory i n n' (heap_way o 0 i) pages → GoesOn ops c o o' order
+        → Adds c (net_of o).entry f.memory i n n' (heap_way o 0 i) pages
+        → GoesOn sends ops c o o' order
     event_on i n n' there cores ways a = record {
       more = a.more;
       faithful =
@@ -169,7 +173,7 @@ module _ {S : Type 0} (ops : Ops S) (laws : Laws ops) (c : Config) (config : IsC
     -- the answer of node 0, on its way to the node that asked
     module _ (source x : ℕ) (t : Delivers (host_rules ops) o source x o') (home : x ≡ 0)
         (away : source ≢ 0) (number : ℕ) (body : Content)
-        (sends : (serving ops t.core source t.message).posted
+        (posts : (serving ops t.core source t.message).posted
         ≡ parcel_to x source source number body ∷ []) where
       served_way : (j : ℕ)
           → heap_way o' 0 j
@@ -178,7 +182,7 @@ module _ {S : Type 0} (ops : Ops S) (laws : Laws ops) (c : Config) (config : IsC
           way_other (host_rules ops) o o' f.sound.within source x t 0 j
           (λ same. absurd (away (sym same)))
           ∙ ap (λ ps. heap_way o 0 j ++ about_heap (posted 0 j ps))
-          (sends ∙ ap (λ i. parcel_to i source source number body ∷ []) home)
+          (posts ∙ ap (λ i. parcel_to i source source number body ∷ []) home)
 
       way_there : heap_way o 0 source ≡ [] → is_of_pages body ≡ false
           → heap_way o' 0 source ≡ call_message source number body ∷ []
@@ -197,7 +201,7 @@ module _ {S : Type 0} (ops : Ops S) (laws : Laws ops) (c : Config) (config : IsC
 
     -- a message of the heap
     heap_on : pages ≡ f.pages → (source x : ℕ) (t : Delivers (host_rules ops) o source x o')
-        → HeapDelivery ops o source x t.core t.message → GoesOn ops c o o' order
+        → HeapDelivery ops o source x t.core t.message → GoesOn sends ops c o o' order
     heap_on same source x t
         (serves home away asker there k number asked before back message heap has does) = record {
           more = _;
@@ -246,7 +250,7 @@ module _ {S : Type 0} (ops : Ops S) (laws : Laws ops) (c : Config) (config : IsC
       more = [];
       alone = All-nil (λ (r : Record). IsAlone c (net_of o).entry r.node r.call);
       mine = λ x same. All-nil (λ (r : Record). IsOf c x r);
-      faithful = subst (IsFaithful ops c o') (sym (append-nil order))
+      faithful = subst (IsFaithful sends ops c o') (sym (append-nil order))
           (learns_faithful ops c o o' order f sound orderly
           (subst (IsCopied c (net_of o')) same copied) x number t.core k r t.message t.there
           asked (t.cores ∙ ap (λ (y : Outcome (Host S)). set o.cores x y.after) does) before
@@ -274,14 +278,15 @@ module _ {S : Type 0} (ops : Ops S) (laws : Laws ops) (c : Config) (config : IsC
         at (answered k number body r asks there back reply can) =
             absurd (none-some (heap_request.Asked k number) (sym rest ∙ asks))
 
-    tells_on : WorldTells ops (Copies {S = S} c) c f.pages o o' pages → GoesOn ops c o o' order
+    tells_on : WorldTells ops (Copies {S = S} c) c f.pages o o' pages
+        → GoesOn sends ops c o o' order
     tells_on (rested same flat) = record {
       more = [];
       alone = All-nil (λ (r : Record). IsAlone c (net_of o).entry r.node r.call);
       mine = λ x same. All-nil (λ (r : Record). IsOf c x r);
       faithful =
-          subst (IsFaithful ops c o') (sym (append-nil order))
-          (subst (λ x. IsFaithful ops c x order) (sym same) f);
+          subst (IsFaithful sends ops c o') (sym (append-nil order))
+          (subst (λ x. IsFaithful sends ops c x order) (sym same) f);
       programs =
           λ programs has. subst (λ (x : FifoWorld (Host S)). HasPrograms programs x) (sym same) has;
     }
@@ -305,7 +310,7 @@ module _ {S : Type 0} (ops : Ops S) (laws : Laws ops) (c : Config) (config : IsC
     tells_on (heap_delivered source x t delivery same) = heap_on same source x t delivery
 
   -- each step of the FIFO world keeps it, and adds to the order at its end
-  pub faithful_next : Steps (host_rules ops) o o' → GoesOn ops c o o' order
+  pub faithful_next : Steps (host_rules ops) o o' → GoesOn sends ops c o o' order
   faithful_next step =
       let all =
       kept-steps {P = Copies {S = S} c} laws c (copied-kept ops c config) (ops.first c 0) o o'

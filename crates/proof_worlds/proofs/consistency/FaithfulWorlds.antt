@@ -1,6 +1,6 @@
 -- The order explains each world of strings that is reached, and goes on from move to move. For
 -- every manager that keeps the laws.
-use Rattle.std.proofs.Common.{◌≡◌, ◌+◌, ℕ, zero, suc, List, [], ◌∷◌, ◌++◌, length, map, slice_get, Some, refl, ap, sym, subst, ◌∙◌, arith, append-nil, append_assoc}
+use Rattle.std.proofs.Common.{◌≡◌, ◌+◌, ℕ, zero, suc, Bool, List, [], ◌∷◌, ◌++◌, length, map, slice_get, Some, refl, ap, sym, subst, ◌∙◌, arith, append-nil, append_assoc}
 use Rattle.std.specs.Prelude.{All}
 use Rattle.std.proofs.lemmas.Simd.{map-map}
 use Rattle.std.proofs.lemmas.List.Elements.{All-nil, All-cons}
@@ -21,10 +21,11 @@ use Rattle.ivy_moves.specs.stated.Explained as explained
 use Rattle.ivy_moves.specs.stated.FifoWorld.{FifoWorld}
 use Rattle.ivy_moves.specs.stated.Following.{fifo_of, Follows}
 use Rattle.ivy_moves.proofs.Kept.{IsKeptBySteps, move-keeps, moves-keep}
-use Rattle.ivy_host.specs.stated.Hosts.{Host, answered_by, host_rules, first_host}
+use Rattle.ivy_host.specs.stated.Hosts.{Host, answered_by, host_rules}
 use Rattle.ivy_host.specs.stated.Sound.{IsSoundHost}
-use Rattle.ivy_host.specs.stated.Openings.{first_node, first_nodes, opening}
+use Rattle.ivy_host.specs.stated.Openings.{Start, first_host, first_node, first_nodes, opening}
 use Rattle.ivy_host.specs.stated.Holding.{AreRuns}
+use Rattle.ivy_host.proofs.Starts.{IsStart}
 use Rattle.ivy_host.proofs.WellBehaved.{well_behaved}
 use Rattle.proof_worlds.proofs.consistency.Faithful.{IsFaithful, HasPrograms, map-places, faithful_explained, faithful_together, faithful_runs}
 use Rattle.proof_worlds.proofs.consistency.FaithfulSteps.{GoesOn, faithful_next}
@@ -38,9 +39,10 @@ mapped-place f [] i x e = absurd (none-some x e)
 mapped-place f (y ∷ xs) zero x e = ap (λ z. Some (f z)) (same_Some y x e)
 mapped-place f (y ∷ xs) (suc i) x e = mapped-place f xs i x e
 
-module _ {S : Type 0} (ops : Ops S) (laws : Laws ops) (c : Config) (config : IsConfig c) where
+module _ {S : Type 0} (sends : Bool) (ops : Ops S) (laws : Laws ops) (c : Config)
+    (config : IsConfig c) where
   explains : (w : World (Host S)) (posted : ℕ → ℕ → List Message) (order : List Record)
-      → IsFaithful ops c (fifo_of w posted) order
+      → IsFaithful sends ops c (fifo_of w posted) order
       → IsExplainedBy (host_rules ops) c answered_by w order
   explains w posted order f =
       let all = map-map (λ (n : Host S). answered_by n) (λ (n : Node (Host S)). n.core) w.nodes in
@@ -59,7 +61,7 @@ module _ {S : Type 0} (ops : Ops S) (laws : Laws ops) (c : Config) (config : IsC
   IsSince o order w = (i : ℕ) (n : Answered) → slice_get (answers w) i ≡ Some n → Since i n o order
 
   pub since_here : (w : World (Host S)) (posted : ℕ → ℕ → List Message) (order : List Record)
-      → IsFaithful ops c (fifo_of w posted) order → IsSince (fifo_of w posted) order w
+      → IsFaithful sends ops c (fifo_of w posted) order → IsSince (fifo_of w posted) order w
   since_here w posted order f i n there =
       let at : (x : Node (Host S)) × (slice_get w.nodes i ≡ Some x) × (answered_by x.core ≡ n) =
       map-places (λ (x : Node (Host S)). answered_by x.core) w.nodes i n there in
@@ -72,7 +74,7 @@ module _ {S : Type 0} (ops : Ops S) (laws : Laws ops) (c : Config) (config : IsC
   abbrev GoesOnFrom : List Program → List (World (Host S)) → List Record → World (Host S)
       → (ℕ → ℕ → List Message) → Type 0
   GoesOnFrom programs past order w posted =
-      (more : List Record) × IsFaithful ops c (fifo_of w posted) (order ++ more)
+      (more : List Record) × IsFaithful sends ops c (fifo_of w posted) (order ++ more)
       × HasPrograms programs (fifo_of w posted)
       × All (IsSince (fifo_of w posted) (order ++ more)) past
 
@@ -80,12 +82,12 @@ module _ {S : Type 0} (ops : Ops S) (laws : Laws ops) (c : Config) (config : IsC
       → IsKeptBySteps (host_rules ops) c (IsSoundHost ops c) config (well_behaved laws c)
       (GoesOnFrom programs past order)
   steps_go_on programs past order w w' posted h f next =
-      let on : GoesOn ops c (fifo_of w posted) (fifo_of w' next.0) (order ++ f.0) =
+      let on : GoesOn sends ops c (fifo_of w posted) (fifo_of w' next.0) (order ++ f.0) =
       faithful_next ops laws c config (fifo_of w posted) (fifo_of w' next.0)
       (order ++ f.0) f.1 next.2 in
       let same = append_assoc order f.0 on.more in (
         f.0 ++ on.more,
-        subst (IsFaithful ops c (fifo_of w' next.0)) same on.faithful,
+        subst (IsFaithful sends ops c (fifo_of w' next.0)) same on.faithful,
         on.programs programs f.2,
         λ k d below i n there.
             subst (λ all. Since i n (fifo_of w' next.0) all) same
@@ -96,7 +98,7 @@ module _ {S : Type 0} (ops : Ops S) (laws : Laws ops) (c : Config) (config : IsC
   -- so it explains this world, and tears nothing apart
   pub explains_after : (past : List (World (Host S))) (w : World (Host S))
       (posted : ℕ → ℕ → List Message) (order : List Record)
-      → IsFaithful ops c (fifo_of w posted) order
+      → IsFaithful sends ops c (fifo_of w posted) order
       → All (IsSince (fifo_of w posted) order) (w ∷ past)
       → IsExplainedAfter (host_rules ops) c answered_by past w order
   explains_after past w posted order f since = record {
@@ -108,7 +110,7 @@ module _ {S : Type 0} (ops : Ops S) (laws : Laws ops) (c : Config) (config : IsC
   -- the order explains the world, and goes on to explain each world after it
   pub goes_on : (programs : List Program) (past : List (World (Host S))) (w : World (Host S))
       (posted : ℕ → ℕ → List Message) (order : List Record) (moves : List Move)
-      → Follows c (IsSoundHost ops c) w posted → IsFaithful ops c (fifo_of w posted) order
+      → Follows c (IsSoundHost ops c) w posted → IsFaithful sends ops c (fifo_of w posted) order
       → HasPrograms programs (fifo_of w posted) → All (IsSince (fifo_of w posted) order) past
       → explained.GoesOn (host_rules ops) c answered_by past w order moves
   goes_on programs past w posted order [] h f has since =
@@ -122,7 +124,7 @@ module _ {S : Type 0} (ops : Ops S) (laws : Laws ops) (c : Config) (config : IsC
             (let same = sym (append-nil order) in
             let now : GoesOnFrom programs (w ∷ past) order w posted = (
               [],
-              subst (IsFaithful ops c (fifo_of w posted)) same f,
+              subst (IsFaithful sends ops c (fifo_of w posted)) same f,
               has,
               subst (λ os. All (IsSince (fifo_of w posted) os) (w ∷ past)) same all,
             ) in
@@ -137,7 +139,7 @@ module _ {S : Type 0} (ops : Ops S) (laws : Laws ops) (c : Config) (config : IsC
       )
 
   runs : (programs : List Program) (w : World (Host S)) (posted : ℕ → ℕ → List Message)
-      (order : List Record) → IsFaithful ops c (fifo_of w posted) order
+      (order : List Record) → IsFaithful sends ops c (fifo_of w posted) order
       → HasPrograms programs (fifo_of w posted) → AreRuns programs w
   runs programs w posted order f has i n there =
       let core : slice_get (fifo_of w posted).cores i ≡ Some n.core =
@@ -148,12 +150,12 @@ module _ {S : Type 0} (ops : Ops S) (laws : Laws ops) (c : Config) (config : IsC
   pub runs_led : (programs : List Program) (w w' : World (Host S))
       (posted : ℕ → ℕ → List Message) (order : List Record) (moves : List Move)
       → Follows c (IsSoundHost ops c) w posted
-      → IsFaithful ops c (fifo_of w posted) order → HasPrograms programs (fifo_of w posted)
+      → IsFaithful sends ops c (fifo_of w posted) order → HasPrograms programs (fifo_of w posted)
       → Leads (host_rules ops) c w moves w' → AreRuns programs w'
   runs_led programs w w' posted order moves h f has lead =
       let now : GoesOnFrom programs [] order w posted = (
         [],
-        subst (IsFaithful ops c (fifo_of w posted)) (sym (append-nil order)) f,
+        subst (IsFaithful sends ops c (fifo_of w posted)) (sym (append-nil order)) f,
         has,
         All-nil (IsSince (fifo_of w posted) (order ++ [])),
       ) in
@@ -163,49 +165,54 @@ module _ {S : Type 0} (ops : Ops S) (laws : Laws ops) (c : Config) (config : IsC
       lead in
       runs programs w' end.0 (order ++ end.2.0) end.2.1 end.2.2
 
-module _ {S : Type 0} (ops : Ops S) (c : Config) where
+module _ {S : Type 0} (start : Start S) (c : Config) where
   -- the nodes of the opening world
   first_place : (me : ℕ) (ps : List Program) (i : ℕ) (n : Node (Host S))
-      → slice_get (first_nodes ops c me ps) i ≡ Some n
+      → slice_get (first_nodes start c me ps) i ≡ Some n
       → (program : Program) × (slice_get ps i ≡ Some program)
-      × (n.core ≡ first_host ops c (me + i) program)
+      × (n.core ≡ first_host start c (me + i) program)
   first_place me [] i n h = absurd (none-some n h)
   first_place me (p ∷ ps) zero n h = (
     p,
     refl,
-    ap (λ (x : Node (Host S)). x.core) (sym (same_Some (first_node ops c me p) n h))
-        ∙ ap (λ k. first_host ops c k p) (omega arith),
+    ap (λ (x : Node (Host S)). x.core) (sym (same_Some (first_node start c me p) n h))
+        ∙ ap (λ k. first_host start c k p) (omega arith),
   )
   first_place me (p ∷ ps) (suc i) n h =
       let rest : (program : Program) × (slice_get ps i ≡ Some program)
-      × (n.core ≡ first_host ops c ((me + 1) + i) program) = first_place (me + 1) ps i n h in
-      (rest.0, rest.1, rest.2 ∙ ap (λ k. first_host ops c k rest.0) (omega arith))
+      × (n.core ≡ first_host start c ((me + 1) + i) program) = first_place (me + 1) ps i n h in
+      (rest.0, rest.1, rest.2 ∙ ap (λ k. first_host start c k rest.0) (omega arith))
 
   pub opening_programs : (programs : List Program)
-      → HasPrograms programs (fifo_of (opening ops c programs) (λ i j. []))
+      → HasPrograms programs (fifo_of (opening start c programs) (λ i j. []))
   opening_programs programs i n h =
-      let found : (x : Node (Host S)) × (slice_get (first_nodes ops c 0 programs) i ≡ Some x)
+      let found : (x : Node (Host S)) × (slice_get (first_nodes start c 0 programs) i ≡ Some x)
       × (x.core ≡ n) =
-      map-places (λ (m : Node (Host S)). m.core) (first_nodes ops c 0 programs) i n h in
+      map-places (λ (m : Node (Host S)). m.core) (first_nodes start c 0 programs) i n h in
       let first : (program : Program) × (slice_get programs i ≡ Some program)
-      × (found.0.core ≡ first_host ops c (0 + i) program) =
+      × (found.0.core ≡ first_host start c (0 + i) program) =
       first_place 0 programs i found.0 found.1 in
       first.1 ∙ ap (λ (x : Host S). Some x.process.program) (sym (sym found.2 ∙ first.2))
 
-module _ {S : Type 0} (ops : Ops S) (laws : Laws ops) (c : Config) (config : IsConfig c)
-    (programs : List Program) (many : length programs ≡ c.nodes)
-    (follow : Follows c (IsSoundHost ops c) (opening ops c programs) (λ i j. [])) where
+module _ {S : Type 0} (ops : Ops S) (laws : Laws ops) (start : Start S) (c : Config)
+    (config : IsConfig c) (new : IsStart ops c start) (programs : List Program)
+    (many : length programs ≡ c.nodes)
+    (follow : Follows c (IsSoundHost ops c) (opening start c programs) (λ i j. [])) where
   -- an order explains the opening world, and goes on to explain each world that is led to
   pub opening_explained : (moves : List Move)
-      → explained.GoesOn (host_rules ops) c answered_by [] (opening ops c programs) [] moves
+      → explained.GoesOn (host_rules ops) c answered_by [] (opening start c programs) [] moves
   opening_explained moves =
-      goes_on ops laws c config programs [] (opening ops c programs) (λ i j. []) [] moves follow
-      (opening_faithful ops laws c config programs many) (opening_programs ops c programs)
-      (All-nil (IsSince ops laws c config (fifo_of (opening ops c programs) (λ i j. [])) []))
+      goes_on start.sends_on ops laws c config programs [] (opening start c programs) (λ i j. []) []
+      moves follow
+      (opening_faithful ops start c config new programs many) (opening_programs start c programs)
+      (All-nil (IsSince start.sends_on ops laws c config
+      (fifo_of (opening start c programs) (λ i j. [])) []))
 
   -- in each world that is led to from there, the histories are runs of the programs
   pub opening_runs : (w : World (Host S)) (moves : List Move)
-      → Leads (host_rules ops) c (opening ops c programs) moves w → AreRuns programs w
+      → Leads (host_rules ops) c (opening start c programs) moves w → AreRuns programs w
   opening_runs w moves lead =
-      runs_led ops laws c config programs (opening ops c programs) w (λ i j. []) [] moves follow
-      (opening_faithful ops laws c config programs many) (opening_programs ops c programs) lead
+      runs_led start.sends_on ops laws c config programs (opening start c programs) w (λ i j. []) []
+      moves follow
+      (opening_faithful ops start c config new programs many) (opening_programs start c programs)
+      lead

@@ -94,7 +94,8 @@ Since i a o order = Waits i a o ⊎ IsIn i a order
 
 module _ {S : Type 0} (ops : Ops S) (c : Config) where
   -- so it is at that moment
-  here-as : (o : FifoWorld (Host S)) (order : List Record) → IsFaithful ops c o order
+  here-as : {sends : Bool} (o : FifoWorld (Host S)) (order : List Record)
+      → IsFaithful sends ops c o order
       → (i : ℕ) (n : Host S) → slice_get o.cores i ≡ Some n → (a : Option Call) → n.memory.asked ≡ a
       → Since i (answered_by n) o order
   here-as o order f i n there None idle =
@@ -125,12 +126,14 @@ module _ {S : Type 0} (ops : Ops S) (c : Config) where
         )
       ]
 
-  pub here : (o : FifoWorld (Host S)) (order : List Record) → IsFaithful ops c o order
+  pub here : {sends : Bool} (o : FifoWorld (Host S)) (order : List Record)
+      → IsFaithful sends ops c o order
       → (i : ℕ) (n : Host S) → slice_get o.cores i ≡ Some n → Since i (answered_by n) o order
   here o order f i n there = here-as o order f i n there n.memory.asked refl
 
   -- then the order tears none of them apart
-  pub untorn : (o : FifoWorld (Host S)) (order : List Record) → IsFaithful ops c o order
+  pub untorn : {sends : Bool} (o : FifoWorld (Host S)) (order : List Record)
+      → IsFaithful sends ops c o order
       → (i : ℕ) (a : Answered) → Since i a o order → IsUntorn order i a
   untorn o order f i a (inl w) =
       inl (f.parts i w.node w.there ∙ ap (λ xs. w.node.history ++ xs) w.unowed
@@ -246,9 +249,9 @@ serve-keeps ops n from m =
 
 -- Each step of the FIFO world
 
-module _ {S : Type 0} (ops : Ops S) (c : Config) (o o' : FifoWorld (Host S))
-    (order more : List Record) (f : IsFaithful ops c o order)
-    (f' : IsFaithful ops c o' (order ++ more)) (i : ℕ) (a : Answered) where
+module _ {S : Type 0} {sends : Bool} (ops : Ops S) (c : Config) (o o' : FifoWorld (Host S))
+    (order more : List Record) (f : IsFaithful sends ops c o order)
+    (f' : IsFaithful sends ops c o' (order ++ more)) (i : ℕ) (a : Answered) where
   -- a node that is as it was then
   stayed : (n : Host S) → slice_get o'.cores i ≡ Some n → answered_by n ≡ a
       → Since i a o' (order ++ more)

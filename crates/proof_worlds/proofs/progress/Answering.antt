@@ -1,5 +1,5 @@
 -- Deliveries go on, or nothing is under way and no node is blocked.
-use Rattle.std.proofs.Common.{◌≡◌, ◌⊎◌, ◌<◌, ◌≤◌, ℕ, zero, suc, List, [], ◌∷◌, length, slice_get, Some, refl, sym, subst, inl, inr, arith}
+use Rattle.std.proofs.Common.{◌≡◌, ◌⊎◌, ◌<◌, ◌≤◌, ℕ, Bool, zero, suc, List, [], ◌∷◌, length, slice_get, Some, refl, sym, subst, inl, inr, arith}
 use Rattle.std.proofs.lemmas.Bool.{cases_eq}
 use Rattle.std.proofs.lemmas.Option.{slice_get_cases}
 use Rattle.ivy_model.specs.declared.Config.{Config}
@@ -10,8 +10,11 @@ use Rattle.ivy_moves.specs.stated.FifoWorld.{FifoWorld, delivers}
 use Rattle.ivy_host.specs.stated.Hosts.{Host}
 use Rattle.ivy_host.specs.ManagedLaws.{managed_laws}
 use Rattle.ivy_host.specs.stated.Managers.{Managed, managed_ops}
+use Rattle.ivy_host.specs.declared.opening.Opening.{Opening}
+use Rattle.ivy_host.specs.stated.Openings.{managed_start}
+use Rattle.ivy_host.proofs.Starts.{managed_new}
 use Rattle.proof_worlds.specs.stated.FifoRuns.{IsReachedInOrder}
-use Rattle.proof_worlds.proofs.refinement.LiftedWorlds.{IsSoundWorld, IsSent}
+use Rattle.proof_worlds.proofs.refinement.LiftedWorlds.{IsSoundWorldBy, IsSent}
 use Rattle.proof_worlds.specs.progress.Ending.{AreDeliveries}
 use Rattle.proof_worlds.specs.progress.Answering.{AreAllDelivered, last_of, CanDeliver, DeliveriesAnswer}
 use Rattle.proof_worlds.specs.stated.Unblocked.{AreUnblocked}
@@ -34,7 +37,8 @@ some_below P (suc n) each = elim (some_below P n each) [
   ]
 ]
 
-module _ (c : Config) (o : FifoWorld (Host Managed)) (sound : IsSoundWorld managed_ops c o) where
+module _ {sends : Bool} (c : Config) (o : FifoWorld (Host Managed))
+    (sound : IsSoundWorldBy sends managed_ops c o) where
   -- a message under way can be delivered
   some_delivery : (i j : ℕ) (m : Message) → slice_get (o.posted i j) (o.delivered i j) ≡ Some m
       → CanDeliver managed_ops o
@@ -85,28 +89,31 @@ module _ (c : Config) (o : FifoWorld (Host Managed)) (sound : IsSoundWorld manag
         | inr none ↦ inr (λ i j. beyond i j (λ below. none i below j))
       ]
 
-module _ (c : Config) (programs : List Program) (limits : IsConfig c)
+module _ (opened : Opening) (c : Config) (programs : List Program) (limits : IsConfig c)
     (many : length programs ≡ c.nodes) where
   -- deliveries lead on
   pub reached_last : (after : List (FifoWorld (Host Managed))) (o : FifoWorld (Host Managed))
-      → IsReachedInOrder managed_ops c programs o → AreDeliveries managed_ops o after
-      → IsReachedInOrder managed_ops c programs (last_of o after)
+      → IsReachedInOrder managed_ops (managed_start opened) c programs o
+      → AreDeliveries managed_ops o after
+      → IsReachedInOrder managed_ops (managed_start opened) c programs (last_of o after)
   reached_last [] o reached are = reached
   reached_last (next ∷ rest) o reached are =
       reached_last rest next
       (o ∷ reached.0, (reached.1, delivers are.0.0 are.0.1 are.0.2)) are.1
 
-  answering : (o : FifoWorld (Host Managed)) → IsReachedInOrder managed_ops c programs o
+  answering : (o : FifoWorld (Host Managed))
+      → IsReachedInOrder managed_ops (managed_start opened) c programs o
       → CanDeliver managed_ops o ⊎ (AreAllDelivered o × AreUnblocked managed_ops c o.cores)
   answering o reached =
-      let told : IsToldBy managed_ops c o =
-      reached_told managed_ops managed_laws c limits programs many o reached in
+      let told : IsToldBy (managed_start opened).sends_on managed_ops c o =
+      reached_told managed_ops managed_laws (managed_start opened) c limits
+      (managed_new opened c limits) programs many o reached in
       elim (delivery_or_none c o told.faithful.sound) [
         | inl some ↦ inl some
-        | inr none ↦ inr (none, either_unblocked c programs limits many o reached none)
+        | inr none ↦ inr (none, either_unblocked opened c programs limits many o reached none)
       ]
 
-pub deliveries_answer : DeliveriesAnswer managed_ops
-deliveries_answer c programs limits many o reached after are =
-    answering c programs limits many (last_of o after)
-    (reached_last c programs limits many after o reached are)
+pub deliveries_answer : (opened : Opening) → DeliveriesAnswer managed_ops (managed_start opened)
+deliveries_answer opened c programs limits many o reached after are =
+    answering opened c programs limits many (last_of o after)
+    (reached_last opened c programs limits many after o reached are)

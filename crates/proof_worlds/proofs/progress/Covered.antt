@@ -1,6 +1,6 @@
 -- Each row of the table keeps it that who is in a copy set has a copy, or gets one, or has given it
 -- up.
-use Rattle.std.proofs.Common.{◌≡◌, ◌≢◌, ℕ, true, false, List, [], map, refl, sym, ap, ◌∙◌, inl, inr, subst}
+use Rattle.std.proofs.Common.{◌≡◌, ◌≢◌, ℕ, Bool, true, false, List, [], map, refl, sym, ap, ◌∙◌, inl, inr, subst}
 use Rattle.std.proofs.lemmas.Option.{none-some}
 use Rattle.std.specs.FinSet as set
 use Rattle.std.proofs.lemmas.Bool.{both_ways}
@@ -15,10 +15,11 @@ use Rattle.ivy_pagetable.specs.stated.Entries.{readable, is_owner, copies_of, co
 use Rattle.ivy_pagetable.specs.stated.Manager.{Ops}
 use Rattle.ivy_coherence.specs.stated.PageFaults.{waiting_from}
 use Rattle.ivy_coherence.specs.stated.Serving.{invalidations}
+use Rattle.ivy_coherence.specs.stated.MessageSteps.{sending}
 use Rattle.proof_table.specs.stated.Letters.{Letter, Net, Place, Loose, letter_of}
 use Rattle.proof_table.specs.transitions.Letters.{goes_on, installs}
 use Rattle.proof_table.specs.stated.Orderly.{reads, In, IsOrderly}
-use Rattle.proof_table.specs.transitions.TableSteps.{letter, Comes, Begins, Notice, Row, Claim, IsPreserved}
+use Rattle.proof_table.specs.transitions.TableSteps.{letter, Comes, Begins, Notice, Row, Claim, IsPreservedBy}
 use Rattle.proof_table.proofs.transitions.Both.{both-kept}
 use Rattle.proof_table.proofs.transitions.RowsCome.{page_came, page_came_shared, acknowledged, all_acknowledged}
 use Rattle.proof_table.proofs.transitions.Members.{without_itself}
@@ -242,8 +243,8 @@ module _ (c : Config) (n : Net) (order : IsOrderly c n) (k : HasAccurateCopySets
       (held_by n k x p (entry.Idle s) is owner) (λ y l held gone. absurd gone)
 
 module _ (c : Config) (config : IsConfig c) where
-  covered_by : {n : Net} {f : ℕ → List ℕ} {notice : Notice} {n' : Net} {f' : ℕ → List ℕ}
-      → Row c n f notice n' f' → IsOrderly c n → Descends n → IsOwed n → IsOrderly c n'
+  covered_by : {sends : Bool} {n : Net} {f : ℕ → List ℕ} {notice : Notice} {n' : Net} {f' : ℕ → List ℕ}
+      → Row sends c n f notice n' f' → IsOrderly c n → Descends n → IsOwed n → IsOrderly c n'
       → HasAccurateCopySets n → HasAccurateCopySets n'
   covered_by (Row.carries r) order down owed after k = installed_covered _ r.node r.page _ k
   covered_by {n = n} (Row.takes r) order down owed after k =
@@ -267,13 +268,25 @@ module _ (c : Config) (config : IsConfig c) where
       (λ own. (own, refl)) tt
       (λ i w b h read. still_reads c n k r (entry.Idle r.state) hop (content.WriteReq r.page)
       (λ j q h. h) (λ j q h. h) i read)
+  covered_by (Row.reader_sends_on_read r hop sends away) order down owed after k =
+      unmoved_covered c _ k r (entry.AwaitRead (sending r.state)) hop (content.ReadReq r.page)
+      (λ j q h. h) (λ j q h. h) refl refl tt
+      (λ bits bytes h. cc) (λ own. absurd (let f : false ≡ true = own in cc)) tt
+      (λ i w b h read. absurd (let f : false ≡ true = read in cc))
+  covered_by (Row.reader_sends_on_write r hop sends away) order down owed after k =
+      unmoved_covered c _ k r (entry.AwaitRead (sending r.state)) hop (content.WriteReq r.page)
+      (λ j q h. h) (λ j q h. h) refl refl tt
+      (λ bits bytes h. cc) (λ own. absurd (let f : false ≡ true = own in cc)) tt
+      (λ i w b h read. absurd (let f : false ≡ true = read in cc))
   covered_by (Row.ends_copy r sender plain) order down owed after k =
       given_up_covered c _ order owed.counted k r _ (λ j q h. h) (λ j q h. h)
       (λ own. absurd (let f : false ≡ true = own in cc)) refl
   covered_by (Row.gives_up r sender) order down owed after k =
       given_up_covered c _ order owed.counted k r _ (λ j q h. h) (λ j q h. h) tt refl
-  covered_by (Row.puts_off r) order down owed after k = put_covered c _ k r
-  covered_by (Row.copy_comes bytes r same) order down owed after k =
+  covered_by (Row.puts_off r kept) order down owed after k = put_covered c _ k r
+  covered_by (Row.copy_comes bytes r same quiet) order down owed after k =
+      installed_covered _ r.node r.page bytes (copy_covered c _ k bytes r)
+  covered_by (Row.copy_comes_late bytes r same sent) order down owed after k =
       installed_covered _ r.node r.page bytes (copy_covered c _ k bytes r)
   covered_by (Row.page_comes copies bytes r same none) order down owed after k =
       installed_covered _ r.node r.page bytes (page_covered c _ order k copies bytes r none)
@@ -293,10 +306,10 @@ module _ (c : Config) (config : IsConfig c) where
       orders_covered c _ order k r owner unwritten after
 
 -- beside any claim under which nets are orderly, requests go down and whoever waits has its message
-pub covered-kept : {S : Type 0} (ops : Ops S) (c : Config) → IsConfig c → (Q : Claim S)
-    → IsPreserved ops c Q
+pub covered-kept : {S : Type 0} {sends : Bool} (ops : Ops S) (c : Config) → IsConfig c → (Q : Claim S)
+    → IsPreservedBy sends ops c Q
     → ((m : ℕ → S) (n : Net) (f : ℕ → List ℕ) → Q m n f → IsOrderly c n × Descends n × IsOwed n)
-    → IsPreserved ops c (λ m n f. Q m n f × HasAccurateCopySets n)
+    → IsPreservedBy sends ops c (λ m n f. Q m n f × HasAccurateCopySets n)
 covered-kept ops c config Q kept known = both-kept kept (record {
   by = λ row of before after k.
       (let b = known _ _ _ before in

@@ -1,6 +1,6 @@
--- The worlds of a configuration under the manager that it names: whoever waits has its message, and
--- the routes lead to each page.
-use Rattle.std.proofs.Common.{◌≡◌, ◌<◌, ℕ, List, length, ap}
+-- The worlds of a configuration under the manager that it names, or under steady hints: whoever
+-- waits has its message, and the routes lead to each page.
+use Rattle.std.proofs.Common.{◌≡◌, ◌<◌, ℕ, true, false, List, length, ap}
 use Rattle.ivy_model.specs.declared.Config.{Config}
 use Rattle.ivy_model.specs.declared.Kind.{Kind}
 use Rattle.ivy_model.specs.declared.Kind.TheVariants as kind
@@ -10,6 +10,10 @@ use Rattle.ivy_dynamic.specs.stated.Dynamic.{hint_of}
 use Rattle.ivy_program.specs.stated.Programs.{Program}
 use Rattle.ivy_host.specs.stated.Managers.{Managed, managed_ops}
 use Rattle.ivy_host.specs.ManagedLaws.{managed_laws}
+use Rattle.ivy_host.specs.declared.opening.Opening.{Opening}
+use Rattle.ivy_host.specs.declared.opening.Opening.TheVariants.{Configured, Steady}
+use Rattle.ivy_host.specs.stated.Openings.{Start, start_of, managed_start}
+use Rattle.ivy_host.proofs.Starts.{managed_new}
 use Rattle.proof_table.specs.stated.Letters.{Net}
 use Rattle.proof_table.specs.stated.Orderly.{IsOrderly}
 use Rattle.proof_table.specs.stated.Descending.{Descends}
@@ -21,14 +25,22 @@ use Rattle.proof_table.proofs.routing.HintedKept.{hinted_descends}
 use Rattle.proof_table.proofs.routing.Found.{IsInside, same_routes, same_besides, same_inside}
 use Rattle.proof_table.proofs.routing.ManagedRoutes.{manager_below, managed_routes, managed_besides}
 use Rattle.proof_table.proofs.routing.HintedRoutes.{hinted_routes}
-use Rattle.proof_worlds.proofs.progress.EitherWorlds.{RoutedBy, either-kept, either-first}
+use Rattle.proof_worlds.proofs.progress.EitherWorlds.{RoutedBy, RoutedUnder, either-kept, either-first}
 use Rattle.proof_worlds.proofs.progress.RoutedRuns.{runs_awaited, runs_routed}
 
+none_steady : true ≡ false → ⊥
+none_steady h = cc
+
 module _ (c : Config) (limits : IsConfig c) where
-  pub either_descends : (k : Kind) (m : ℕ → Managed) (n : Net) → IsOrderly c n → RoutedBy k c m n
+  kind_descends : (k : Kind) (m : ℕ → Managed) (n : Net) → IsOrderly c n → RoutedBy k c m n
       → Descends n
-  either_descends kind.Fixed m n order r = descends c r.0 n order r.2
-  either_descends kind.Dynamic m n order r = hinted_descends c r.0 n order r.2
+  kind_descends kind.Fixed m n order r = descends c r.0 n order r.2
+  kind_descends kind.Dynamic m n order r = hinted_descends c r.0 n order r.2
+
+  pub either_descends : (k : Opening) (m : ℕ → Managed) (n : Net) → IsOrderly c n
+      → RoutedUnder k c m n → Descends n
+  either_descends Configured = kind_descends c.manager
+  either_descends Steady = kind_descends kind.Dynamic
 
   abbrev hops : (ℕ → Managed) → ℕ → ℕ → ℕ
   hops m page i = managed_ops.next_hop (m i) page
@@ -38,10 +50,10 @@ module _ (c : Config) (limits : IsConfig c) where
   SaysRoutes k m n page =
       AreRoutes c n page (hops m page) × (k ≡ kind.Fixed → AreManaged c n page (hops m page))
 
-  either_routes : (k : Kind) (m : ℕ → Managed) (n : Net) (page : ℕ) → IsOrderly c n
+  kind_routes : (k : Kind) (m : ℕ → Managed) (n : Net) (page : ℕ) → IsOrderly c n
       → RoutedBy k c m n → page < c.pages → IsAwaited n
       → IsInside c n page (hops m page) → SaysRoutes k m n page
-  either_routes kind.Fixed m n page order r lt waits inside =
+  kind_routes kind.Fixed m n page order r lt waits inside =
       let same : (i : ℕ) → i < c.nodes → hops m page i ≡ hop_of (r.0 i) page =
       λ i below. ap (λ v. managed_ops.next_hop v page) (r.1 i below) in (
         same_routes c n page (λ i. hop_of (r.0 i) page) (hops m page) same
@@ -51,7 +63,7 @@ module _ (c : Config) (limits : IsConfig c) where
             (manager_below c limits r.0 n order r.2 page lt)
             (managed_besides c limits r.0 n order r.2 page lt),
       )
-  either_routes kind.Dynamic m n page order r lt waits inside =
+  kind_routes kind.Dynamic m n page order r lt waits inside =
       let same : (i : ℕ) → i < c.nodes → hops m page i ≡ hint_of (r.0 i) page =
       λ i below. ap (λ v. managed_ops.next_hop v page) (r.1 i below) in (
         same_routes c n page (λ i. hint_of (r.0 i) page) (hops m page) same
@@ -60,15 +72,37 @@ module _ (c : Config) (limits : IsConfig c) where
         λ fixed. absurd (let f : kind.Dynamic ≡ kind.Fixed = fixed in cc),
       )
 
-  pub either_awaited : (programs : List Program) → length programs ≡ c.nodes
-      → AllAwaited managed_ops c programs
-  either_awaited =
-      runs_awaited managed_laws c limits (RoutedBy c.manager c) (either-kept c limits c.manager)
-      (either-first c limits c.manager) (either_descends c.manager)
+  -- and besides only where the nodes begin by the manager of the configuration
+  abbrev SaysUnder : Opening → (ℕ → Managed) → Net → ℕ → Type 0
+  SaysUnder k m n page =
+      AreRoutes c n page (hops m page)
+      × (managed_start k ≡ start_of managed_ops → c.manager ≡ kind.Fixed
+      → AreManaged c n page (hops m page))
 
-  pub either_routed : (programs : List Program) → length programs ≡ c.nodes
-      → AllRouted managed_ops c programs
-  either_routed programs many =
-      runs_routed managed_laws c limits (RoutedBy c.manager c) (either-kept c limits c.manager)
-      (either-first c limits c.manager) (either_descends c.manager)
-      programs many (SaysRoutes c.manager) (either_routes c.manager)
+  either_routes : (k : Opening) (m : ℕ → Managed) (n : Net) (page : ℕ) → IsOrderly c n
+      → RoutedUnder k c m n → page < c.pages → IsAwaited n
+      → IsInside c n page (hops m page) → SaysUnder k m n page
+  either_routes Configured m n page order r lt waits inside =
+      let says : SaysRoutes c.manager m n page = kind_routes c.manager m n page order r lt waits
+      inside in
+      (says.0, λ same fixed. says.1 fixed)
+  either_routes Steady m n page order r lt waits inside =
+      let says : SaysRoutes kind.Dynamic m n page =
+      kind_routes kind.Dynamic m n page order r lt waits inside in (
+        says.0,
+        λ same fixed. absurd (none_steady (ap (λ (s : Start Managed). s.sends_on) same)),
+      )
+
+  pub either_awaited : (k : Opening) (programs : List Program) → length programs ≡ c.nodes
+      → AllAwaited managed_ops (managed_start k) c programs
+  either_awaited k =
+      runs_awaited managed_laws (managed_start k) c limits (managed_new k c limits)
+      (RoutedUnder k c)
+      (either-kept c limits k) (either-first c limits k) (either_descends k)
+
+  pub either_routed : (k : Opening) (programs : List Program) → length programs ≡ c.nodes
+      → AllRouted managed_ops (managed_start k) c programs
+  either_routed k programs many =
+      runs_routed managed_laws (managed_start k) c limits (managed_new k c limits) (RoutedUnder k c)
+      (either-kept c limits k) (either-first c limits k) (either_descends k)
+      programs many (SaysUnder k) (either_routes k)

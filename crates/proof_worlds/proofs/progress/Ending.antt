@@ -13,6 +13,8 @@ use Rattle.ivy_program.specs.stated.Programs.{Program}
 use Rattle.ivy_moves.specs.stated.FifoWorld.{FifoWorld, Steps, delivers}
 use Rattle.ivy_host.specs.stated.Hosts.{Host, host_rules}
 use Rattle.ivy_host.specs.stated.Managers.{Managed, managed_ops}
+use Rattle.ivy_host.specs.declared.opening.Opening.{Opening}
+use Rattle.ivy_host.specs.stated.Openings.{managed_start}
 use Rattle.proof_table.specs.stated.Letters.{content_of}
 use Rattle.proof_worlds.specs.stated.FifoRuns.{IsReachedInOrder}
 use Rattle.proof_worlds.specs.progress.Ending.{sum_below, work_left, AreDeliveries, DeliveriesEnd}
@@ -103,10 +105,11 @@ rounds_most k (suc a) some =
     let d : rounds k a ≤ k * a * a = rounds_most k a some in
     omega (arith, d, some)
 
-module _ (c : Config) (limits : IsConfig c) (programs : List Program)
+module _ (opened : Opening) (c : Config) (limits : IsConfig c) (programs : List Program)
     (many : length programs ≡ c.nodes) where
   ending : (after : List (FifoWorld (Host Managed))) (o : FifoWorld (Host Managed))
-      → IsReachedInOrder managed_ops c programs o → AreDeliveries managed_ops o after
+      → IsReachedInOrder managed_ops (managed_start opened) c programs o
+      → AreDeliveries managed_ops o after
       → length after ≤ rounds (c.nodes + 1) (work c o 0) + way c o
   ending [] o reached are = omega arith
   ending (next ∷ rest) o reached are =
@@ -114,7 +117,7 @@ module _ (c : Config) (limits : IsConfig c) (programs : List Program)
       let step : Steps (host_rules managed_ops) o next = delivers are.0.0 are.0.1 d in
       let more : length rest ≤ rounds (c.nodes + 1) (work c next 0) + way c next =
       ending rest next (o ∷ reached.0, (reached.1, step)) are.1 in
-      elim (lowers 0 c limits programs many o next reached are.0.0 are.0.1 d) [
+      elim (lowers 0 opened c limits programs many o next reached are.0.0 are.0.1 d) [
         | inl less ↦
             (let a : way c next ≤ (c.nodes + 1) * work c next 0 = way_most c next 0 in
             let b : rounds (c.nodes + 1) (work c next 0) + (c.nodes + 1) * work c next 0 + 1
@@ -128,10 +131,10 @@ module _ (c : Config) (limits : IsConfig c) (programs : List Program)
             omega (arith, more, a, b))
       ]
 
-pub deliveries_end : DeliveriesEnd managed_ops
-deliveries_end c programs limits many o reached after are =
+pub deliveries_end : (opened : Opening) → DeliveriesEnd managed_ops (managed_start opened)
+deliveries_end opened c programs limits many o reached after are =
     let a : length after ≤ rounds (c.nodes + 1) (work c o 0) + way c o =
-    ending c limits programs many after o reached are in
+    ending opened c limits programs many after o reached are in
     let b : way c o ≤ (c.nodes + 1) * work c o 0 = way_most c o 0 in
     let d : rounds (c.nodes + 1) (work c o 0) ≤ (c.nodes + 1) * work c o 0 * work c o 0 =
     rounds_most (c.nodes + 1) (work c o 0) (omega arith) in

@@ -3,6 +3,7 @@
 use Rattle.std.proofs.Common.{◌≡◌, ◌≢◌, ◌≤◌, ◌<◌, ◌+◌, ◌-◌, ◌*◌, ℕ, Bool, true, false, not, ◌&&◌, List, [], ◌∷◌}
 use Rattle.std.proofs.Common.{◌++◌, length, Option, Some, None, refl, sym, ap, ◌∙◌, inl, inr, arith, subst, if◌then◌else◌, ◌==◌}
 use Rattle.std.specs.FinSet as set
+use Rattle.std.proofs.lemmas.Bool.{and_parts, not-true}
 use Rattle.ivy_model.specs.stated.Limits.{most_nodes}
 use Rattle.ivy_wire.specs.declared.Content.TheVariants as content
 use Rattle.ivy_wire.specs.stated.Data.{Content, Message}
@@ -19,7 +20,8 @@ use Rattle.ivy_pagetable.specs.stated.Words.{carried_out}
 use Rattle.ivy_pagetable.specs.stated.Manager.{Ops}
 use Rattle.ivy_coherence.specs.stated.Several.{all_carried}
 use Rattle.ivy_coherence.specs.stated.Coherent.{Coherent}
-use Rattle.ivy_coherence.specs.stated.MessageSteps.{CoherenceEffect, is_none, breach, unlocked, put_by, put_aside, asked, copy_came, owned_with}
+use Rattle.ivy_coherence.specs.stated.MessageSteps.{CoherenceEffect, is_none, is_order, copy_reply, sending, breach, unlocked, put_by, put_aside, sent_on}
+use Rattle.ivy_coherence.specs.stated.MessageSteps.{asked, asked_reader, copy_came, owned_with}
 use Rattle.ivy_coherence.specs.stated.MessageSteps.{page_came, left_with, still_collecting, collected, acknowledged, after_serving, handled, handled_as}
 use Rattle.ivy_coherence.proofs.keeping.Changing.{entry_with}
 use Rattle.ivy_coherence.specs.stated.Serving.{Serving, serving, told, served_by_owner, served_by_other, invalidations}
@@ -58,7 +60,7 @@ module _ {S : Type 0} (ops : Ops S) (lost : ℕ) (k : Coherent S) (p : ℕ) wher
     sends_on : (write : Bool) → body ≡ request_of write p
         → e.posted ≡ parcel_to k.me (ops.next_hop k.manager p) origin call body ∷ []
         → e.after.manager ≡ ops.on_forward k.manager p write origin
-        → put_offs (entry_at e.after.table p) ≡ [] → put_offs before ≡ []
+        → put_offs (entry_at e.after.table p) ≡ put_offs before
         → claims before ≡ false → claims (entry_at e.after.table p) ≡ false
         → bare lost (entry_at e.after.table p) ≡ bare lost before → Handles origin call body e
 
@@ -155,7 +157,7 @@ module _ {S : Type 0} (ops : Ops S) (lost : ℕ) (k : Coherent S) (p : ℕ) wher
         none_before : work_put lost p (put_offs before) ≡ 0
         none_before = ap (λ z. work_put lost p (put_offs z)) is
 
-        sent_on : (write : Bool) → s.owner ≡ false → Does origin call (request_of write p)
+        goes_on : (write : Bool) → s.owner ≡ false → Does origin call (request_of write p)
             (after_serving ops k p (record {
               idle = s;
               manager = ops.on_forward k.manager p write origin;
@@ -163,9 +165,9 @@ module _ {S : Type 0} (ops : Ops S) (lost : ℕ) (k : Coherent S) (p : ℕ) wher
               posted =
                   parcel_to k.me (ops.next_hop k.manager p) origin call (request_of write p) ∷ [];
             }))
-        sent_on write plain = record {
-          handles = sends_on write refl refl refl (ap put_offs (here (entry.Idle s)))
-              (ap put_offs is) (ap claims is ∙ plain)
+        goes_on write plain = record {
+          handles = sends_on write refl refl refl
+              (ap put_offs (here (entry.Idle s)) ∙ ap put_offs (sym is)) (ap claims is ∙ plain)
               (ap claims (here (entry.Idle s)) ∙ plain)
               (ap (bare lost) (here (entry.Idle s)) ∙ ap (bare lost) (sym is));
           elsewhere = there (entry.Idle s);
@@ -174,8 +176,8 @@ module _ {S : Type 0} (ops : Ops S) (lost : ℕ) (k : Coherent S) (p : ℕ) wher
         by_other : (j : Request) → s.owner ≡ false → Does origin call (content_of j p)
             (after_serving ops k p
             (served_by_other ops k.me p (page_at k.table p) (unserved s) origin call j))
-        by_other request.Read plain = sent_on false plain
-        by_other request.Write plain = sent_on true plain
+        by_other request.Read plain = goes_on false plain
+        by_other request.Write plain = goes_on true plain
         by_other request.Invalidate plain =
             less_does origin call (content.Inval p) _ (entry.Idle _) (here _) (there _)
             (let a = none_before in omega (arith, a))
@@ -193,13 +195,49 @@ module _ {S : Type 0} (ops : Ops S) (lost : ℕ) (k : Coherent S) (p : ℕ) wher
             let d : bare lost before ≡ bare_idle lost s = ap (bare lost) is in
             omega (arith, a, b, d))
 
+    -- a request is sent on where a copy is awaited, or it is put off
+    reader_does : (origin call : ℕ) (kind : Request) (s : WaitingState) → before ≡ entry.AwaitRead s
+        → Does origin call (content_of kind p)
+        (asked_reader ops k p s (put_off_as origin call kind))
+    reader_does origin call kind s is = either (k.sends_on && not (is_order kind)) refl
+      where
+        reader_on : (write : Bool) → Does origin call (request_of write p)
+            (record {
+              after = record k {
+                table = with_entry k.table p (entry.AwaitRead (sending s));
+                manager = ops.on_forward k.manager p write origin;
+              };
+              posted =
+                  parcel_to k.me (ops.next_hop k.manager p) origin call (request_of write p) ∷ [];
+            })
+        reader_on write = record {
+          handles = sends_on write refl refl refl
+              (ap put_offs (here (entry.AwaitRead (sending s))) ∙ ap put_offs (sym is))
+              (ap claims is) (ap claims (here (entry.AwaitRead (sending s))))
+              (ap (bare lost) (here (entry.AwaitRead (sending s))) ∙ ap (bare lost) (sym is));
+          elsewhere = there (entry.AwaitRead (sending s));
+        }
+
+        sent : (j : Request) → is_order j ≡ false → Does origin call (content_of j p)
+            (sent_on ops k p s (put_off_as origin call j))
+        sent request.Read asks = reader_on false
+        sent request.Write asks = reader_on true
+        sent request.Invalidate asks = absurd (let f : true ≡ false = asks in cc)
+
+        either : (b : Bool) → (k.sends_on && not (is_order kind)) ≡ b
+            → Does origin call (content_of kind p)
+            (if b then sent_on ops k p s (put_off_as origin call kind)
+            else put_aside ops k p (entry.AwaitRead s) (put_off_as origin call kind))
+        either true sends =
+            sent kind (not-true (is_order kind) (and_parts k.sends_on (not (is_order kind)) sends).1)
+        either false _ = put_does (put_off_as origin call kind) (entry.AwaitRead s) is
+
     -- a request, or an order
     asked_does : (origin call : ℕ) (kind : Request) (e : Entry) → before ≡ e
         → Does origin call (content_of kind p)
         (asked ops k p (put_off_as origin call kind) e)
     asked_does origin call kind (entry.Idle s) is = idle_does origin call kind s is
-    asked_does origin call kind (entry.AwaitRead s) is =
-        put_does (put_off_as origin call kind) (entry.AwaitRead s) is
+    asked_does origin call kind (entry.AwaitRead s) is = reader_does origin call kind s is
     asked_does origin call request.Read (entry.AwaitWrite s) is =
         put_does (put_off_as origin call request.Read) (entry.AwaitWrite s) is
     asked_does origin call request.Write (entry.AwaitWrite s) is =
@@ -222,9 +260,9 @@ module _ {S : Type 0} (ops : Ops S) (lost : ℕ) (k : Coherent S) (p : ℕ) wher
     copy_does from origin call bytes (entry.AwaitRead s) is = either (s.call == call)
       where
         either : (b : Bool) → Does origin call (content.ReadRep p bytes)
-            (if b then unlocked ops k from p copying (Some request.Read) bytes s else breach ops k)
+            (if b then unlocked ops k from p copying (copy_reply s) bytes s else breach ops k)
         either true =
-            unlocked_does from copying (Some request.Read) bytes s origin call (content.ReadRep p bytes)
+            unlocked_does from copying (copy_reply s) bytes s origin call (content.ReadRep p bytes)
             refl (ap put_offs is)
         either false = breach_does origin call (content.ReadRep p bytes)
     copy_does from origin call bytes (entry.Idle s) is = breach_does origin call _

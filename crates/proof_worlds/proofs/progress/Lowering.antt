@@ -27,6 +27,9 @@ use Rattle.ivy_alloc.specs.stated.HeapCalls.{told_of, request, answer_to}
 use Rattle.ivy_memory.proofs.serving.Pages.{is_of_pages}
 use Rattle.ivy_host.specs.stated.Hosts.{Host, host_rules, serving}
 use Rattle.ivy_host.specs.stated.Managers.{Managed, managed_ops}
+use Rattle.ivy_host.specs.declared.opening.Opening.{Opening}
+use Rattle.ivy_host.specs.stated.Openings.{managed_start}
+use Rattle.ivy_host.proofs.Starts.{managed_new}
 use Rattle.ivy_host.specs.ManagedLaws.{managed_laws}
 use Rattle.ivy_host.specs.stated.Sound.{IsSoundHost}
 use Rattle.ivy_host.proofs.Pages.{page_serving}
@@ -36,7 +39,7 @@ use Rattle.proof_table.proofs.transitions.Needs.{page_of}
 use Rattle.proof_worlds.proofs.refinement.HeapDeliveries.{HeapDelivery, serves, learns}
 use Rattle.proof_worlds.specs.stated.Nets.{entry_of, manager_of, managers_of, net_of}
 use Rattle.proof_worlds.specs.stated.FifoRuns.{IsReachedInOrder}
-use Rattle.proof_worlds.proofs.refinement.LiftedWorlds.{IsSent, IsSoundWorld, fits_heap, letter_first}
+use Rattle.proof_worlds.proofs.refinement.LiftedWorlds.{IsSent, IsSoundWorldBy, fits_heap, letter_first}
 use Rattle.proof_worlds.proofs.refinement.FifoRuns.{hops_below}
 use Rattle.proof_table.specs.routing.Claiming.{claims}
 use Rattle.proof_table.specs.stated.Descending.{IsAsked}
@@ -150,14 +153,16 @@ module _ (c : Config) (o u : FifoWorld (Host Managed)) (entry : entries c u ≡ 
 abbrev pub Lowers : ℕ → Config → FifoWorld (Host Managed) → FifoWorld (Host Managed) → Type 0
 Lowers lost c o o' = (work c o' lost < work c o lost) ⊎ ((work c o' lost ≤ work c o lost) × (way c o' < way c o))
 
-module _ (lost : ℕ) (c : Config) (limits : IsConfig c) (programs : List Program)
+module _ (lost : ℕ) (opened : Opening) (c : Config) (limits : IsConfig c) (programs : List Program)
     (many : length programs ≡ c.nodes) (o o' : FifoWorld (Host Managed))
-    (reached : IsReachedInOrder managed_ops c programs o) (source x : ℕ)
+    (reached : IsReachedInOrder managed_ops (managed_start opened) c programs o) (source x : ℕ)
     (t : Delivers (host_rules managed_ops) o source x o') where
-  told : IsToldBy managed_ops c o
-  told = reached_told managed_ops managed_laws c limits programs many o reached
+  told : IsToldBy (managed_start opened).sends_on managed_ops c o
+  told =
+      reached_told managed_ops managed_laws (managed_start opened) c limits
+      (managed_new opened c limits) programs many o reached
 
-  sound : IsSoundWorld managed_ops c o
+  sound : IsSoundWorldBy (managed_start opened).sends_on managed_ops c o
   sound = told.faithful.sound
 
   order : IsOrderly c (net_of o)
@@ -386,21 +391,21 @@ module _ (lost : ℕ) (c : Config) (limits : IsConfig c) (programs : List Progra
         ∙ ap (λ v. suc (hops_at c o p v)) (hop_before p)
       where
         routes : AreRoutes c (net_of o) p (hop_at c o p)
-        routes = (either_routed c limits programs many o reached p inside).0
+        routes = (either_routed c limits opened programs many o reached p inside).0
 
     sent_lowers : (write : Bool) → m.content ≡ request_of write p → effect.posted ≡ on ∷ []
         → effect.after.manager ≡ managed_ops.on_forward k.manager p write m.origin
-        → put_offs (entry_at effect.after.table p) ≡ [] → put_offs (entry_at k.table p) ≡ []
+        → put_offs (entry_at effect.after.table p) ≡ put_offs (entry_at k.table p)
         → claims (entry_at k.table p) ≡ false → claims (entry_at effect.after.table p) ≡ false
         → Lowers lost c o o'
-    sent_lowers write is posts manager none_then none plain free = inr (same_work, less_way)
+    sent_lowers write is posts manager kept plain free = inr (same_work, less_way)
       where
         same_work : work c o' lost ≤ work c o lost
         same_work =
             let a = work_loaded in
             let b : work_posted lost effect.posted ≡ 0 + heavy_of lost m.content = ap (work_posted lost) posts in
-            let d : work_put lost p (put_offs (entry_at effect.after.table p)) ≡ 0 =
-            ap (work_put lost p) none_then in
+            let d : work_put lost p (put_offs (entry_at effect.after.table p))
+            ≡ work_put lost p (put_offs (entry_at k.table p)) = ap (work_put lost p) kept in
             omega (arith, a, b, d)
 
         less_way : way c o' < way c o
@@ -412,8 +417,8 @@ module _ (lost : ℕ) (c : Config) (limits : IsConfig c) (programs : List Progra
             ∙ ap (λ v. 0 + (1 + v))
             (ap (far c o (managed_ops.next_hop k.manager p)) is
             ∙ request_hops (hops_at c o) (managed_ops.next_hop k.manager p) p write) in
-            let d : put_far (put_offs (entry_at effect.after.table p)) ≡ 0 =
-            ap put_far none_then in
+            let d : put_far (put_offs (entry_at effect.after.table p))
+            ≡ put_far (put_offs (entry_at k.table p)) = ap put_far kept in
             let e : far c o x m.content ≡ hops_at c o p x =
             ap (far c o x) is ∙ request_hops (hops_at c o) x p write in
             let f = one_less plain in
@@ -422,8 +427,8 @@ module _ (lost : ℕ) (c : Config) (limits : IsConfig c) (programs : List Progra
     lowers_as : Handles managed_ops lost k p m.origin m.call m.content effect → Lowers lost c o o'
     lowers_as (lessens less) = (let a = work_loaded in inl (omega (arith, a, less)))
     lowers_as (puts_off q is none manager put stays bare) = put_lowers q is none manager put stays
-    lowers_as (sends_on write is posts manager none_then none plain free bare) =
-        sent_lowers write is posts manager none_then none plain free
+    lowers_as (sends_on write is posts manager kept plain free bare) =
+        sent_lowers write is posts manager kept plain free
 
     does_lower : Lowers lost c o o'
     does_lower = lowers_as does.handles

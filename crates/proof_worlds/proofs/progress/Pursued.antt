@@ -1,6 +1,6 @@
 -- Whoever has a call in progress that asks for a word of a page waits for that word, or has its
 -- answer, unless it awaits a count.
-use Rattle.std.proofs.Common.{◌≡◌, ℕ, List, [], ◌∷◌, slice_get, Option, Some, None, refl, sym, ap, ◌∙◌, inl, inr, subst}
+use Rattle.std.proofs.Common.{◌≡◌, ℕ, Bool, List, [], ◌∷◌, slice_get, Option, Some, None, refl, sym, ap, ◌∙◌, inl, inr, subst}
 use Rattle.std.proofs.lemmas.Option.{same_Some, none-some}
 use Rattle.ivy_model.specs.declared.Config.{Config}
 use Rattle.ivy_model.specs.declared.Call.{Call}
@@ -183,8 +183,9 @@ module _ {S : Type 0} (ops : Ops S) (c : Config) where
       (running.waits called page w number asked lock there) of) plain)
       (ap reply_of (sym carries.1.gives) ∙ ap reply_there (sym done) ∙ none)
 
-module _ {S : Type 0} (ops : Ops S) (laws : Laws ops) (c : Config) (config : IsConfig c)
-    (o o' : FifoWorld (Host S)) (order : List Record) (f : IsFaithful ops c o order)
+module _ {S : Type 0} {sends : Bool} (ops : Ops S) (laws : Laws ops) (c : Config)
+    (config : IsConfig c) (o o' : FifoWorld (Host S)) (order : List Record)
+    (f : IsFaithful sends ops c o order)
     (was : AllPursued c o) where
   heap_pursued : (source x : ℕ) (t : _) (core : Host S) → slice_get o.cores x ≡ Some core
       → HeapDelivery ops o source x core t → IsPursued c (serving ops core source t).after

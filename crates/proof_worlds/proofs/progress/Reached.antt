@@ -1,6 +1,6 @@
 -- Each FIFO world that moves lead to from the opening is explained by an order of records; no
 -- call in progress there is one that is refused at once, and each one is pursued.
-use Rattle.std.proofs.Common.{◌≡◌, ℕ, List, [], ◌∷◌, ◌++◌, length, slice_get, Some, sym, ap, ◌∙◌, inl, inr, subst}
+use Rattle.std.proofs.Common.{◌≡◌, ℕ, Bool, List, [], ◌∷◌, ◌++◌, length, slice_get, Some, sym, ap, ◌∙◌, inl, inr, subst}
 use Rattle.std.proofs.lemmas.Option.{none-some}
 use Rattle.ivy_model.specs.declared.Config.{Config}
 use Rattle.ivy_model.specs.declared.Record.{Record}
@@ -10,6 +10,8 @@ use Rattle.ivy_pagetable.specs.Manager.{Laws}
 use Rattle.ivy_program.specs.stated.Programs.{Program}
 use Rattle.ivy_moves.specs.stated.FifoWorld.{FifoWorld, Steps, rests, turns, delivers}
 use Rattle.ivy_host.specs.stated.Hosts.{Host, host_rules}
+use Rattle.ivy_host.specs.stated.Openings.{Start}
+use Rattle.ivy_host.proofs.Starts.{IsStart}
 use Rattle.proof_worlds.specs.stated.FifoRuns.{IsFifoRun, IsReachedInOrder}
 use Rattle.proof_worlds.proofs.refinement.Led.{opening_first}
 use Rattle.proof_worlds.proofs.consistency.Faithful.{IsFaithful, set-places}
@@ -22,15 +24,18 @@ abbrev pub AllServable : {S : Type 0} → Config → FifoWorld (Host S) → Type
 AllServable {S} c o = (i : ℕ) (n : Host S) → slice_get o.cores i ≡ Some n → IsServable c n
 
 -- an order explains the world, no call in progress is refused at once, and each is pursued
-pub record IsToldBy {S : Type 0} (ops : Ops S) (c : Config) (o : FifoWorld (Host S)) : Type 0 where
+pub record IsToldBy {S : Type 0} (sends : Bool) (ops : Ops S) (c : Config)
+    (o : FifoWorld (Host S)) : Type 0 where
   pub order : List Record
-  pub faithful : IsFaithful ops c o order
+  pub faithful : IsFaithful sends ops c o order
   pub servable : AllServable c o
   pub pursued : AllPursued c o
 
-module _ {S : Type 0} (ops : Ops S) (laws : Laws ops) (c : Config) (config : IsConfig c)
-    (programs : List Program) (many : length programs ≡ c.nodes) where
-  servable_next : (o o' : FifoWorld (Host S)) (order : List Record) → IsFaithful ops c o order
+module _ {S : Type 0} (ops : Ops S) (laws : Laws ops) (start : Start S) (c : Config)
+    (config : IsConfig c) (new : IsStart ops c start) (programs : List Program)
+    (many : length programs ≡ c.nodes) where
+  servable_next : (o o' : FifoWorld (Host S)) (order : List Record)
+      → IsFaithful start.sends_on ops c o order
       → AllServable c o → Steps (host_rules ops) o o' → AllServable c o'
   servable_next o o' order f served (rests same) j n there =
       served j n (ap (λ (w : FifoWorld (Host S)). slice_get w.cores j) (sym same) ∙ there)
@@ -54,23 +59,23 @@ module _ {S : Type 0} (ops : Ops S) (laws : Laws ops) (c : Config) (config : IsC
       ]
 
   run_told : (before : List (FifoWorld (Host S))) (o : FifoWorld (Host S))
-      → IsFifoRun ops c programs before o → IsToldBy ops c o
+      → IsFifoRun ops start c programs before o → IsToldBy start.sends_on ops c o
   run_told [] o is =
-      subst (IsToldBy ops c) (sym is)
+      subst (IsToldBy start.sends_on ops c) (sym is)
       (record {
         order = [];
-        faithful = opening_faithful ops laws c config programs many;
+        faithful = opening_faithful ops start c config new programs many;
         servable = λ i n there called code asked.
             absurd (none-some called
             (ap (λ (h : Host S). h.memory.asked)
-            (sym (opening_first ops c programs i n there).1) ∙ asked));
+            (sym (opening_first start c programs i n there).1) ∙ asked));
         pursued = λ i n there called page w asked. absurd (none-some called
             (ap (λ (h : Host S). h.memory.asked)
-            (sym (opening_first ops c programs i n there).1) ∙ asked));
+            (sym (opening_first start c programs i n there).1) ∙ asked));
       })
   run_told (last ∷ before) o run =
-      let was : IsToldBy ops c last = run_told before last run.0 in
-      let on : GoesOn ops c last o was.order =
+      let was : IsToldBy start.sends_on ops c last = run_told before last run.0 in
+      let on : GoesOn start.sends_on ops c last o was.order =
       faithful_next ops laws c config last o was.order was.faithful run.1 in
       record {
         order = was.order ++ on.more;
@@ -80,6 +85,6 @@ module _ {S : Type 0} (ops : Ops S) (laws : Laws ops) (c : Config) (config : IsC
             pursued_next ops laws c config last o was.order was.faithful was.pursued run.1;
       }
 
-  pub reached_told : (o : FifoWorld (Host S)) → IsReachedInOrder ops c programs o
-      → IsToldBy ops c o
+  pub reached_told : (o : FifoWorld (Host S)) → IsReachedInOrder ops start c programs o
+      → IsToldBy start.sends_on ops c o
   reached_told o reached = run_told reached.0 o reached.1

@@ -94,8 +94,8 @@ first_none : (a b : Option Reply) → first_reply a b ≡ None → (a ≡ None) 
 first_none None b h = (refl, h)
 first_none (Some r) b h = absurd (none-some r (sym h))
 
-module _ {S : Type 0} (ops : Ops S) (c : Config) (config : IsConfig c) (o : FifoWorld (Host S))
-    (all : AreAllDelivered o) (told : IsToldBy ops c o)
+module _ {S : Type 0} {sends : Bool} (ops : Ops S) (c : Config) (config : IsConfig c)
+    (o : FifoWorld (Host S)) (all : AreAllDelivered o) (told : IsToldBy sends ops c o)
     (unlocked : (x p : ℕ) → is_locked ((net_of o).entry x p) ≡ false) where
   open told use {order, faithful, servable, pursued}
   open faithful use {memory, sound, copied}

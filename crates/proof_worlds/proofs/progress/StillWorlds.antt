@@ -1,7 +1,7 @@
 -- In each world that moves lead to from its opening, where nothing is under way, no node is blocked;
 -- and where no turn does anything either, it stands still only where one flat memory would (stuck
 -- only at awaits).
-use Rattle.std.proofs.Common.{◌≡◌, ◌<◌, ◌≤◌, ℕ, false, List, [], ◌∷◌, length, map, slice_get, Some, None, refl, sym, ap, ◌∙◌, inl, inr, subst, arith}
+use Rattle.std.proofs.Common.{◌≡◌, ◌<◌, ◌≤◌, ℕ, Bool, false, List, [], ◌∷◌, length, map, slice_get, Some, None, refl, sym, ap, ◌∙◌, inl, inr, subst, arith}
 use Rattle.std.proofs.lemmas.List.{length-map}
 use Rattle.std.proofs.lemmas.Option.{slice_get_cases}
 use Rattle.std.proofs.lemmas.Simd.{map-map}
@@ -23,14 +23,16 @@ use Rattle.ivy_moves.proofs.Places.{link_of}
 use Rattle.ivy_host.specs.stated.Hosts.{Host, host_rules, answered_by, turn_of}
 use Rattle.ivy_host.specs.ManagedLaws.{managed_laws}
 use Rattle.ivy_host.specs.stated.Managers.{Managed, managed_ops}
-use Rattle.ivy_host.specs.stated.Openings.{opening}
+use Rattle.ivy_host.specs.declared.opening.Opening.{Opening}
+use Rattle.ivy_host.specs.stated.Openings.{Start, managed_start, opening}
+use Rattle.ivy_host.proofs.Starts.{IsStart, managed_new}
 use Rattle.proof_table.specs.stated.Letters.{Net}
 use Rattle.proof_table.specs.stated.Orderly.{IsOrderly}
-use Rattle.proof_table.specs.transitions.TableSteps.{IsPreserved}
+use Rattle.proof_table.specs.transitions.TableSteps.{IsPreservedBy}
 use Rattle.proof_worlds.specs.stated.Nets.{net_of, managers_of}
 use Rattle.proof_worlds.specs.stated.FifoRuns.{first_ordered, IsReachedInOrder, FollowsInOrder}
 use Rattle.proof_worlds.proofs.refinement.LiftedRuns.{Holds}
-use Rattle.proof_worlds.proofs.refinement.LiftedWorlds.{IsSoundWorld, IsSent}
+use Rattle.proof_worlds.proofs.refinement.LiftedWorlds.{IsSoundWorldBy, IsSent}
 use Rattle.proof_worlds.proofs.refinement.FifoRuns.{reached_holds, led_in_order}
 use Rattle.proof_worlds.proofs.refinement.Worlds.{first_net}
 use Rattle.proof_table.specs.stated.Descending.{Descends}
@@ -39,7 +41,7 @@ use Rattle.proof_table.proofs.routing.Owed.{IsOwed}
 use Rattle.proof_table.proofs.routing.OwedKept.{owed-kept}
 use Rattle.proof_table.proofs.routing.Quiet.{IsQuiet}
 use Rattle.proof_worlds.proofs.progress.EitherRoutes.{either_descends}
-use Rattle.proof_worlds.proofs.progress.EitherWorlds.{RoutedBy, either-kept, either-first}
+use Rattle.proof_worlds.proofs.progress.EitherWorlds.{RoutedUnder, either-kept, either-first}
 use Rattle.proof_worlds.proofs.progress.QuietWorlds.{BeginsSo, quiet_first}
 use Rattle.proof_worlds.proofs.consistency.Faithful.{map-places}
 use Rattle.proof_worlds.specs.progress.Answering.{AreAllDelivered}
@@ -52,9 +54,10 @@ use Rattle.proof_worlds.proofs.progress.Settling.{at_rest, order_unblocked, unbl
 use Rattle.proof_worlds.proofs.progress.Shares.{HasAccurateCopySets}
 use Rattle.proof_worlds.proofs.progress.Unlocked.{none_locked}
 
-module _ {S : Type 0} {ops : Ops S} (laws : Laws ops) (c : Config) (limits : IsConfig c)
-    (Routed : (ℕ → S) → Net → Type 0) (kept : IsPreserved ops c (IsQuiet Routed c))
-    (begins : BeginsSo ops c Routed)
+module _ {S : Type 0} {ops : Ops S} (laws : Laws ops) (start : Start S) (c : Config)
+    (limits : IsConfig c) (new : IsStart ops c start) (Routed : (ℕ → S) → Net → Type 0)
+    (kept : IsPreservedBy start.sends_on ops c (IsQuiet Routed c))
+    (begins : BeginsSo start c Routed)
     (descends : (m : ℕ → S) (n : Net) → IsOrderly c n → Routed m n → Descends n)
     (programs : List Program) (many : length programs ≡ c.nodes) where
   abbrev spare : S
@@ -64,26 +67,26 @@ module _ {S : Type 0} {ops : Ops S} (laws : Laws ops) (c : Config) (limits : IsC
   IsWaitedFor m n f = IsQuiet Routed c m n f × IsOwed n
 
   first : FifoWorld (Host S)
-  first = first_ordered ops c programs
+  first = first_ordered ops start c programs
 
-  covered_reached : (o : FifoWorld (Host S)) → IsReachedInOrder ops c programs o
-      → Holds ops c (λ m n f. IsWaitedFor m n f × HasAccurateCopySets n) spare o
+  covered_reached : (o : FifoWorld (Host S)) → IsReachedInOrder ops start c programs o
+      → Holds start.sends_on ops c (λ m n f. IsWaitedFor m n f × HasAccurateCopySets n) spare o
   covered_reached =
-      reached_holds laws c limits
+      reached_holds laws start c limits new
       (covered-kept ops c limits IsWaitedFor
       (owed-kept ops c limits (IsQuiet Routed c) kept (λ m n f q. (q.0, descends m n q.0 q.1)))
       (λ m n f q. (q.0.0, descends m n q.0.0 q.0.1, q.1)))
       spare programs many (λ p. []) (
         (
-          quiet_first laws c limits Routed kept begins spare programs many,
-          first_owed (net_of (first_ordered ops c programs)) (first_net ops c programs)
-              (first_net ops c programs).delivered,
+          quiet_first laws start c limits new Routed kept begins spare programs many,
+          first_owed (net_of (first_ordered ops start c programs)) (first_net start c programs)
+              (first_net start c programs).delivered,
         ),
-        first_covered (net_of (first_ordered ops c programs)) (first_net ops c programs),
+        first_covered (net_of (first_ordered ops start c programs)) (first_net start c programs),
       )
 
   -- where nothing is under way, no word waits
-  unlocked_reached : (o : FifoWorld (Host S)) → IsReachedInOrder ops c programs o
+  unlocked_reached : (o : FifoWorld (Host S)) → IsReachedInOrder ops start c programs o
       → AreAllDelivered o → (x p : ℕ) → is_locked ((net_of o).entry x p) ≡ false
   unlocked_reached o reached all x p =
       let h = covered_reached o reached in
@@ -94,16 +97,18 @@ module _ {S : Type 0} {ops : Ops S} (laws : Laws ops) (c : Config) (limits : IsC
       none_locked c (net_of o) (at_rest o all) order h.1.1.1 (awaited c (net_of o) order owed) p
       (down p).0 (down p).1 x
 
-  pub unblocked_reached : (o : FifoWorld (Host S)) → IsReachedInOrder ops c programs o
+  pub unblocked_reached : (o : FifoWorld (Host S)) → IsReachedInOrder ops start c programs o
       → AreAllDelivered o → AreUnblocked ops c o.cores
   unblocked_reached o reached all =
-      order_unblocked ops c limits o all (reached_told ops laws c limits programs many o reached)
+      order_unblocked ops c limits o all
+      (reached_told ops laws start c limits new programs many o reached)
       (unlocked_reached o reached all)
 
 -- a world in which nothing is under way follows an ordered one in which nothing is
-module _ {S : Type 0} (ops : Ops S) (c : Config) (programs : List Program)
-    (w : World (Host S)) (follow : FollowsInOrder ops c programs w)
-    (sound : IsSoundWorld ops c (fifo_of w follow.posted)) (none : HasNothingUnderWay w) where
+module _ {S : Type 0} {sends : Bool} (ops : Ops S) (start : Start S) (c : Config)
+    (programs : List Program) (w : World (Host S)) (follow : FollowsInOrder ops start c programs w)
+    (sound : IsSoundWorldBy sends ops c (fifo_of w follow.posted))
+    (none : HasNothingUnderWay w) where
   abbrev o : FifoWorld (Host S)
   o = fifo_of w follow.posted
 
@@ -143,31 +148,36 @@ module _ {S : Type 0} (ops : Ops S) (c : Config) (programs : List Program)
   pub none_under_way : AreAllDelivered o
   none_under_way i j = all_delivered i j (follow.posted i j) refl
 
--- under the manager of the configuration
-module _ (c : Config) (programs : List Program) (limits : IsConfig c)
+-- under the manager of the configuration, or steady hints
+module _ (opened : Opening) (c : Config) (programs : List Program) (limits : IsConfig c)
     (many : length programs ≡ c.nodes) where
-  pub either_unblocked : (o : FifoWorld (Host Managed)) → IsReachedInOrder managed_ops c programs o
+  pub either_unblocked : (o : FifoWorld (Host Managed))
+      → IsReachedInOrder managed_ops (managed_start opened) c programs o
       → AreAllDelivered o → AreUnblocked managed_ops c o.cores
   either_unblocked =
-      unblocked_reached managed_laws c limits (RoutedBy c.manager c)
-      (either-kept c limits c.manager) (either-first c limits c.manager)
-      (either_descends c limits c.manager) programs many
+      unblocked_reached managed_laws (managed_start opened) c limits (managed_new opened c limits)
+      (RoutedUnder opened c) (either-kept c limits opened) (either-first c limits opened)
+      (either_descends c limits opened) programs many
 
   module _ (moves : List Move) (w : World (Host Managed))
-      (led : Leads (host_rules managed_ops) c (opening managed_ops c programs) moves w) where
+      (led : Leads (host_rules managed_ops) c (opening (managed_start opened) c programs)
+      moves w) where
     -- the cores of the nodes
     abbrev cores : List (Host Managed)
     cores = map (λ (n : Node (Host Managed)). n.core) w.nodes
 
     pub unblocked-led : HasNothingUnderWay w → AreUnblocked managed_ops c cores
     unblocked-led none =
-        let follow : FollowsInOrder managed_ops c programs w =
-        led_in_order managed_laws c limits programs many moves w led in
-        let told : IsToldBy managed_ops c (fifo_of w follow.posted) =
-        reached_told managed_ops managed_laws c limits programs many (fifo_of w follow.posted)
-        follow.reached in
+        let follow : FollowsInOrder managed_ops (managed_start opened) c programs w =
+        led_in_order managed_laws (managed_start opened) c limits (managed_new opened c limits)
+        programs many moves w led in
+        let told : IsToldBy (managed_start opened).sends_on managed_ops c
+        (fifo_of w follow.posted) =
+        reached_told managed_ops managed_laws (managed_start opened) c limits
+        (managed_new opened c limits) programs many (fifo_of w follow.posted) follow.reached in
         either_unblocked (fifo_of w follow.posted) follow.reached
-        (none_under_way managed_ops c programs w follow told.faithful.sound none)
+        (none_under_way managed_ops (managed_start opened) c programs w follow told.faithful.sound
+        none)
 
     pub settled-led : IsStill managed_ops w
         → AreSettled c (map (λ (n : Node (Host Managed)). answered_by n.core) w.nodes)

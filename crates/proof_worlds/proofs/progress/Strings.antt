@@ -33,6 +33,8 @@ use Rattle.ivy_moves.proofs.Places.{guarded, set-there, link_of}
 use Rattle.ivy_host.specs.stated.Hosts.{Host, host_rules}
 use Rattle.ivy_host.specs.ManagedLaws.{managed_laws}
 use Rattle.ivy_host.specs.stated.Managers.{managed_ops}
+use Rattle.ivy_host.specs.declared.opening.Opening.{Opening}
+use Rattle.ivy_host.specs.stated.Openings.{managed_start}
 use Rattle.ivy_host.specs.stated.Sound.{IsSoundHost}
 use Rattle.ivy_host.proofs.WellBehaved.{well_behaved}
 use Rattle.proof_worlds.specs.progress.Answering.{last_of}
@@ -378,14 +380,15 @@ module _ {S : Type 0} (ops : Ops S) where
           omega (arith, a, b, long),
         )
 
-pub strings_end : StringsEnd managed_ops
-strings_end c programs limits many w follow moves quiet end led =
+pub strings_end : (opened : Opening) → StringsEnd managed_ops (managed_start opened)
+strings_end opened c programs limits many w follow moves quiet end led =
     let came =
     all_came managed_ops c limits (well_behaved managed_laws c) moves w end follow.posted follow.follows quiet
     led in
     let most : length came.0.after
     ≤ most_deliveries c.nodes (work_left c (fifo_of w follow.posted)) =
-    deliveries_end c programs limits many (fifo_of w follow.posted) follow.reached came.0.after
+    deliveries_end opened c programs limits many (fifo_of w follow.posted) follow.reached
+    came.0.after
     came.0.are in
     let counted = came.1 in
     omega (arith, counted, most)

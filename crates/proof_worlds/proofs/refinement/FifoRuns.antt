@@ -1,6 +1,6 @@
 -- What each row keeps holds in every FIFO world that is reached, and each world that moves lead
 -- to follows one.
-use Rattle.std.proofs.Common.{◌≡◌, ◌<◌, ℕ, List, [], ◌∷◌, length, slice_get, Some, refl, sym, ap, ◌∙◌, subst, inl, inr, arith}
+use Rattle.std.proofs.Common.{◌≡◌, ◌<◌, ℕ, Bool, List, [], ◌∷◌, length, slice_get, Some, refl, sym, ap, ◌∙◌, subst, inl, inr, arith}
 use Rattle.std.proofs.lemmas.Option.{none-some, slice_get_within, slice_get_cases}
 use Rattle.ivy_model.specs.declared.Config.{Config}
 use Rattle.ivy_model.specs.stated.Config.{IsConfig}
@@ -16,59 +16,64 @@ use Rattle.ivy_moves.specs.stated.FifoWorld.{FifoWorld}
 use Rattle.ivy_moves.specs.stated.Worlds.{World, Leads}
 use Rattle.ivy_moves.proofs.Opening.{opening_follows}
 use Rattle.ivy_host.specs.stated.Hosts.{Host, host_rules}
-use Rattle.ivy_host.specs.stated.Openings.{opening}
+use Rattle.ivy_host.specs.stated.Openings.{Start, opening}
 use Rattle.ivy_host.specs.stated.Sound.{IsSoundHost}
+use Rattle.ivy_host.proofs.Starts.{IsStart}
 use Rattle.ivy_host.proofs.WellBehaved.{well_behaved, opening_is}
 use Rattle.proof_table.specs.stated.Letters.{Letter, Net, Place, Underway, Aside, Loose, IsAt}
-use Rattle.proof_table.specs.transitions.TableSteps.{IsPreserved}
+use Rattle.proof_table.specs.transitions.TableSteps.{IsPreservedBy}
 use Rattle.proof_worlds.specs.stated.Nets.{entry_of, manager_of, net_of, managers_of}
 use Rattle.proof_worlds.specs.stated.FifoRuns.{first_ordered, IsFifoRun, IsReachedInOrder, FollowsInOrder}
 use Rattle.proof_worlds.proofs.refinement.Filtered.{filtered_from}
 use Rattle.proof_worlds.proofs.refinement.Led.{HasOrder, order_led}
-use Rattle.proof_worlds.proofs.refinement.LiftedWorlds.{IsSoundWorld, steps_sound}
+use Rattle.proof_worlds.proofs.refinement.LiftedWorlds.{IsSoundWorldBy, steps_sound}
 use Rattle.proof_worlds.proofs.refinement.LiftedHosts.{kept-steps}
 use Rattle.proof_worlds.proofs.refinement.LiftedRuns.{Holds, sound_opening}
 
 module _ {S : Type 0} {ops : Ops S} {P : (ℕ → S) → Net → (ℕ → List ℕ) → Type 0} (laws : Laws ops)
-    (c : Config) (limits : IsConfig c) (kept : IsPreserved ops c P) (spare : S)
+    (start : Start S) (c : Config) (limits : IsConfig c) (new : IsStart ops c start)
+    (kept : IsPreservedBy start.sends_on ops c P) (spare : S)
     (programs : List Program) (many : length programs ≡ c.nodes) (f : ℕ → List ℕ)
-    (first : P (managers_of spare (first_ordered ops c programs))
-    (net_of (first_ordered ops c programs)) f) where
+    (first : P (managers_of spare (first_ordered ops start c programs))
+    (net_of (first_ordered ops start c programs)) f) where
   run_holds : (before : List (FifoWorld (Host S))) (o : FifoWorld (Host S))
-      → IsFifoRun ops c programs before o → Holds ops c P spare o
+      → IsFifoRun ops start c programs before o → Holds start.sends_on ops c P spare o
   run_holds [] o is =
-      subst (Holds ops c P spare) (sym is) (sound_opening laws c limits programs many, (f, first))
+      subst (Holds start.sends_on ops c P spare) (sym is)
+      (sound_opening start c limits new programs many, (f, first))
   run_holds (last ∷ before) o run =
-      let h : Holds ops c P spare last = run_holds before last run.0 in (
+      let h : Holds start.sends_on ops c P spare last = run_holds before last run.0 in (
         steps_sound ops c (well_behaved laws c) last o h.0 run.1,
         (let all = kept-steps laws c kept spare last o h.1.0 h.0 h.1.1 run.1 in (all.0, all.1)),
       )
 
   -- P of each FIFO world that is reached
-  pub reached_holds : (o : FifoWorld (Host S)) → IsReachedInOrder ops c programs o
-      → Holds ops c P spare o
+  pub reached_holds : (o : FifoWorld (Host S)) → IsReachedInOrder ops start c programs o
+      → Holds start.sends_on ops c P spare o
   reached_holds o reached = run_holds reached.0 o reached.1
 
-module _ {S : Type 0} {ops : Ops S} (laws : Laws ops) (c : Config) (limits : IsConfig c)
+module _ {S : Type 0} {ops : Ops S} (laws : Laws ops) (start : Start S) (c : Config)
+    (limits : IsConfig c) (new : IsStart ops c start)
     (programs : List Program) (many : length programs ≡ c.nodes) where
   pub led_in_order : (moves : List Move) (w : World (Host S))
-      → Leads (host_rules ops) c (opening ops c programs) moves w → FollowsInOrder ops c programs w
+      → Leads (host_rules ops) c (opening start c programs) moves w
+      → FollowsInOrder ops start c programs w
   led_in_order moves w led =
-      let h : HasOrder ops c (IsReachedInOrder ops c programs) w =
-      order_led ops c limits (well_behaved laws c) (IsReachedInOrder ops c programs)
-      (λ o o' reached sound step. (o ∷ reached.0, (reached.1, step))) (opening ops c programs) w
+      let h : HasOrder ops c (IsReachedInOrder ops start c programs) w =
+      order_led ops c limits (well_behaved laws c) (IsReachedInOrder ops start c programs)
+      (λ o o' reached sound step. (o ∷ reached.0, (reached.1, step))) (opening start c programs) w
       moves (record {
         posted = λ i j. [];
         follows =
-            opening_follows c (IsSoundHost ops c) (opening ops c programs)
-            (opening_is laws c programs limits many);
+            opening_follows c (IsSoundHost ops c) (opening start c programs)
+            (opening_is start c programs limits new many);
         holds = ([], refl);
       }) led in
       record { posted = h.posted; follows = h.follows; reached = h.holds }
 
 -- the letters of a sound world are at its nodes, and so is who a node asks
-module _ {S : Type 0} (ops : Ops S) (c : Config) (o : FifoWorld (Host S))
-    (sound : IsSoundWorld ops c o) where
+module _ {S : Type 0} {sends : Bool} (ops : Ops S) (c : Config) (o : FifoWorld (Host S))
+    (sound : IsSoundWorldBy sends ops c o) where
   aside_below : (i p k : ℕ) (q : PutOff) → slice_get (put_offs ((net_of o).entry i p)) k ≡ Some q
       → i < c.nodes
   aside_below i p k q h = elim (slice_get_cases o.cores i).1 [

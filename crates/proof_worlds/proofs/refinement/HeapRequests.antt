@@ -1,5 +1,5 @@
 -- In a sound world each call of the heap in progress has its request of the heap.
-use Rattle.std.proofs.Common.{◌≡◌, ℕ, Option, Some, None, refl, sym, ap, ◌∙◌, length, ◌+◌}
+use Rattle.std.proofs.Common.{◌≡◌, ℕ, Bool, Option, Some, None, refl, sym, ap, ◌∙◌, length, ◌+◌}
 use Rattle.std.proofs.lemmas.Option.{same_Some, none-some}
 use Rattle.ivy_model.specs.declared.Config.{Config}
 use Rattle.ivy_model.specs.declared.Call.{Call}
@@ -14,7 +14,7 @@ use Rattle.ivy_memory.specs.stated.Sound.{IsHeapRequestOf, IsInProgress}
 use Rattle.ivy_host.specs.stated.Hosts.{Host}
 use Rattle.ivy_host.specs.stated.Sound.{IsSoundHost}
 use Rattle.proof_worlds.specs.stated.HeapRequests.{IsHeapRequestFor, HaveHeapRequests}
-use Rattle.proof_worlds.proofs.refinement.LiftedWorlds.{IsSoundWorld}
+use Rattle.proof_worlds.proofs.refinement.LiftedWorlds.{IsSoundWorldBy}
 
 -- one call is in progress
 one_call : (c : Config) (a : Option Call) (j k : HeapCall) → IsInProgress c a j → IsInProgress c a k
@@ -37,8 +37,8 @@ module _ {S : Type 0} {ops : Ops S} {c : Config} {x : ℕ} (h : Host S) (good : 
   )
   heap_request_for (Some (heap_request.Told r)) is of = tt
 
-pub have_heap_requests : {S : Type 0} {ops : Ops S} {c : Config} (o : FifoWorld (Host S))
-    → IsSoundWorld ops c o → HaveHeapRequests o
+pub have_heap_requests : {S : Type 0} {sends : Bool} {ops : Ops S} {c : Config}
+    (o : FifoWorld (Host S)) → IsSoundWorldBy sends ops c o → HaveHeapRequests o
 have_heap_requests o w = record {
   each = λ i h k there in_progress. heap_request_for h (w.sound i h there) k in_progress
       h.memory.side.heap_request refl (w.sound i h there).memory.side.heap_request;

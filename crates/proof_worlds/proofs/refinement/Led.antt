@@ -15,8 +15,8 @@ use Rattle.ivy_moves.specs.stated.Worlds.{World, Leads}
 use Rattle.ivy_moves.specs.Following.{IsWellBehaved}
 use Rattle.ivy_moves.specs.stated.Following.{Follows, fifo_of}
 use Rattle.ivy_moves.proofs.Kept.{moves-keep}
-use Rattle.ivy_host.specs.stated.Hosts.{Host, host_rules, first_host}
-use Rattle.ivy_host.specs.stated.Openings.{first_nodes, opening}
+use Rattle.ivy_host.specs.stated.Hosts.{Host, host_rules}
+use Rattle.ivy_host.specs.stated.Openings.{Start, first_host, first_nodes, opening}
 use Rattle.ivy_host.specs.stated.Sound.{IsSoundHost}
 
 -- what is at a place after a write
@@ -39,10 +39,10 @@ abbrev pub AllSound : {S : Type 0} → Ops S → Config → FifoWorld (Host S) �
 AllSound ops c o = (i : ℕ) (n : Host _) → slice_get o.cores i ≡ Some n → IsSoundHost ops c i n
 
 -- a world as it begins: what holds of its nodes
-abbrev pub AreFirst : {S : Type 0} → Ops S → Config → FifoWorld (Host S) → Type 0
-AreFirst ops c o =
+abbrev pub AreFirst : {S : Type 0} → Start S → Config → FifoWorld (Host S) → Type 0
+AreFirst start c o =
     (i : ℕ) (k : Host _) → slice_get o.cores i ≡ Some k
-    → (program : Program) × (k ≡ first_host ops c i program)
+    → (program : Program) × (k ≡ first_host start c i program)
 
 abbrev core_of : {S : Type 0} → Node (Host S) → Host S
 core_of n = n.core
@@ -91,32 +91,33 @@ module _ {S : Type 0} (ops : Ops S) (c : Config) (limits : IsConfig c)
       w w' moves (a.posted, a.follows, a.holds) lead in
       record { posted = f.0; follows = f.1; holds = f.2 }
 
-module _ {S : Type 0} (ops : Ops S) (c : Config) where
+module _ {S : Type 0} (start : Start S) (c : Config) where
   first_cores : (me : ℕ) (ps : List Program) (i : ℕ) (k : Host S)
-      → slice_get (map core_of (first_nodes ops c me ps)) i ≡ Some k
-      → (program : Program) × (k ≡ first_host ops c (i + me) program)
+      → slice_get (map core_of (first_nodes start c me ps)) i ≡ Some k
+      → (program : Program) × (k ≡ first_host start c (i + me) program)
   first_cores me [] i k is = absurd (none-some k is)
   first_cores me (p ∷ ps) zero k is = (
     p,
-    sym (same_Some (first_host ops c me p) k is)
-        ∙ ap (λ n. first_host ops c n p) (let f : me ≡ 0 + me = omega arith in f),
+    sym (same_Some (first_host start c me p) k is)
+        ∙ ap (λ n. first_host start c n p) (let f : me ≡ 0 + me = omega arith in f),
   )
   first_cores me (p ∷ ps) (suc i) k is =
-      let f : (program : Program) × (k ≡ first_host ops c (i + (me + 1)) program) =
+      let f : (program : Program) × (k ≡ first_host start c (i + (me + 1)) program) =
       first_cores (me + 1) ps i k is in (
         f.0,
         f.1
-            ∙ ap (λ n. first_host ops c n f.0) (let g : i + (me + 1) ≡ suc i + me = omega arith in g),
+            ∙ ap (λ n. first_host start c n f.0)
+            (let g : i + (me + 1) ≡ suc i + me = omega arith in g),
       )
 
   pub first_count : (me : ℕ) (ps : List Program)
-      → length (map core_of (first_nodes ops c me ps)) ≡ length ps
+      → length (map core_of (first_nodes start c me ps)) ≡ length ps
   first_count me [] = refl
   first_count me (p ∷ ps) = ap suc (first_count (me + 1) ps)
 
   -- the world as it begins
   pub opening_first : (programs : List Program)
-      → AreFirst ops c (fifo_of (opening ops c programs) (λ i j. []))
+      → AreFirst start c (fifo_of (opening start c programs) (λ i j. []))
   opening_first programs i k is =
       let f = first_cores 0 programs i k is in
-      (f.0, f.1 ∙ ap (λ n. first_host ops c n f.0) (let g : i + 0 ≡ i = omega arith in g))
+      (f.0, f.1 ∙ ap (λ n. first_host start c n f.0) (let g : i + 0 ≡ i = omega arith in g))

@@ -1,6 +1,6 @@
 -- What an event of one node comes to: what has to be proved of it, and what the flat memory is
 -- told.
-use Rattle.std.proofs.Common.{◌≡◌, ◌≢◌, ◌<◌, ℕ, true, List, [], ◌∷◌, Some, None, eq-eqb, refl, sym, ap, ◌∙◌, subst, inl, inr, if◌then◌else◌, ◌==◌}
+use Rattle.std.proofs.Common.{◌≡◌, ◌≢◌, ◌<◌, ℕ, Bool, true, List, [], ◌∷◌, Some, None, eq-eqb, refl, sym, ap, ◌∙◌, subst, inl, inr, if◌then◌else◌, ◌==◌}
 use Rattle.std.proofs.lemmas.Bool.{cases_eq, ne_eqb}
 use Rattle.std.proofs.lemmas.List.{append-nil}
 use Rattle.ivy_model.specs.declared.Config.{Config}
@@ -20,7 +20,7 @@ use Rattle.ivy_coherence.specs.stated.Coherent.{Coherent}
 use Rattle.ivy_pagetable.specs.stated.Accesses.{suffices}
 use Rattle.proof_table.specs.stated.Letters.{Letter, Net}
 use Rattle.proof_table.specs.transitions.Letters.{written}
-use Rattle.proof_table.specs.transitions.TableSteps.{with_flat_page, IsPreserved}
+use Rattle.proof_table.specs.transitions.TableSteps.{with_flat_page, IsPreservedBy}
 use Rattle.proof_table.proofs.transitions.Alike.{alike_holds}
 use Rattle.proof_worlds.proofs.refinement.LiftedNets.{Stands, written_here, written-page, written-node}
 
@@ -166,8 +166,8 @@ one_page h g x p v here near far i q = elim (cases_eq i x) [
   ])
 ]
 
-module _ {S : Type 0} {ops : Ops S} {P : (ℕ → S) → Net → (ℕ → List ℕ) → Type 0} {c : Config}
-    (kept : IsPreserved ops c P) (m : ℕ → S) (n : Net) (x p : ℕ) (k : Coherent S) (node : IsNode m n x k)
+module _ {S : Type 0} {sends : Bool} {ops : Ops S} {P : (ℕ → S) → Net → (ℕ → List ℕ) → Type 0}
+    {c : Config} (kept : IsPreservedBy sends ops c P) (m : ℕ → S) (n : Net) (x p : ℕ) (k : Coherent S) (node : IsNode m n x k)
   where
     -- before the event
     pub stands-first : (f : ℕ → List ℕ) (rest : List Letter) → n.loose ≡ rest → P m n f

@@ -15,10 +15,10 @@ use Rattle.ivy_alloc.proofs.HeapSides.{request_heap}
 use Rattle.ivy_memory.proofs.serving.Pages.{is_of_pages}
 use Rattle.ivy_host.specs.stated.Hosts.{Host, host_rules}
 use Rattle.proof_table.specs.stated.Letters.{Net}
-use Rattle.proof_table.specs.transitions.TableSteps.{IsPreserved}
+use Rattle.proof_table.specs.transitions.TableSteps.{IsPreservedBy}
 use Rattle.proof_worlds.proofs.refinement.HeapDeliveries.{HeapDelivery}
 use Rattle.proof_worlds.proofs.refinement.LiftedEvents.{Tells, Starts}
-use Rattle.proof_worlds.proofs.refinement.LiftedWorlds.{net_of, managers_of, pages_among, IsSoundWorld, fits_heap}
+use Rattle.proof_worlds.proofs.refinement.LiftedWorlds.{net_of, managers_of, pages_among, IsSoundWorldBy, fits_heap}
 use Rattle.proof_worlds.proofs.refinement.LiftedSteps.{kept-delivers, kept-heap, kept-still, kept-begins}
 pub use Rattle.proof_worlds.proofs.refinement.HostTurns.{number_of, asks, asked_for, without_call, HostTurn, answers, tries_again, goes_on, refuses, asks_for, serves_heap, asks_heap, turn_cases}
 use Rattle.proof_worlds.proofs.refinement.HostTurns.{made_along, taken-net, marks, asked_coherence, asked_posted}
@@ -56,9 +56,9 @@ pub data WorldTells {S : Type 0} (ops : Ops S) (P : (ℕ → S) → Net → (ℕ
   heap_delivered : (source x : ℕ) (t : Delivers (host_rules ops) o source x o')
       → HeapDelivery ops o source x t.core t.message → flat ≡ f → WorldTells ops P c f o o' flat
 
-module _ {S : Type 0} {ops : Ops S} {P : (ℕ → S) → Net → (ℕ → List ℕ) → Type 0} (laws : Laws ops)
-    (c : Config) (kept : IsPreserved ops c P) (spare : S) (o o' : FifoWorld (Host S)) (f : ℕ → List ℕ)
-    (w : IsSoundWorld ops c o) (h : P (managers_of spare o) (net_of o) f) where
+module _ {S : Type 0} {sends : Bool} {ops : Ops S} {P : (ℕ → S) → Net → (ℕ → List ℕ) → Type 0}
+    (laws : Laws ops) (c : Config) (kept : IsPreservedBy sends ops c P) (spare : S)
+    (o o' : FifoWorld (Host S)) (f : ℕ → List ℕ) (w : IsSoundWorldBy sends ops c o) (h : P (managers_of spare o) (net_of o) f) where
   abbrev Then : (ℕ → List ℕ) → Type 0
   Then flat = P (managers_of spare o') (net_of o') flat
 

@@ -3,7 +3,7 @@ use Rattle.std.proofs.Common.{◌≡◌, ◌≢◌, ◌<◌, ◌≤◌, ◌^◌,
 use Rattle.std.specs.Prelude.{All}
 use Rattle.std.specs.Ordering.{nat_cmp}
 use Rattle.std.specs.FinSet as set
-use Rattle.std.proofs.lemmas.Bool.{eqb-true, eq-eqb}
+use Rattle.std.proofs.lemmas.Bool.{and_parts, not-true, eqb-true, eq-eqb}
 use Rattle.std.proofs.lemmas.List.Elements.{All-cons, All-weaker}
 use Rattle.ivy_model.specs.declared.Config.{Config}
 use Rattle.ivy_wire.specs.declared.Content.TheVariants as content
@@ -27,7 +27,7 @@ use Rattle.ivy_pagetable.proofs.Bits.{with_below}
 use Rattle.ivy_coherence.specs.stated.Coherent.{Coherent}
 use Rattle.ivy_coherence.specs.stated.Serving.{Serving, serving, put_off_served}
 use Rattle.ivy_coherence.specs.stated.Serving as served
-use Rattle.ivy_coherence.specs.stated.MessageSteps.{CoherenceEffect, is_none, breach, unlocked, put_aside, asked, copy_came, owned_with, page_came, left_with, acknowledged, handled, handled_as}
+use Rattle.ivy_coherence.specs.stated.MessageSteps.{CoherenceEffect, is_none, is_order, copy_reply, sending, breach, unlocked, put_aside, sent_on, asked, copy_came, owned_with, page_came, left_with, acknowledged, handled, handled_as}
 use Rattle.ivy_coherence.specs.stated.Several.{AllCarried, all_carried}
 use Rattle.ivy_coherence.specs.stated.IdleSound.{CanBeServed}
 use Rattle.ivy_coherence.specs.stated.Sound.{Waits, WaitAlong, IsSoundEntry, IsSound}
@@ -38,9 +38,9 @@ use Rattle.ivy_coherence.proofs.keeping.SoundEntries.{entry_is}
 use Rattle.ivy_coherence.proofs.keeping.Keeping.{idle-start, copy-start, page-start, last-start}
 use Rattle.proof_table.specs.stated.Letters.{Letter, Net, content_of, letter_of}
 use Rattle.proof_table.specs.stated.Orderly.{AwaitsCopy, AwaitsPage, Collects}
-use Rattle.proof_table.specs.transitions.TableSteps.{letter, IsFull, Misfits, Comes, Row, IsPreserved}
+use Rattle.proof_table.specs.transitions.TableSteps.{letter, IsFull, IsHop, Misfits, Served as AtEntry, Comes, Row, IsPreservedBy}
 use Rattle.proof_worlds.proofs.refinement.LiftedNets.{told-again, reached, Stands, written_here}
-use Rattle.proof_worlds.proofs.refinement.LiftedRows.{goes, goes_quietly, comes, comes_quietly, IsCarried, owner_suffices, carried_all_at, dropped_at}
+use Rattle.proof_worlds.proofs.refinement.LiftedRows.{goes, goes_quietly, comes, comes_quietly, IsCarried, owner_suffices, carried_all_at, dropped_at, hop_here}
 use Rattle.proof_worlds.proofs.refinement.LiftedServing.{served_at, all_served-at}
 use Rattle.proof_worlds.proofs.refinement.LiftedEvents.{IsNode, ComesTo, WaitsAt, Tells, quiet, answers, Ended, stands-first, ended-leads}
 
@@ -51,6 +51,15 @@ waits_put (entry.Idle s) q word call h = h
 waits_put (entry.AwaitRead s) q word call h = h
 waits_put (entry.AwaitWrite s) q word call h = h
 waits_put (entry.AwaitAcks s) q word call h = h
+
+-- where requests are sent on, only an order is not
+only_order : (kind : Request) (b : Bool) → b ≡ true → (b && not (is_order kind)) ≡ false
+    → kind ≡ request.Invalidate
+only_order request.Invalidate b on none = refl
+only_order request.Read true on none = absurd (let f : true ≡ false = none in cc)
+only_order request.Read false on none = absurd (let f : false ≡ true = on in cc)
+only_order request.Write true on none = absurd (let f : true ≡ false = none in cc)
+only_order request.Write false on none = absurd (let f : false ≡ true = on in cc)
 
 none_left : (nodes : Nodes) → is_none nodes ≡ true → nodes ≡ set.empty
 none_left nodes h = set.empty_of_len nodes (eqb-true (set.len nodes) 0 h)
@@ -76,6 +85,7 @@ module _ {S : Type 0} {ops : Ops S} {P : (ℕ → S) → Net → (ℕ → List �
       (record {
         config = k.config;
         me = k.me;
+        sends_on = k.sends_on;
         table = with_entry k.table p z;
         manager = s;
         locked = lock;
@@ -108,6 +118,7 @@ module _ {S : Type 0} {ops : Ops S} {P : (ℕ → S) → Net → (ℕ → List �
       (record {
         config = k.config;
         me = k.me;
+        sends_on = k.sends_on;
         table = with_page (with_entry k.table p z) p bytes;
         manager = s;
         locked = lock;
@@ -159,8 +170,9 @@ waits_still k sound p inside z same q word call h =
       | inr y ↦ subst (λ e. WaitsAt e word call) y.1 h
     ]
 
-module _ {S : Type 0} {ops : Ops S} {P : (ℕ → S) → Net → (ℕ → List ℕ) → Type 0} (laws : Laws ops)
-    (m : ℕ → S) (n : Net) (f : ℕ → List ℕ) (k : Coherent S) (kept : IsPreserved ops k.config P)
+module _ {S : Type 0} {sends : Bool} {ops : Ops S} {P : (ℕ → S) → Net → (ℕ → List ℕ) → Type 0}
+    (laws : Laws ops) (m : ℕ → S) (n : Net) (f : ℕ → List ℕ) (k : Coherent S)
+    (kept : IsPreservedBy sends ops k.config P) (rule : k.sends_on ≡ sends)
     (sound : IsSound ops k) (from : ℕ) (below : from < k.config.nodes) (foreign : from ≢ k.me)
     (p : ℕ) (inside : p < k.config.pages) where
   abbrev Goes : CoherenceEffect S → Type 0
@@ -227,9 +239,10 @@ module _ {S : Type 0} {ops : Ops S} {P : (ℕ → S) → Net → (ℕ → List �
   put-goes : (kind : Request) (o call : ℕ) (e : Entry) → entry_at k.table p ≡ e → is_locked e ≡ true
       → o ≢ k.me
       → (kind ≡ request.Invalidate → (from ≡ o) × ((w : WaitingState) × (e ≡ entry.AwaitRead w)))
+      → ((w : WaitingState) → e ≡ entry.AwaitRead w → sends ≡ true → kind ≡ request.Invalidate)
       → First e (letter from k.me o call (content_of kind p))
       → Goes (put_aside ops k p e (record { kind = kind; origin = o; call = call }))
-  put-goes kind o call e is lock other order h =
+  put-goes kind o call e is lock other order kept_on h =
       let q : PutOff = record { kind = kind; origin = o; call = call } in
       either-goes (can_put_off e) _ _
       (λ room. (
@@ -250,7 +263,7 @@ module _ {S : Type 0} {ops : Ops S} {P : (ℕ → S) → Net → (ℕ → List �
               orders = order;
               is = here_is e;
               room = room;
-            }))),
+            }) kept_on)),
         quiet refl (record { more = refl; done = refl; done_more = refl }) refl
             (waits_still k sound p inside (with_put_off e q)
             (λ word c w. subst (λ z. WaitsAt z word c) (sym is) (waits_put e q word c w))),
@@ -264,9 +277,11 @@ module _ {S : Type 0} {ops : Ops S} {P : (ℕ → S) → Net → (ℕ → List �
       → First (entry.AwaitWrite a) (letter from k.me o call (content_of kind p))
       → Goes (asked ops k p (record { kind = kind; origin = o; call = call }) (entry.AwaitWrite a))
   write_asked-goes request.Read o call a is other sender h =
-      put-goes request.Read o call (entry.AwaitWrite a) is refl other (λ e. absurd cc) h
+      put-goes request.Read o call (entry.AwaitWrite a) is refl other (λ e. absurd cc)
+      (λ w at on. absurd cc) h
   write_asked-goes request.Write o call a is other sender h =
-      put-goes request.Write o call (entry.AwaitWrite a) is refl other (λ e. absurd cc) h
+      put-goes request.Write o call (entry.AwaitWrite a) is refl other (λ e. absurd cc)
+      (λ w at on. absurd cc) h
   write_asked-goes request.Invalidate o call a is other sender h =
       let z : Entry = entry.AwaitWrite (record { had_copy = false; waiting = a.waiting }) in (
         f,
@@ -297,12 +312,67 @@ module _ {S : Type 0} {ops : Ops S} {P : (ℕ → S) → Net → (ℕ → List �
       → First (entry.AwaitAcks a) (letter from k.me o call (content_of kind p))
       → Goes (asked ops k p (record { kind = kind; origin = o; call = call }) (entry.AwaitAcks a))
   acks_asked-goes request.Read o call a is other h =
-      put-goes request.Read o call (entry.AwaitAcks a) is refl other (λ e. absurd cc) h
+      put-goes request.Read o call (entry.AwaitAcks a) is refl other (λ e. absurd cc)
+      (λ w at on. absurd cc) h
   acks_asked-goes request.Write o call a is other h =
-      put-goes request.Write o call (entry.AwaitAcks a) is refl other (λ e. absurd cc) h
+      put-goes request.Write o call (entry.AwaitAcks a) is refl other (λ e. absurd cc)
+      (λ w at on. absurd cc) h
   acks_asked-goes request.Invalidate o call a is other h =
       breach-goes (entry.AwaitAcks a) _ is h refl
       (inr (inl (ap is_owner (here_is (entry.AwaitAcks a)))))
+
+  -- a request is sent on where a copy is awaited
+  abbrev reading : (w : WaitingState) (ask : ℕ → Content) (o call : ℕ) → o ≢ k.me
+      → AtEntry k.config
+      (reached n k.me p (entry.AwaitRead w) (page_at k.table p) k.breaches []
+      (letter from k.me o call (ask p) ∷ [])) entry.AwaitRead ask
+  reading w ask o call other = record {
+    node = k.me;
+    page = p;
+    from = from;
+    origin = o;
+    call = call;
+    state = w;
+    rest = [];
+    here = sound.here;
+    inside = inside;
+    loose = refl;
+    foreign = other;
+    is = here_is (entry.AwaitRead w);
+  }
+
+  away : (w : WaitingState) → entry_at k.table p ≡ entry.AwaitRead w
+      → IsHop k.config k.me (ops.next_hop k.manager p)
+  away w is = record { below = sound.hop p inside; away = sound.away p inside (ap is_owner is) }
+
+  sent_on-goes : (kind : Request) (o call : ℕ) (w : WaitingState)
+      → entry_at k.table p ≡ entry.AwaitRead w → sends ≡ true → is_order kind ≡ false → o ≢ k.me
+      → First (entry.AwaitRead w) (letter from k.me o call (content_of kind p))
+      → Goes (sent_on ops k p w (record { kind = kind; origin = o; call = call }))
+  sent_on-goes request.Read o call w is on asks other h =
+      let z : Entry = entry.AwaitRead (sending w) in (
+        f,
+        entry_ended m n k sound p inside z (ops.on_forward k.manager p false o) k.locked k.more
+            k.done k.done_more k.breaches _ f
+            (goes kept h (sound.here, hop_here ops m k.me k.manager p) _
+            (told-again m k.me k.manager (λ z. ops.on_forward z p false o)) z _ []
+            (Row.reader_sends_on_read (reading w content.ReadReq o call other) _ on (away w is))),
+        quiet refl (record { more = refl; done = refl; done_more = refl }) refl
+            (waits_still k sound p inside z (λ word c w. subst (λ e. WaitsAt e word c) (sym is) w)),
+      )
+  sent_on-goes request.Write o call w is on asks other h =
+      let z : Entry = entry.AwaitRead (sending w) in (
+        f,
+        entry_ended m n k sound p inside z (ops.on_forward k.manager p true o) k.locked k.more
+            k.done k.done_more k.breaches _ f
+            (goes kept h (sound.here, hop_here ops m k.me k.manager p) _
+            (told-again m k.me k.manager (λ z. ops.on_forward z p true o)) z _ []
+            (Row.reader_sends_on_write (reading w content.WriteReq o call other) _ on (away w is))),
+        quiet refl (record { more = refl; done = refl; done_more = refl }) refl
+            (waits_still k sound p inside z (λ word c w. subst (λ e. WaitsAt e word c) (sym is) w)),
+      )
+  sent_on-goes request.Invalidate o call w is on asks other h =
+      absurd (let g : true ≡ false = asks in cc)
 
   -- a request, or an order to give a copy up
   asked-goes : (kind : Request) (o call : ℕ) (e : Entry) → entry_at k.table p ≡ e
@@ -325,7 +395,14 @@ module _ {S : Type 0} {ops : Ops S} {P : (ℕ → S) → Net → (ℕ → List �
             (waits_still k sound p inside (entry.Idle v.idle) (λ word c w. absurd w)),
       )
   asked-goes kind o call (entry.AwaitRead w) is can sender h =
-      put-goes kind o call (entry.AwaitRead w) is refl can.foreign (λ e. (sender e, (w, refl))) h
+      either-goes (k.sends_on && not (is_order kind)) _ _
+      (λ yes. (
+      let both = and_parts k.sends_on (not (is_order kind)) yes in
+      sent_on-goes kind o call w is (sym rule ∙ both.0) (not-true (is_order kind) both.1)
+      can.foreign h
+      ))
+      (λ no. put-goes kind o call (entry.AwaitRead w) is refl can.foreign
+      (λ e. (sender e, (w, refl))) (λ v at on. only_order kind k.sends_on (rule ∙ on) no) h)
   asked-goes kind o call (entry.AwaitWrite a) is can sender h =
       write_asked-goes kind o call a is can.foreign sender h
   asked-goes kind o call (entry.AwaitAcks a) is can sender h =
@@ -391,6 +468,23 @@ module _ {S : Type 0} {ops : Ops S} {P : (ℕ → S) → Net → (ℕ → List �
   bad_copy call bytes e is h other =
       breach-goes e _ is h refl (inr (subst (λ z. AwaitsCopy z call → ⊥) (sym (here_is e)) other))
 
+  -- the manager is told of it, if no request was sent on meanwhile
+  copy_told : (call : ℕ) (bytes : List ℕ) (w : WaitingState) (sent : Bool) → w.sent_on ≡ sent
+      → First (entry.AwaitRead w) (letter from k.me k.me call (content.ReadRep p bytes))
+      → w.call ≡ call
+      → Stands P m n k.me p f (entry.Idle copying) bytes
+      (served.told ops from p k.manager (if sent then None else Some request.Read)) k.breaches []
+      (map (letter_of k.me p) w.put_off)
+  copy_told call bytes w true on h same =
+      comes_quietly kept h tt k.manager (λ j. refl) _ _ bytes
+      (Row.copy_comes_late bytes (coming entry.AwaitRead w (λ q. content.ReadRep q bytes) call)
+      same on)
+  copy_told call bytes w false none h same =
+      comes_quietly kept h sound.here _
+      (told-again m k.me k.manager (λ z. ops.on_replied z p false from)) _ _ bytes
+      (Row.copy_comes bytes (coming entry.AwaitRead w (λ q. content.ReadRep q bytes) call) same
+      none)
+
   copy_came-goes : (call : ℕ) (bytes : List ℕ) (e : Entry) → entry_at k.table p ≡ e
       → length bytes ≡ k.config.page_size
       → First e (letter from k.me k.me call (content.ReadRep p bytes))
@@ -402,12 +496,9 @@ module _ {S : Type 0} {ops : Ops S} {P : (ℕ → S) → Net → (ℕ → List �
       entry_is k p (entry.AwaitRead w) sound is in
       let word = good.reading w refl in
       either-goes (w.call == call) _ _
-      (λ same. unlocked-goes copying (Some request.Read) bytes w
-      (comes_quietly kept h sound.here _
-      (told-again m k.me k.manager (λ z. ops.on_replied z p false from)) _ _ bytes
-      (Row.copy_comes bytes (coming entry.AwaitRead w (λ q. content.ReadRep q bytes) call)
-      (eqb-true w.call call same)))
-      (copy-start laws k p from sound inside (ap is_owner is) below foreign)
+      (λ same. unlocked-goes copying (copy_reply w) bytes w
+      (copy_told call bytes w w.sent_on refl h (eqb-true w.call call same))
+      (copy-start laws k p from w.sent_on sound inside (ap is_owner is) below foreign)
       (All-cons (IsCarried k.config copying) w.word k.more
       (word.0, ap (λ b. if b then false else true) word.1)
       (more_carried (entry.AwaitRead w) copying is refl carried_reading))
@@ -548,8 +639,9 @@ module _ {S : Type 0} {ops : Ops S} {P : (ℕ → S) → Net → (ℕ → List �
       (λ gone. bad_ack call (entry.AwaitAcks a) is h
       (λ b. absurd (let g : true ≡ false = sym b.1 ∙ gone in cc)))
 
-module _ {S : Type 0} {ops : Ops S} {P : (ℕ → S) → Net → (ℕ → List ℕ) → Type 0} (laws : Laws ops)
-    (m : ℕ → S) (n : Net) (f : ℕ → List ℕ) (k : Coherent S) (kept : IsPreserved ops k.config P)
+module _ {S : Type 0} {sends : Bool} {ops : Ops S} {P : (ℕ → S) → Net → (ℕ → List ℕ) → Type 0}
+    (laws : Laws ops) (m : ℕ → S) (n : Net) (f : ℕ → List ℕ) (k : Coherent S)
+    (kept : IsPreservedBy sends ops k.config P) (rule : k.sends_on ≡ sends)
     (sound : IsSound ops k) (node : IsNode m n k.me k) (from : ℕ) (below : from < k.config.nodes)
     (foreign : from ≢ k.me) where
   -- what is promised of a message, at the page that it is about
@@ -579,7 +671,7 @@ module _ {S : Type 0} {ops : Ops S} {P : (ℕ → S) → Net → (ℕ → List �
       k.me l l.message.content → Served (breach ops k)
   dropped-served p l inside loose h dest why =
       served_by p (breach ops k)
-      (breach-goes laws m n f k kept sound from below foreign p inside (entry_at k.table p) l
+      (breach-goes laws m n f k kept rule sound from below foreign p inside (entry_at k.table p) l
       refl (stands-first kept m n k.me p k node f (l ∷ []) loose h) dest why)
 
   apart_from : (o : ℕ) → (o == k.me) ≡ false → o ≢ k.me
@@ -597,7 +689,7 @@ module _ {S : Type 0} {ops : Ops S} {P : (ℕ → S) → Net → (ℕ → List �
       (asked ops k p (record { kind = kind; origin = o; call = call }) (entry_at k.table p))
   request-served kind o call p inside can sender loose h =
       served_by p _
-      (asked-goes laws m n f k kept sound from below foreign p inside kind o call
+      (asked-goes laws m n f k kept rule sound from below foreign p inside kind o call
       (entry_at k.table p) refl can sender (stands-first kept m n k.me p k node f _ loose h))
 
   as-served : (o call : ℕ) (body : Content) → o < k.config.nodes → 1 ≤ call → call < 2 ^ 64
@@ -629,7 +721,7 @@ module _ {S : Type 0} {ops : Ops S} {P : (ℕ → S) → Net → (ℕ → List �
   as-served o call (content.ReadRep page bytes) by least most fits loose h =
       either-served (o == k.me) _ _
       (λ own. served_by page _
-      (copy_came-goes laws m n f k kept sound from below foreign page fits.0 call bytes
+      (copy_came-goes laws m n f k kept rule sound from below foreign page fits.0 call bytes
       (entry_at k.table page) refl fits.1
       (stands-first kept m n k.me page k node f _
       (loose ∙ ap (λ z. letter from k.me z call (content.ReadRep page bytes) ∷ [])
@@ -638,7 +730,7 @@ module _ {S : Type 0} {ops : Ops S} {P : (ℕ → S) → Net → (ℕ → List �
   as-served o call (content.WriteRep page copies bytes) by least most fits loose h =
       either-served (o == k.me) _ _
       (λ own. served_by page _
-      (page_came-goes laws m n f k kept sound from below foreign page fits.0 call copies bytes
+      (page_came-goes laws m n f k kept rule sound from below foreign page fits.0 call copies bytes
       (entry_at k.table page) refl fits.2 fits.1
       (stands-first kept m n k.me page k node f _
       (loose ∙ ap (λ z. letter from k.me z call (content.WriteRep page copies bytes) ∷ [])
@@ -647,7 +739,7 @@ module _ {S : Type 0} {ops : Ops S} {P : (ℕ → S) → Net → (ℕ → List �
   as-served o call (content.InvalAck page) by least most fits loose h =
       either-served (o == k.me) _ _
       (λ own. served_by page _
-      (acknowledged-goes laws m n f k kept sound from below foreign page fits call
+      (acknowledged-goes laws m n f k kept rule sound from below foreign page fits call
       (entry_at k.table page) refl
       (stands-first kept m n k.me page k node f _
       (loose ∙ ap (λ z. letter from k.me z call (content.InvalAck page) ∷ [])
@@ -671,10 +763,10 @@ module _ {S : Type 0} {ops : Ops S} {P : (ℕ → S) → Net → (ℕ → List �
       fits.content loose h
 
 -- What a message of another node leads to at node x, P holds of, and the flat memory is told.
-abbrev pub KeepsHandled : {S : Type 0} → Ops S → ((ℕ → S) → Net → (ℕ → List ℕ) → Type 0) → (ℕ → S)
+abbrev pub KeepsHandled : {S : Type 0} → Bool → Ops S → ((ℕ → S) → Net → (ℕ → List ℕ) → Type 0) → (ℕ → S)
     → Net → (ℕ → List ℕ) → Coherent S → Config → ℕ → ℕ → Message → Type 0
-KeepsHandled ops P m n f k c x from message =
-    IsPreserved ops c P → IsSound ops k → IsNode m n x k → from < c.nodes → from ≢ x
+KeepsHandled sends ops P m n f k c x from message =
+    IsPreservedBy sends ops c P → k.sends_on ≡ sends → IsSound ops k → IsNode m n x k → from < c.nodes → from ≢ x
     → FitsMessage c message
     → n.loose ≡ record { source = from; dest = x; message = message } ∷ [] → P m n f
     → (flat : ℕ → List ℕ)
@@ -683,11 +775,13 @@ KeepsHandled ops P m n f k c x from message =
     → P m' n' flat)
     × Tells P n.entry c x f k (handled ops k from message).after flat
 
-pub kept-handled : {S : Type 0} {ops : Ops S} {P : (ℕ → S) → Net → (ℕ → List ℕ) → Type 0} → Laws ops
+pub kept-handled : {S : Type 0} {sends : Bool} {ops : Ops S}
+    {P : (ℕ → S) → Net → (ℕ → List ℕ) → Type 0} → Laws ops
     → (c : Config) (x : ℕ) (m : ℕ → S) (n : Net) (f : ℕ → List ℕ) (k : Coherent S) (from : ℕ)
-    (message : Message) → k.config ≡ c → k.me ≡ x → KeepsHandled ops P m n f k c x from message
-kept-handled {ops = ops} {P = P} laws c x m n f k from message config me =
-    subst (λ d. KeepsHandled ops P m n f k d x from message) config
-    (subst (λ y. KeepsHandled ops P m n f k k.config y from message) me
-    (λ kept sound node below foreign fits loose h. message-served laws m n f k kept sound node from
-    below foreign message fits loose h))
+    (message : Message) → k.config ≡ c → k.me ≡ x
+    → KeepsHandled sends ops P m n f k c x from message
+kept-handled {sends = sends} {ops = ops} {P = P} laws c x m n f k from message config me =
+    subst (λ d. KeepsHandled sends ops P m n f k d x from message) config
+    (subst (λ y. KeepsHandled sends ops P m n f k k.config y from message) me
+    (λ kept rule sound node below foreign fits loose h. message-served laws m n f k kept rule sound node
+    from below foreign message fits loose h))

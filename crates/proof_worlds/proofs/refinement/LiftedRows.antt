@@ -15,12 +15,13 @@ use Rattle.ivy_coherence.specs.stated.Serving.{counted}
 use Rattle.ivy_pagetable.specs.stated.Accesses.{suffices}
 use Rattle.proof_table.specs.stated.Letters.{Letter, Net}
 use Rattle.proof_table.specs.transitions.Letters.{goes_on, installs}
-use Rattle.proof_table.specs.transitions.TableSteps.{Notice, Row, Claim, Misfits, IsPreserved, IsNamedBy, noticed, with_manager, with_flat_page}
+use Rattle.proof_table.specs.transitions.TableSteps.{Notice, Row, Claim, Misfits, IsPreservedBy, IsNamedBy, noticed, with_manager, with_flat_page}
 use Rattle.proof_table.proofs.transitions.Alike.{alike_holds}
 use Rattle.proof_worlds.proofs.refinement.LiftedEvents.{CarriesAll}
 use Rattle.proof_worlds.proofs.refinement.LiftedNets.{reached, Stands, written_here, written-node, told_here, extended-on, extended-none, goes-alike, comes_alike, installs-alike, drops-alike}
 
-module _ {S : Type 0} {ops : Ops S} {P : Claim S} {c : Config} (kept : IsPreserved ops c P)
+module _ {S : Type 0} {sends : Bool} {ops : Ops S} {P : Claim S} {c : Config}
+    (kept : IsPreservedBy sends ops c P)
     {m : ℕ → S} {n : Net} {x p : ℕ} {f : ℕ → List ℕ} {e : Entry} {b : List ℕ} {s : S} {broken : ℕ}
     {ps : List Parcel} {before : List Letter}
     (h : Stands P m n x p f e b s broken ps before) where
@@ -32,7 +33,7 @@ module _ {S : Type 0} {ops : Ops S} {P : Claim S} {c : Config} (kept : IsPreserv
       (managers : (i : ℕ) → with_manager m x after i ≡ noticed ops (with_manager m x s) notice i) where
     -- the node's entry is written, these letters are left, and parcels are posted
     pub goes : (z : Entry) (qs : List Parcel) (rest : List Letter)
-        → Row c Now f notice (goes_on Now x p z rest qs) f
+        → Row sends c Now f notice (goes_on Now x p z rest qs) f
         → Stands P m n x p f z b after broken (ps ++ qs) rest
     goes z qs rest row = record {
       holds = alike_holds _ _ _ _
@@ -42,7 +43,7 @@ module _ {S : Type 0} {ops : Ops S} {P : Claim S} {c : Config} (kept : IsPreserv
     }
 
     pub goes_quietly : (z : Entry) (rest : List Letter)
-        → Row c Now f notice (goes_on Now x p z rest []) f
+        → Row sends c Now f notice (goes_on Now x p z rest []) f
         → Stands P m n x p f z b after broken ps rest
     goes_quietly z rest row = record {
       holds = alike_holds _ _ _ _
@@ -53,7 +54,7 @@ module _ {S : Type 0} {ops : Ops S} {P : Claim S} {c : Config} (kept : IsPreserv
 
     -- the node's bytes of the page are written too
     pub comes : (z : Entry) (qs : List Parcel) (rest : List Letter) (bytes : List ℕ)
-        → Row c Now f notice (installs (goes_on Now x p z rest qs) x p bytes) f
+        → Row sends c Now f notice (installs (goes_on Now x p z rest qs) x p bytes) f
         → Stands P m n x p f z bytes after broken (ps ++ qs) rest
     comes z qs rest bytes row = record {
       holds = alike_holds _ _ _ _
@@ -63,7 +64,7 @@ module _ {S : Type 0} {ops : Ops S} {P : Claim S} {c : Config} (kept : IsPreserv
     }
 
     pub comes_quietly : (z : Entry) (rest : List Letter) (bytes : List ℕ)
-        → Row c Now f notice (installs (goes_on Now x p z rest []) x p bytes) f
+        → Row sends c Now f notice (installs (goes_on Now x p z rest []) x p bytes) f
         → Stands P m n x p f z bytes after broken ps rest
     comes_quietly z rest bytes row = record {
       holds = alike_holds _ _ _ _
@@ -73,7 +74,8 @@ module _ {S : Type 0} {ops : Ops S} {P : Claim S} {c : Config} (kept : IsPreserv
     }
 
 -- a word is carried out
-pub carried_at : {S : Type 0} {ops : Ops S} {P : Claim S} {c : Config} → IsPreserved ops c P
+pub carried_at : {S : Type 0} {sends : Bool} {ops : Ops S} {P : Claim S} {c : Config}
+    → IsPreservedBy sends ops c P
     → {m : ℕ → S} {n : Net} {x p : ℕ} {f : ℕ → List ℕ} {i : IdleState} {b : List ℕ} {s : S}
     {broken : ℕ} {ps : List Parcel} {rest : List Letter}
     → Stands P m n x p f (entry.Idle i) b s broken ps rest → x < c.nodes → p < c.pages → (w : Word)
@@ -111,7 +113,8 @@ owner_suffices true = refl
 owner_suffices false = refl
 
 -- words are carried out one after another
-pub carried_all_at : {S : Type 0} {ops : Ops S} {P : Claim S} {c : Config} → IsPreserved ops c P
+pub carried_all_at : {S : Type 0} {sends : Bool} {ops : Ops S} {P : Claim S} {c : Config}
+    → IsPreservedBy sends ops c P
     → {m : ℕ → S} {n : Net} {x p : ℕ} → x < c.nodes → p < c.pages → (words : List Word)
     → {f : ℕ → List ℕ} {i : IdleState} {b : List ℕ} {s : S}
     {broken : ℕ} {ps : List Parcel} {rest : List Letter}
@@ -148,7 +151,8 @@ carried_all_at {P = P} {c = c} kept {m} {n} {x} {p} here inside (w ∷ words) {f
     )
 
 -- a letter is dropped
-pub dropped_at : {S : Type 0} {ops : Ops S} {P : Claim S} {c : Config} → IsPreserved ops c P
+pub dropped_at : {S : Type 0} {sends : Bool} {ops : Ops S} {P : Claim S} {c : Config}
+    → IsPreservedBy sends ops c P
     → {m : ℕ → S} {n : Net} {x p : ℕ} {f : ℕ → List ℕ} {e : Entry} {b : List ℕ} {s : S} {broken : ℕ}
     {ps : List Parcel} {l : Letter} {rest : List Letter}
     → Stands P m n x p f e b s broken ps (l ∷ rest) → x < c.nodes → l.dest ≡ x

@@ -18,12 +18,12 @@ use Rattle.ivy_coherence.specs.stated.Serving.{Serving, served, served_by_owner,
 use Rattle.ivy_coherence.specs.stated.IdleSound.{CanBeServed}
 use Rattle.ivy_coherence.proofs.keeping.IdleServing.{IsServing, IsPlace, all_one, all_head, all_tail, all_served-keeps}
 use Rattle.proof_table.specs.stated.Letters.{Letter, Net, content_of, letter_of}
-use Rattle.proof_table.specs.transitions.TableSteps.{letter, Row, Served, IsPreserved}
+use Rattle.proof_table.specs.transitions.TableSteps.{letter, Row, Served, IsPreservedBy}
 use Rattle.proof_worlds.proofs.refinement.LiftedNets.{reached, Stands, written_here, told-again}
 use Rattle.proof_worlds.proofs.refinement.LiftedRows.{goes, dropped_at, hop_here}
 
-module _ {S : Type 0} {ops : Ops S} {P : (ℕ → S) → Net → (ℕ → List ℕ) → Type 0} (laws : Laws ops)
-    (c : Config) (kept : IsPreserved ops c P) (m : ℕ → S) (n : Net) (x p : ℕ) (here : x < c.nodes)
+module _ {S : Type 0} {sends : Bool} {ops : Ops S} {P : (ℕ → S) → Net → (ℕ → List ℕ) → Type 0}
+    (laws : Laws ops) (c : Config) (kept : IsPreservedBy sends ops c P) (m : ℕ → S) (n : Net) (x p : ℕ) (here : x < c.nodes)
     (inside : p < c.pages) (f : ℕ → List ℕ) (b : List ℕ) (first : S)
     (at : IsPlace ops c x p b first) where
   -- this was served, and these letters are left

@@ -1,5 +1,5 @@
 -- What each row keeps, each event of a FIFO world keeps.
-use Rattle.std.proofs.Common.{◌≡◌, ◌<◌, ◌≤◌, ℕ, true, false, List, [], ◌∷◌, Option, slice_set, refl, ap, ◌∙◌, subst, if◌then◌else◌}
+use Rattle.std.proofs.Common.{◌≡◌, ◌<◌, ◌≤◌, ℕ, Bool, true, false, List, [], ◌∷◌, Option, slice_set, refl, ap, ◌∙◌, subst, if◌then◌else◌}
 use Rattle.ivy_model.specs.declared.Config.{Config}
 use Rattle.ivy_wire.specs.stated.Posts.{parcel_to}
 use Rattle.ivy_link.specs.stated.Paired.{extended}
@@ -24,18 +24,18 @@ use Rattle.ivy_memory.specs.stated.Memories.{by_coherence}
 use Rattle.ivy_host.proofs.Pages.{page_serving}
 use Rattle.ivy_host.specs.stated.Sound.{IsSoundHost}
 use Rattle.proof_table.specs.stated.Letters.{Letter, Net}
-use Rattle.proof_table.specs.transitions.TableSteps.{taken, Row, IsPreserved}
+use Rattle.proof_table.specs.transitions.TableSteps.{taken, Row, IsPreservedBy}
 use Rattle.proof_table.proofs.transitions.Alike.{alike_holds}
 use Rattle.proof_worlds.proofs.refinement.LiftedEvents.{IsNode, ComesTo, SameNet, comes_alike, Tells, Starts}
 use Rattle.proof_worlds.proofs.refinement.LiftedMessages.{kept-handled}
 use Rattle.proof_worlds.proofs.refinement.LiftedTurns.{kept-begun, kept-quiet}
 use Rattle.proof_worlds.proofs.refinement.HeapWays.{within_taken}
 use Rattle.proof_worlds.proofs.refinement.HeapDeliveries.{HeapDelivery, serves, learns}
-use Rattle.proof_worlds.proofs.refinement.LiftedWorlds.{net_with, net_of, managers_of, pages_among, all_pages, node_of, leads_to, letter_first, letter_taken, heap_taken, IsSent, IsSoundWorld}
+use Rattle.proof_worlds.proofs.refinement.LiftedWorlds.{net_with, net_of, managers_of, pages_among, all_pages, node_of, leads_to, letter_first, letter_taken, heap_taken, IsSent, IsSoundWorldBy}
 
-module _ {S : Type 0} {ops : Ops S} {P : (ℕ → S) → Net → (ℕ → List ℕ) → Type 0} (laws : Laws ops)
-    (c : Config) (kept : IsPreserved ops c P) (spare : S) (o o' : FifoWorld (Host S)) (f : ℕ → List ℕ)
-    (w : IsSoundWorld ops c o) (h : P (managers_of spare o) (net_of o) f) where
+module _ {S : Type 0} {sends : Bool} {ops : Ops S} {P : (ℕ → S) → Net → (ℕ → List ℕ) → Type 0}
+    (laws : Laws ops) (c : Config) (kept : IsPreservedBy sends ops c P) (spare : S)
+    (o o' : FifoWorld (Host S)) (f : ℕ → List ℕ) (w : IsSoundWorldBy sends ops c o) (h : P (managers_of spare o) (net_of o) f) where
   -- P of the world after an event, and of these pages
   abbrev pub Then : (ℕ → List ℕ) → Type 0
   Then flat = P (managers_of spare o') (net_of o') flat
@@ -78,7 +78,7 @@ module _ {S : Type 0} {ops : Ops S} {P : (ℕ → S) → Net → (ℕ → List �
       })) tt h) in
       let all =
       kept-handled laws c x (managers_of spare o) mid f k source t.message good.config good.me
-      kept good.memory.coherent node sent.below sent.apart sent.fits refl taken_first in (
+      kept (w.rule x t.core t.there) good.memory.coherent node sent.below sent.apart sent.fits refl taken_first in (
         all.0,
         all.1 (managers_of spare o') (net_of o')
             (subst (λ ps. ComesTo (managers_of spare o) mid x (handled ops k source t.message).after

@@ -22,7 +22,7 @@ use Rattle.ivy_coherence.proofs.keeping.Changing.{entry_with, page_with}
 use Rattle.ivy_coherence.proofs.keeping.SoundEntries.{entry_is}
 use Rattle.proof_table.specs.stated.Letters.{Net}
 use Rattle.proof_table.specs.transitions.Letters.{written}
-use Rattle.proof_table.specs.transitions.TableSteps.{with_manager, with_flat_page as with_flat, IsHop, Begins, Row, IsPreserved}
+use Rattle.proof_table.specs.transitions.TableSteps.{with_manager, with_flat_page as with_flat, IsHop, Begins, Row, IsPreservedBy}
 use Rattle.proof_worlds.proofs.refinement.LiftedNets.{reached, Stands, written_here, written-page, written-node}
 use Rattle.proof_worlds.proofs.refinement.LiftedRows.{goes, carried_at, hop_here}
 use Rattle.proof_worlds.proofs.refinement.LiftedEvents.{IsNode, ComesTo, WaitsAt, Starts, busy as is_busy, hits, waits, Ended, stands-first, ended-leads}
@@ -32,8 +32,9 @@ false_unless : (b : Bool) → (b ≡ true → ⊥) → b ≡ false
 false_unless true h = absurd (h refl)
 false_unless false h = refl
 
-module _ {S : Type 0} {ops : Ops S} {P : (ℕ → S) → Net → (ℕ → List ℕ) → Type 0} (m : ℕ → S)
-    (n : Net) (f : ℕ → List ℕ) (k : Coherent S) (kept : IsPreserved ops k.config P)
+module _ {S : Type 0} {sends : Bool} {ops : Ops S} {P : (ℕ → S) → Net → (ℕ → List ℕ) → Type 0}
+    (m : ℕ → S) (n : Net) (f : ℕ → List ℕ) (k : Coherent S)
+    (kept : IsPreservedBy sends ops k.config P)
     (sound : IsSound ops k) (node : IsNode m n k.me k) (loose : n.loose ≡ []) (h : P m n f) (p : ℕ)
     (w : Word) (call : ℕ) (inside : p < k.config.pages) (is_word : IsWord k.config.page_size w)
     (numbered : 1 ≤ call) where
@@ -205,10 +206,10 @@ module _ {S : Type 0} {ops : Ops S} {P : (ℕ → S) → Net → (ℕ → List �
   begun-goes = at-goes k.locked refl
 
 -- What an access leads to at node x, P holds of, and the flat memory is told.
-abbrev pub KeepsBegun : {S : Type 0} → Ops S → ((ℕ → S) → Net → (ℕ → List ℕ) → Type 0) → (ℕ → S)
+abbrev pub KeepsBegun : {S : Type 0} → Bool → Ops S → ((ℕ → S) → Net → (ℕ → List ℕ) → Type 0) → (ℕ → S)
     → Net → (ℕ → List ℕ) → Coherent S → Config → ℕ → ℕ → Word → ℕ → Type 0
-KeepsBegun ops P m n f k c x page word call =
-    IsPreserved ops c P → IsSound ops k → IsNode m n x k → n.loose ≡ [] → P m n f → page < c.pages
+KeepsBegun sends ops P m n f k c x page word call =
+    IsPreservedBy sends ops c P → IsSound ops k → IsNode m n x k → n.loose ≡ [] → P m n f → page < c.pages
     → IsWord c.page_size word → 1 ≤ call
     → (flat : ℕ → List ℕ)
     × ((m' : ℕ → _) (n' : Net)
@@ -217,12 +218,13 @@ KeepsBegun ops P m n f k c x page word call =
     × Starts P n.entry c x f page word call k (begun ops k page word call).need
     (begun ops k page word call).after flat
 
-pub kept-begun : {S : Type 0} {ops : Ops S} {P : (ℕ → S) → Net → (ℕ → List ℕ) → Type 0}
-    → (c : Config) (x : ℕ) (m : ℕ → S) (n : Net) (f : ℕ → List ℕ) (k : Coherent S) (page : ℕ)
-    (word : Word) (call : ℕ) → k.config ≡ c → k.me ≡ x → KeepsBegun ops P m n f k c x page word call
-kept-begun {ops = ops} {P = P} c x m n f k page word call config me =
-    subst (λ d. KeepsBegun ops P m n f k d x page word call) config
-    (subst (λ y. KeepsBegun ops P m n f k k.config y page word call) me
+pub kept-begun : {S : Type 0} {sends : Bool} {ops : Ops S}
+    {P : (ℕ → S) → Net → (ℕ → List ℕ) → Type 0} → (c : Config) (x : ℕ) (m : ℕ → S) (n : Net) (f : ℕ → List ℕ) (k : Coherent S) (page : ℕ)
+    (word : Word) (call : ℕ) → k.config ≡ c → k.me ≡ x
+    → KeepsBegun sends ops P m n f k c x page word call
+kept-begun {sends = sends} {ops = ops} {P = P} c x m n f k page word call config me =
+    subst (λ d. KeepsBegun sends ops P m n f k d x page word call) config
+    (subst (λ y. KeepsBegun sends ops P m n f k k.config y page word call) me
     (λ kept sound node loose h inside is_word numbered.
     (let goes = begun-goes m n f k kept sound node loose h page word call inside is_word numbered in (
       goes.0,
@@ -232,8 +234,9 @@ kept-begun {ops = ops} {P = P} c x m n f k page word call config me =
     ))))
 
 -- What changes nothing of the net: where nothing but the answer is taken out, say.
-pub kept-quiet : {S : Type 0} {ops : Ops S} {P : (ℕ → S) → Net → (ℕ → List ℕ) → Type 0} (c : Config)
-    → IsPreserved ops c P → (x : ℕ) (m m' : ℕ → S) (n n' : Net) (f : ℕ → List ℕ) (k k' : Coherent S)
+pub kept-quiet : {S : Type 0} {sends : Bool} {ops : Ops S}
+    {P : (ℕ → S) → Net → (ℕ → List ℕ) → Type 0} (c : Config)
+    → IsPreservedBy sends ops c P → (x : ℕ) (m m' : ℕ → S) (n n' : Net) (f : ℕ → List ℕ) (k k' : Coherent S)
     → IsNode m n x k → n.loose ≡ [] → P m n f → k'.manager ≡ k.manager → k'.table ≡ k.table
     → k'.breaches ≡ k.breaches → ComesTo m n x k' [] m' n' → P m' n' f
 kept-quiet {P = P} c kept x m m' n n' f k k' node loose h manager table breaches leads =

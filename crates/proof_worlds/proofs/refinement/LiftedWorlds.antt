@@ -17,6 +17,7 @@ use Rattle.ivy_moves.specs.stated.FifoWorld.{FifoWorld, Delivers, Steps, rests, 
 use Rattle.ivy_moves.specs.Following.{IsWellBehaved}
 use Rattle.ivy_host.specs.stated.Hosts.{Host, host_rules}
 use Rattle.ivy_host.specs.stated.Sound.{IsSoundHost}
+use Rattle.ivy_host.proofs.Same.{turn-same, serving-same}
 use Rattle.ivy_memory.proofs.serving.Pages.{is_of_pages, IsOfPages}
 use Rattle.proof_table.specs.stated.Letters.{Letter}
 use Rattle.proof_table.specs.transitions.TableSteps.{taken}
@@ -167,14 +168,20 @@ pub record IsSent (c : Config) (i j : ℕ) (m : Message) : Type 0 where
 
 -- Each core is that of a sound node of this configuration, each message was sent by a node to
 -- another one, no more was delivered than was posted, and the messages of the heap are those of the
--- calls that node 0 was asked for.
-pub record IsSoundWorld {S : Type 0} (ops : Ops S) (c : Config) (o : FifoWorld (Host S)) : Type 0
-  where
-    pub count : length o.cores ≡ c.nodes
-    pub sound : (i : ℕ) (h : Host S) → slice_get o.cores i ≡ Some h → IsSoundHost ops c i h
-    pub sent : (i j k : ℕ) (m : Message) → slice_get (o.posted i j) k ≡ Some m → IsSent c i j m
-    pub within : IsWithin o
-    pub heap_requests : AreHeapRequests o
+-- calls that node 0 was asked for. `sends` says whether requests are sent on while a copy is awaited.
+pub record IsSoundWorldBy {S : Type 0} (sends : Bool) (ops : Ops S) (c : Config)
+    (o : FifoWorld (Host S)) : Type 0 where
+  pub count : length o.cores ≡ c.nodes
+  pub sound : (i : ℕ) (h : Host S) → slice_get o.cores i ≡ Some h → IsSoundHost ops c i h
+  pub rule : (i : ℕ) (h : Host S) → slice_get o.cores i ≡ Some h
+      → h.memory.coherence.sends_on ≡ sends
+  pub sent : (i j k : ℕ) (m : Message) → slice_get (o.posted i j) k ≡ Some m → IsSent c i j m
+  pub within : IsWithin o
+  pub heap_requests : AreHeapRequests o
+
+-- where they are put off
+abbrev pub IsSoundWorld : {S : Type 0} → Ops S → Config → FifoWorld (Host S) → Type 0
+IsSoundWorld ops c o = IsSoundWorldBy false ops c o
 
 -- what stands in two lists, one after the other
 get_either : {X : Type 0} (xs ys : List X) (k : ℕ) (x : X) → slice_get (xs ++ ys) k ≡ Some x
@@ -208,9 +215,9 @@ posted-sent c me i j (p ∷ ps) k m fits is =
         }
     this_or true test (suc l) is rest = rest l is
 
-module _ {S : Type 0} (ops : Ops S) (c : Config) where
+module _ {S : Type 0} {sends : Bool} (ops : Ops S) (c : Config) where
   -- a message of the heap fits a rule
-  pub fits_heap : (o o' : FifoWorld (Host S)) → IsSoundWorld ops c o
+  pub fits_heap : (o o' : FifoWorld (Host S)) → IsSoundWorldBy sends ops c o
       → (source x : ℕ) (t : Delivers (host_rules ops) o source x o')
       → is_of_pages t.message.content ≡ false → HeapDelivery ops o source x t.core t.message
   fits_heap o o' w source x t heap =
@@ -221,7 +228,7 @@ module _ {S : Type 0} (ops : Ops S) (c : Config) where
       heap_delivery ops c o o' w.within w.heap_requests source x t (w.sound x t.core t.there)
       (omega (arith, below, count)) sent.apart heap
 
-  delivered_heap_requests : (o o' : FifoWorld (Host S)) → IsSoundWorld ops c o
+  delivered_heap_requests : (o o' : FifoWorld (Host S)) → IsSoundWorldBy sends ops c o
       → (source x : ℕ) (t : Delivers (host_rules ops) o source x o') (b : Bool)
       → is_of_pages t.message.content ≡ b → AreHeapRequests o'
   delivered_heap_requests o o' w source x t true about =
@@ -229,16 +236,18 @@ module _ {S : Type 0} (ops : Ops S) (c : Config) where
   delivered_heap_requests o o' w source x t false heap =
       requests_of_heap ops o o' w.within w.heap_requests source x t heap (fits_heap o o' w source x t heap)
 
-module _ {S : Type 0} (ops : Ops S) (c : Config)
+module _ {S : Type 0} {sends : Bool} (ops : Ops S) (c : Config)
     (well_behaved : IsWellBehaved (host_rules ops) c (IsSoundHost ops c)) where
   -- an event of node x keeps it so
   event_sound : (o o' : FifoWorld (Host S)) (x : ℕ) (h after : Host S) (ps : List Parcel)
-      (delivered : ℕ → ℕ → ℕ) → IsSoundWorld ops c o → slice_get o.cores x ≡ Some h
+      (delivered : ℕ → ℕ → ℕ) → IsSoundWorldBy sends ops c o → slice_get o.cores x ≡ Some h
       → o'.cores ≡ slice_set o.cores x after
       → o'.posted ≡ extended o.posted ps → o'.delivered ≡ delivered
       → ((i j : ℕ) → delivered i j ≤ length (o.posted i j))
-      → IsSoundHost ops c x after × All (FitsParcel c x) ps → AreHeapRequests o' → IsSoundWorld ops c o'
-  event_sound o o' x h after ps delivered w there cores sent done within good heap_requests = record {
+      → IsSoundHost ops c x after × All (FitsParcel c x) ps
+      → after.memory.coherence.sends_on ≡ h.memory.coherence.sends_on → AreHeapRequests o'
+      → IsSoundWorldBy sends ops c o'
+  event_sound o o' x h after ps delivered w there cores sent done within good same heap_requests = record {
     count = ap length cores ∙ length-set o.cores x after ∙ w.count;
     sound = λ i k is. elim (get_set o.cores x h after i there) [
       | inl y ↦
@@ -246,6 +255,13 @@ module _ {S : Type 0} (ops : Ops S) (c : Config)
           (subst (IsSoundHost ops c x)
           (same_Some after k (sym y.1 ∙ ap (λ l. slice_get l i) (sym cores) ∙ is)) good.0)
       | inr y ↦ w.sound i k (sym y.1 ∙ ap (λ l. slice_get l i) (sym cores) ∙ is)
+    ];
+    rule = λ i k is. elim (get_set o.cores x h after i there) [
+      | inl y ↦
+          ap (λ (z : Host S). z.memory.coherence.sends_on)
+          (sym (same_Some after k (sym y.1 ∙ ap (λ l. slice_get l i) (sym cores) ∙ is)))
+          ∙ same ∙ w.rule x h there
+      | inr y ↦ w.rule i k (sym y.1 ∙ ap (λ l. slice_get l i) (sym cores) ∙ is)
     ];
     sent = λ i j k m is.
         elim (get_either (o.posted i j) (posted i j ps) k m
@@ -263,13 +279,14 @@ module _ {S : Type 0} (ops : Ops S) (c : Config)
   }
 
   -- and so does each step
-  pub steps_sound : (o o' : FifoWorld (Host S)) → IsSoundWorld ops c o → Steps (host_rules ops) o o'
-      → IsSoundWorld ops c o'
-  steps_sound o o' w (rests same) = subst (IsSoundWorld ops c) (sym same) w
+  pub steps_sound : (o o' : FifoWorld (Host S)) → IsSoundWorldBy sends ops c o
+      → Steps (host_rules ops) o o' → IsSoundWorldBy sends ops c o'
+  steps_sound o o' w (rests same) = subst (IsSoundWorldBy sends ops c) (sym same) w
   steps_sound o o' w (turns x t) =
       let good : IsSoundHost ops c x t.core = w.sound x t.core t.there in
       event_sound o o' x t.core t.outcome.after t.outcome.posted o.delivered w t.there t.cores
       t.posted t.delivered w.within (well_behaved.turn x t.core t.outcome good t.turned)
+      (turn-same ops t.core t.outcome t.turned).sends_on
       (turn_heap_requests ops o o' w.within w.heap_requests c x t good
       (turn_cases ops c x t.core good t.outcome t.turned))
   steps_sound o o' w (delivers source x t) =
@@ -281,4 +298,5 @@ module _ {S : Type 0} (ops : Ops S) (c : Config)
       (within_taken o w.within source x t.message t.first)
       (well_behaved.serve x source t.core t.message (w.sound x t.core t.there) sent.below sent.apart
       sent.fits)
+      (serving-same ops t.core source t.message).sends_on
       (delivered_heap_requests ops c o o' w source x t (is_of_pages t.message.content) refl)

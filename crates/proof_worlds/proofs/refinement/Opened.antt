@@ -5,12 +5,11 @@ use Rattle.std.proofs.lemmas.Option.{slice_get_cases, same_Some, none-some, slic
 use Rattle.ivy_model.specs.declared.Config.{Config}
 use Rattle.ivy_link.specs.stated.Linked.{Peer, fresh, first_link, peer_at}
 use Rattle.ivy_link.specs.stated.Paired.{link_at}
-use Rattle.ivy_pagetable.specs.stated.Manager.{Ops}
 use Rattle.ivy_program.specs.stated.Programs.{Program}
 use Rattle.ivy_moves.specs.stated.Nodes.{Node}
 use Rattle.ivy_moves.specs.stated.Following.{fifo_of, links_of}
 use Rattle.ivy_host.specs.stated.Hosts.{Host}
-use Rattle.ivy_host.specs.stated.Openings.{opening, first_nodes}
+use Rattle.ivy_host.specs.stated.Openings.{Start, opening, first_nodes}
 
 -- a new link has delivered nothing
 fresh_peer : (n j : ℕ) → get_or (replicate n fresh) j fresh ≡ fresh
@@ -18,9 +17,9 @@ fresh_peer zero j = refl
 fresh_peer (suc n) zero = refl
 fresh_peer (suc n) (suc j) = fresh_peer n j
 
-module _ {S : Type 0} (ops : Ops S) (c : Config) where
+module _ {S : Type 0} (start : Start S) (c : Config) where
   first_link_there : (me : ℕ) (ps : List Program) (i : ℕ) (n : Node (Host S))
-      → slice_get (first_nodes ops c me ps) i ≡ Some n → n.link ≡ first_link (me + i) c.nodes
+      → slice_get (first_nodes start c me ps) i ≡ Some n → n.link ≡ first_link (me + i) c.nodes
   first_link_there me [] i n is = absurd (none-some n is)
   first_link_there me (p ∷ ps) zero n is =
       ap (λ (m : Node (Host S)). m.link) (sym (same_Some _ n is))
@@ -37,15 +36,15 @@ module _ {S : Type 0} (ops : Ops S) (c : Config) where
       ∙ ap (option_map (λ (m : Node (Host S)). m.link)) is)
 
   pub opening_delivered : (programs : List Program) (i j : ℕ)
-      → (fifo_of (opening ops c programs) (λ i j. [])).delivered i j ≡ 0
-  opening_delivered programs i j = elim (slice_get_cases (opening ops c programs).nodes j).1 [
+      → (fifo_of (opening start c programs) (λ i j. [])).delivered i j ≡ 0
+  opening_delivered programs i j = elim (slice_get_cases (opening start c programs).nodes j).1 [
     | inl there ↦
         ap (λ l. (peer_at l i).delivered)
-        (link_there (opening ops c programs).nodes j there.0 there.2
+        (link_there (opening start c programs).nodes j there.0 there.2
         ∙ first_link_there 0 programs j there.0 there.2)
         ∙ ap (λ (q : Peer). q.delivered) (fresh_peer c.nodes i)
     | inr past ↦
         ap (λ l. (peer_at l i).delivered)
-        (get_or_past (links_of (opening ops c programs)) j (first_link j 0)
-        (rw (length-map (opening ops c programs).nodes (λ (n : Node (Host S)). n.link)) past.0))
+        (get_or_past (links_of (opening start c programs)) j (first_link j 0)
+        (rw (length-map (opening start c programs).nodes (λ (n : Node (Host S)). n.link)) past.0))
   ]

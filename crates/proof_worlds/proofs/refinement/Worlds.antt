@@ -17,14 +17,15 @@ use Rattle.ivy_moves.specs.stated.FifoWorld.{FifoWorld}
 use Rattle.ivy_moves.specs.stated.Worlds.{World, Leads}
 use Rattle.ivy_moves.specs.stated.Following.{fifo_of}
 use Rattle.ivy_moves.proofs.Opening.{opening_follows}
-use Rattle.ivy_host.specs.stated.Hosts.{Host, host_rules, first_host}
+use Rattle.ivy_host.specs.stated.Hosts.{Host, host_rules}
 use Rattle.ivy_host.specs.stated.Holding.{IsExclusive}
-use Rattle.ivy_host.specs.stated.Openings.{opening}
+use Rattle.ivy_host.specs.stated.Openings.{Start, first_host, opening}
 use Rattle.ivy_host.specs.stated.Sound.{IsSoundHost}
+use Rattle.ivy_host.proofs.Starts.{IsStart}
 use Rattle.ivy_host.proofs.WellBehaved.{opening_is}
 use Rattle.proof_table.specs.stated.Letters.{Net}
 use Rattle.proof_table.specs.stated.Orderly.{IsOrderly}
-use Rattle.proof_table.specs.transitions.TableSteps.{IsPreserved}
+use Rattle.proof_table.specs.transitions.TableSteps.{IsPreservedBy}
 use Rattle.proof_worlds.specs.stated.Nets.{about_pages}
 use Rattle.proof_worlds.proofs.refinement.Led.{HasOrder, core_there, opening_first}
 use Rattle.proof_worlds.proofs.refinement.Opened.{opening_delivered}
@@ -51,29 +52,30 @@ first_at i p n = elim (entry_first n p (first_entry i)) [
   ]
 ]
 
-module _ {S : Type 0} (ops : Ops S) (c : Config) where
+module _ {S : Type 0} (start : Start S) (c : Config) where
   -- the net of the world as it begins
   pub first_net : (programs : List Program)
-      → IsFirst (net_of (fifo_of (opening ops c programs) (λ i j. [])))
+      → IsFirst (net_of (fifo_of (opening start c programs) (λ i j. [])))
   first_net programs =
       record {
         entries = entries;
         posted = λ i j. refl;
         delivered =
-            λ i j. ap (λ d. length (about_pages (take d []))) (opening_delivered ops c programs i j);
+            λ i j. ap (λ d. length (about_pages (take d [])))
+            (opening_delivered start c programs i j);
         loose = refl;
       }
     where
       o : FifoWorld (Host S)
-      o = fifo_of (opening ops c programs) (λ i j. [])
+      o = fifo_of (opening start c programs) (λ i j. [])
 
       entries : (i p : ℕ)
           → ((i ≡ 0) × ((net_of o).entry i p ≡ owned)) ⊎ ((net_of o).entry i p ≡ nothing)
       entries i p = elim (slice_get_cases o.cores i).1 [
         | inr past ↦ inr (ap (λ z. entry_of z p) past.1)
         | inl there ↦ (
-            let first : (program : Program) × (there.0 ≡ first_host ops c i program) =
-            opening_first ops c programs i there.0 there.2 in
+            let first : (program : Program) × (there.0 ≡ first_host start c i program) =
+            opening_first start c programs i there.0 there.2 in
             let here : (net_of o).entry i p ≡ get_or (replicate c.pages (first_entry i)) p nothing
             = ap (λ z. entry_of z p) there.2
             ∙ ap (λ (h : Host S). entry_at h.memory.coherence.table p) first.1 in
@@ -83,24 +85,25 @@ module _ {S : Type 0} (ops : Ops S) (c : Config) where
 
 -- what the rows keep, and holds of the world as it begins, holds of each world that moves lead to
 module _ {S : Type 0} {ops : Ops S} {P : (ℕ → S) → Net → (ℕ → List ℕ) → Type 0} (laws : Laws ops)
-    (c : Config) (limits : IsConfig c) (kept : IsPreserved ops c P) (spare : S) where
+    (start : Start S) (c : Config) (limits : IsConfig c) (new : IsStart ops c start)
+    (kept : IsPreservedBy start.sends_on ops c P) (spare : S) where
   pub opening-led : (programs : List Program) → length programs ≡ c.nodes
       → (f : ℕ → List ℕ)
-      → P (managers_of spare (fifo_of (opening ops c programs) (λ i j. [])))
-      (net_of (fifo_of (opening ops c programs) (λ i j. []))) f
+      → P (managers_of spare (fifo_of (opening start c programs) (λ i j. [])))
+      (net_of (fifo_of (opening start c programs) (λ i j. []))) f
       → (moves : List Move) (w : World (Host S))
-      → Leads (host_rules ops) c (opening ops c programs) moves w
-      → HasOrder ops c (Holds ops c P spare) w
+      → Leads (host_rules ops) c (opening start c programs) moves w
+      → HasOrder ops c (Holds start.sends_on ops c P spare) w
   opening-led programs many f first moves w led =
-      kept-led laws c limits kept spare (opening ops c programs) w moves (record {
+      kept-led laws c limits kept spare (opening start c programs) w moves (record {
         posted = λ i j. [];
         follows =
-            opening_follows c (IsSoundHost ops c) (opening ops c programs)
-            (opening_is laws c programs limits many);
-        holds = (sound_opening laws c limits programs many, (f, first));
+            opening_follows c (IsSoundHost ops c) (opening start c programs)
+            (opening_is start c programs limits new many);
+        holds = (sound_opening start c limits new programs many, (f, first));
       }) led
 
-module _ {S : Type 0} {ops : Ops S} (laws : Laws ops) (c : Config) (limits : IsConfig c) where
+module _ {S : Type 0} (c : Config) where
   -- a FIFO world whose net is orderly is exclusive
   pub exclusive_world : (w : World (Host S)) (posted : ℕ → ℕ → List Message)
       → IsOrderly c (net_of (fifo_of w posted)) → IsExclusive w
@@ -109,10 +112,13 @@ module _ {S : Type 0} {ops : Ops S} (laws : Laws ops) (c : Config) (limits : IsC
       (ap (λ z. writable (entry_of z p)) (core_there w.nodes i n at_n) ∙ writes)
       (ap (λ z. readable (entry_of z p)) (core_there w.nodes j m at_m) ∙ may_read)
 
+module _ {S : Type 0} {ops : Ops S} (laws : Laws ops) (start : Start S) (c : Config)
+    (limits : IsConfig c) (new : IsStart ops c start) where
   pub exclusive_led : (spare : S) (programs : List Program) → length programs ≡ c.nodes
       → (moves : List Move) (w : World (Host S))
-      → Leads (host_rules ops) c (opening ops c programs) moves w → IsExclusive w
+      → Leads (host_rules ops) c (opening start c programs) moves w → IsExclusive w
   exclusive_led spare programs many moves w led =
-      let h = opening-led laws c limits (orderly-kept ops c limits) spare programs many (λ p. [])
-      (orderly_opening _ (first_net ops c programs) c) moves w led in
-      exclusive_world w h.posted h.holds.1.1
+      let h = opening-led laws start c limits new (orderly-kept ops c limits) spare programs many
+      (λ p. [])
+      (orderly_opening _ (first_net start c programs) c) moves w led in
+      exclusive_world c w h.posted h.holds.1.1

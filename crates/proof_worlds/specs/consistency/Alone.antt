@@ -21,7 +21,8 @@ use Rattle.ivy_memory.specs.declared.Asked.TheVariants as asked
 use Rattle.ivy_memory.specs.stated.Asking.{asked_of}
 use Rattle.ivy_host.specs.stated.Hosts.{Host, host_rules, answered_by}
 use Rattle.ivy_host.specs.stated.Managers.{managed_ops}
-use Rattle.ivy_host.specs.stated.Openings.{opening}
+use Rattle.ivy_host.specs.declared.opening.Opening.{Opening}
+use Rattle.ivy_host.specs.stated.Openings.{managed_start, opening}
 use Rattle.proof_worlds.specs.stated.Nets.{entry_of, page_of}
 
 -- a node with this entry may not write the page, nor, where the word writes, read it
@@ -75,8 +76,8 @@ GoesOnAlone {S} rules c past w order (move ∷ moves) =
     → (more : List Record) × AreAlone c (entries_in w) more
     × GoesOnAlone rules c (w ∷ past) mid (order ++ more) moves)
 
--- the law: so it goes on from the opening of any programs, whatever moves are made
+-- the law: so it goes on from each opening of any programs, whatever moves are made
 abbrev pub WordsAreCarriedAlone : Type 0
-WordsAreCarriedAlone = (c : Config) → IsConfig c → (programs : List Program)
+WordsAreCarriedAlone = (opened : Opening) (c : Config) → IsConfig c → (programs : List Program)
     → length programs ≡ c.nodes → (moves : List Move)
-    → GoesOnAlone (host_rules managed_ops) c [] (opening managed_ops c programs) [] moves
+    → GoesOnAlone (host_rules managed_ops) c [] (opening (managed_start opened) c programs) [] moves

@@ -6,6 +6,7 @@ use Rattle.ivy_pagetable.specs.stated.Manager.{Ops}
 use Rattle.ivy_program.specs.stated.Programs.{Program}
 use Rattle.ivy_moves.specs.stated.FifoWorld.{FifoWorld, Delivers}
 use Rattle.ivy_host.specs.stated.Hosts.{Host, host_rules}
+use Rattle.ivy_host.specs.stated.Openings.{Start}
 use Rattle.proof_worlds.specs.stated.FifoRuns.{IsReachedInOrder}
 use Rattle.proof_worlds.specs.progress.Ending.{AreDeliveries}
 use Rattle.proof_worlds.specs.stated.Unblocked.{AreUnblocked}
@@ -27,9 +28,10 @@ module _ {S : Type 0} (ops : Ops S) where
 
   -- The law: from each FIFO world that programs reach, whatever was delivered, a message can be
   -- delivered next, or nothing is under way, and no node is blocked.
-  abbrev pub DeliveriesAnswer : Type 0
-  DeliveriesAnswer = (c : Config) (programs : List Program) → IsConfig c
-      → length programs ≡ c.nodes → (o : FifoWorld (Host S)) → IsReachedInOrder ops c programs o
+  abbrev pub DeliveriesAnswer : Start S → Type 0
+  DeliveriesAnswer start = (c : Config) (programs : List Program) → IsConfig c
+      → length programs ≡ c.nodes → (o : FifoWorld (Host S))
+      → IsReachedInOrder ops start c programs o
       → (after : List (FifoWorld (Host S))) → AreDeliveries ops o after
       → CanDeliver (last_of o after)
       ⊎ (AreAllDelivered (last_of o after) × AreUnblocked ops c (last_of o after).cores)

@@ -11,6 +11,7 @@ use Rattle.ivy_pagetable.specs.stated.Manager.{Ops}
 use Rattle.ivy_program.specs.stated.Programs.{Program}
 use Rattle.ivy_moves.specs.stated.FifoWorld.{FifoWorld, Delivers}
 use Rattle.ivy_host.specs.stated.Hosts.{Host, host_rules}
+use Rattle.ivy_host.specs.stated.Openings.{Start}
 use Rattle.proof_table.specs.stated.Letters.{content_of}
 use Rattle.proof_worlds.specs.stated.Nets.{net_of}
 use Rattle.proof_worlds.specs.stated.FifoRuns.{IsReachedInOrder}
@@ -65,8 +66,9 @@ module _ {S : Type 0} (ops : Ops S) where
 
   -- The law: from each FIFO world that programs reach there are no more deliveries than that,
   -- in whatever order they come.
-  abbrev pub DeliveriesEnd : Type 0
-  DeliveriesEnd = (c : Config) (programs : List Program) → IsConfig c
-      → length programs ≡ c.nodes → (o : FifoWorld (Host S)) → IsReachedInOrder ops c programs o
+  abbrev pub DeliveriesEnd : Start S → Type 0
+  DeliveriesEnd start = (c : Config) (programs : List Program) → IsConfig c
+      → length programs ≡ c.nodes → (o : FifoWorld (Host S))
+      → IsReachedInOrder ops start c programs o
       → (after : List (FifoWorld (Host S))) → AreDeliveries o after
       → length after ≤ most_deliveries c.nodes (work_left c o)

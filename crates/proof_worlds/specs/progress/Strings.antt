@@ -15,6 +15,7 @@ use Rattle.ivy_moves.specs.stated.Following.{fifo_of}
 use Rattle.ivy_moves.specs.stated.Nodes.{Node, verdict_of}
 use Rattle.ivy_moves.specs.stated.Worlds.{World, Leads}
 use Rattle.ivy_host.specs.stated.Hosts.{Host, host_rules}
+use Rattle.ivy_host.specs.stated.Openings.{Start}
 use Rattle.proof_worlds.specs.stated.FifoRuns.{FollowsInOrder}
 use Rattle.proof_worlds.specs.progress.Ending.{work_left, most_deliveries}
 
@@ -51,9 +52,10 @@ IsNoTurn (Pulse from to) = Unit {0}
 
 -- The law: in each world that follows an ordered one that programs reach, by moves that are no turns
 -- no more strings are delivered that are next than messages can be delivered there.
-abbrev pub StringsEnd : {S : Type 0} → Ops S → Type 0
-StringsEnd {S} ops = (c : Config) (programs : List Program) → IsConfig c
-    → length programs ≡ c.nodes → (w : World (Host S)) → (follow : FollowsInOrder ops c programs w)
+abbrev pub StringsEnd : {S : Type 0} → Ops S → Start S → Type 0
+StringsEnd {S} ops start = (c : Config) (programs : List Program) → IsConfig c
+    → length programs ≡ c.nodes → (w : World (Host S))
+    → (follow : FollowsInOrder ops start c programs w)
     → (moves : List Move) → All IsNoTurn moves → (end : World (Host S))
     → (led : Leads (host_rules ops) c w moves end)
     → next_along (host_rules ops) c w end moves led

@@ -8,13 +8,13 @@ use Rattle.ivy_moves.specs.stated.FifoWorld.{FifoWorld, Steps}
 use Rattle.ivy_moves.specs.stated.Worlds.{World}
 use Rattle.ivy_moves.specs.stated.Following.{Follows, fifo_of}
 use Rattle.ivy_host.specs.stated.Hosts.{Host, host_rules}
-use Rattle.ivy_host.specs.stated.Openings.{opening}
+use Rattle.ivy_host.specs.stated.Openings.{Start, opening}
 use Rattle.ivy_host.specs.stated.Sound.{IsSoundHost}
 
-module _ {S : Type 0} (ops : Ops S) (c : Config) (programs : List Program) where
+module _ {S : Type 0} (ops : Ops S) (start : Start S) (c : Config) (programs : List Program) where
   -- the FIFO world of the opening, in which nothing was posted
   abbrev pub first_ordered : FifoWorld (Host S)
-  first_ordered = fifo_of (opening ops c programs) (λ i j. [])
+  first_ordered = fifo_of (opening start c programs) (λ i j. [])
 
   -- moves of the FIFO world lead to it from the opening, by these worlds, the latest first
   abbrev pub IsFifoRun : List (FifoWorld (Host S)) → FifoWorld (Host S) → Type 0

@@ -6,6 +6,7 @@ use Rattle.ivy_host.specs.stated.Holding.{IsExclusive, AreRuns, HasNoBreach, All
 use Rattle.ivy_moves.specs.stated.Nodes.{Node}
 use Rattle.ivy_host.specs.stated.Hosts.{Host, answered_by}
 use Rattle.ivy_host.specs.stated.Managers.{Managed, managed_ops}
+use Rattle.ivy_host.specs.stated.Openings.{managed_start}
 use Rattle.proof_worlds.specs.stated.FifoRuns.{FollowsInOrder}
 use Rattle.proof_worlds.specs.stated.RoutedRuns.{AllAwaited, AllRouted}
 use Rattle.proof_worlds.specs.stated.Settled.{AreSettled}
@@ -32,9 +33,9 @@ pub record Keeps (r : Run) : Type 0 where
   -- it follows a FIFO world, where each message is delivered once and in order, that moves led
   -- to from the opening; and in each FIFO world that moves lead to from there, whoever waits has
   -- its message, and the routes to each page run in no circle and lead to the page from everywhere
-  pub ordered : FollowsInOrder managed_ops r.config r.programs r.world
-  pub waits : AllAwaited managed_ops r.config r.programs
-  pub routes : AllRouted managed_ops r.config r.programs
+  pub ordered : FollowsInOrder managed_ops (managed_start r.opened) r.config r.programs r.world
+  pub waits : AllAwaited managed_ops (managed_start r.opened) r.config r.programs
+  pub routes : AllRouted managed_ops (managed_start r.opened) r.config r.programs
   -- whatever moves led here from the opening: at each of them one order of records explains what
   -- the nodes were answered, growing from move to move. Of calls that a node has in progress together,
   -- or had at a move before, the order has no record, or all, next to one another

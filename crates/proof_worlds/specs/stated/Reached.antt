@@ -3,7 +3,7 @@ use Rattle.std.specs.Prelude.{List, []}
 use Rattle.ivy_model.specs.declared.Config.{Config}
 use Rattle.ivy_host.specs.stated.Managers.{Managed, managed_ops}
 use Rattle.ivy_host.specs.stated.Hosts.{Host, host_rules, answered_by}
-use Rattle.ivy_host.specs.stated.Openings.{opening}
+use Rattle.ivy_host.specs.stated.Openings.{opening, managed_start}
 use Rattle.ivy_moves.specs.declared.Move.{Move}
 use Rattle.ivy_moves.specs.stated.Worlds.{World, Leads}
 use Rattle.ivy_moves.specs.stated.Explained.{GoesOn}
@@ -11,7 +11,7 @@ use Rattle.proof_worlds.specs.stated.RunState.{Run}
 
 -- the world as its programs begin
 abbrev pub opening_of : Run → World (Host Managed)
-opening_of r = opening managed_ops r.config r.programs
+opening_of r = opening (managed_start r.opened) r.config r.programs
 
 -- the moves lead from the one world to the other
 abbrev pub IsLedTo : Config → World (Host Managed) → List Move → World (Host Managed) → Type 0

@@ -2,7 +2,9 @@
 use crate::plays::common::{ENOUGH, config};
 use example_programs::AddsUp;
 use ivy_model::Kind;
-use ivy_play::{PlayReport, play_drawn, play_listed};
+use ivy_play::{
+    Listed, Opening, PlayReport, play_drawn, play_drawn_opening, play_listed, play_with_opening,
+};
 use ivy_sync::{Barrier, Lock};
 use std::alloc::Global;
 use std::process::Abort;
@@ -54,6 +56,22 @@ fn moves_play_again(rt: HostRuntime) -> Result<(), Fail> {
     for seed in 0..20 {
         let one = play_drawn(&rt, rt.alloc(), nodes, &FOUR, seed, 300, ENOUGH)?;
         let other = play_listed(&rt, rt.alloc(), nodes, &FOUR, &one.moves, 0)?;
+        assert!(&rt; one.moves == other.moves);
+        assert!(&rt; one.outcomes == other.outcomes);
+    }
+    Ok(())
+}
+
+/// The moves of a play of steady nodes, listed, play the same there.
+#[test]
+fn steady_moves_play_again(rt: HostRuntime) -> Result<(), Fail> {
+    let nodes = config(4, Kind::Dynamic);
+    let (alloc, steady) = (rt.alloc(), Opening::Steady);
+    for seed in 0..20 {
+        let one = play_drawn_opening(&rt, alloc, nodes, &FOUR, seed, 300, ENOUGH, steady)?;
+        let moves = Listed::new(&one.moves);
+        let other = play_with_opening(&rt, alloc, nodes, &FOUR, moves, 0, steady)?;
+        assert!(&rt; one.world.opening() == steady);
         assert!(&rt; one.moves == other.moves);
         assert!(&rt; one.outcomes == other.outcomes);
     }

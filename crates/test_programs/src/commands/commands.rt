@@ -307,7 +307,7 @@ fn refused(rt: HostRuntime) -> Result<(), Fail> {
 }
 
 /// Command lines that mean nothing.
-const BAD: [&str; 19] = [
+const BAD: [&str; 20] = [
     "",
     "walk load",
     "run",
@@ -325,6 +325,7 @@ const BAD: [&str; 19] = [
     "run load --pulse 18446744073709551616",
     "run load --capacity 000000000000000000001",
     "run missing --manager central",
+    "run missing --manager steady",
     "help",
     "run --help",
 ];

@@ -1,7 +1,9 @@
 //! The lines of logs and of frames, read and written.
 
 use crate::processes::common::{CONFIG, expect_same, expect_text, log_of};
-use ivy_logs::{LogKind, parse_frame, parse_log, push_entry, push_frame, push_head, sum_of_run};
+use ivy_logs::{
+    LogKind, parse_frame, parse_log, push_entry, push_frame, push_head, sum_of_run, sum_opened,
+};
 use ivy_model::{Config, Fault, Kind};
 use ivy_program::parse;
 use std::alloc::Global;
@@ -29,6 +31,20 @@ fn a_log_is_written_as_it_was_read(rt: HostRuntime) {
     expect_same(&rt, log.head.me, 1);
     expect_same(&rt, log.head.config, CONFIG);
     expect_same(&rt, log.lines.as_slice(), [2, 3, 4, 5].as_slice());
+}
+
+/// A log of nodes that began with steady hints names these, and its configuration the dynamic manager.
+#[test]
+fn a_log_names_steady_hints(rt: HostRuntime) {
+    let alloc = rt.alloc();
+    let form = "ivy log 1 2 2 64 steady\nturns 2\n";
+    let text = written(&rt, alloc, form);
+    expect_text(&rt, alloc, text.as_bytes(), form);
+    let log = log_of(&rt, alloc, form);
+    expect_same(&rt, log.head.config, CONFIG);
+    assert!(rt; log.head.steady);
+    let other = log_of(&rt, alloc, "ivy log 1 2 2 64 dynamic\n");
+    assert!(rt; !other.head.steady);
 }
 
 #[test]
@@ -109,6 +125,13 @@ fn a_sum_is_of_the_configuration_and_the_programs(rt: HostRuntime) {
             ..CONFIG
         };
         expect_same(&rt, sum_of_run(&config, &programs), sum);
+        expect_same(&rt, sum_opened(false, &config, &programs), sum);
+        // Nodes that begin with steady hints are in another run.
+        expect_same(
+            &rt,
+            sum_opened(true, &config, &programs),
+            7_721_909_631_575_499,
+        );
     }
     let own = parse_log(alloc, LogKind::OfOwnCode, "ivy own 1 2 2 64 fixed 5\n");
     expect_same(&rt, own.err(), Some(Fault::ProgramFault(1)));

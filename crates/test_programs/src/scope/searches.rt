@@ -34,7 +34,7 @@ const FILES: [File; 7] = [
     },
 ];
 
-const CASES: [Case<'static>; 15] = [
+const CASES: [Case<'static>; 17] = [
     (
         &["settle", "deadlock.ivy"],
         5,
@@ -95,6 +95,37 @@ const CASES: [Case<'static>; 15] = [
         Told::Is(
             "3 states and more, and 0 of them are ends\n\
              no end was reached, so nothing is known of ends\n",
+        ),
+        Told::Is(""),
+    ),
+    // Steady hints: no copy is awaited by another node, so the states are as many.
+    (
+        &[
+            "search",
+            "first_load.ivy",
+            "--states",
+            "4",
+            "--manager",
+            "steady",
+        ],
+        0,
+        Told::Is(
+            "4 states, and 1 of them are ends\noutputs: node 1: 0\n\
+             at each of these ends all programs have ended\n",
+        ),
+        Told::Is(""),
+    ),
+    (
+        &["search", "store_buffering.ivy", "--manager", "steady"],
+        0,
+        Told::HasBut(
+            &[
+                "outputs: node 0: 0, node 1: 1\n",
+                "outputs: node 0: 1, node 1: 0\n",
+                "outputs: node 0: 1, node 1: 1\n",
+                "at each of these ends all programs have ended\n",
+            ],
+            "node 0: 0, node 1: 0",
         ),
         Told::Is(""),
     ),

@@ -46,7 +46,7 @@ const FILES: [File; 10] = [
     },
 ];
 
-const CASES: [Case<'static>; 25] = [
+const CASES: [Case<'static>; 26] = [
     (
         &["explain", "four_faults.ivy"],
         2,
@@ -238,6 +238,15 @@ const CASES: [Case<'static>; 25] = [
         2,
         Told::Is(""),
         Told::Has(&["`dynamo`, perhaps `dynamic`\n"]),
+    ),
+    (
+        &["order", "sound.ivy", "--manager", "stead"],
+        2,
+        Told::Is(""),
+        Told::Is(
+            "ivyscope: bad command line: a manager is `fixed`, `dynamic` or `steady`, and not `stead`, \
+             perhaps `steady`\n",
+        ),
     ),
 ];
 

@@ -1,6 +1,7 @@
 //! Turns on the wire of two sites, one after the other, at an ether that holds one item.
 ghost use Rattle.std.specs.Prelude.{◌≡◌, ◌<◌, length, slice_get, Some, true};
 ghost use Rattle.ivy_model.specs.stated.Config.{IsConfig};
+ghost use Rattle.ivy_host.specs.declared.opening.Opening.TheVariants.{Configured};
 ghost use Rattle.ivy_ether.specs.Rule.{times};
 ghost use Rattle.ivy_ether.specs.Views.{with_issued};
 ghost use Rattle.ivy_ether.specs.EtherViews.{IsNewcomer};
@@ -51,6 +52,7 @@ fn seat<'e, S: Setup, A: Allocator + Copy, R: Wait + Abort>(
     program: Program<A>,
 ) -> Seated<'e, S, A>
     requires config { config.now ≡ S.config }
+    requires opened { S.opened ≡ Configured }
     requires limits { IsConfig config.now }
     requires each { length S.programs ≡ config.now.nodes }
     requires there { slice_get S.programs node ≡ Some program }
@@ -145,6 +147,7 @@ fn play<S: Setup, A: Allocator + Copy, R: Wait + Abort>(
     programs: Vec<Program<A>, A>,
 ) -> Result<bool, Fail>
     requires config { config.now ≡ S.config }
+    requires opened { S.opened ≡ Configured }
     requires limits { IsConfig config.now }
     requires programs { programs.items ≡ S.programs }
     requires each { length programs.items ≡ config.now.nodes }

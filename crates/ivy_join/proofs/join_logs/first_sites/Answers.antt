@@ -17,9 +17,9 @@ loop-program-init g c =
       left = search rules;
       count = (let long = ap length gives.0 ∙ c.requires.each in omega (arith, long));
       all = ap
-          (λ x. x ++ kept_from Nothing c.args.config.now 0
+          (λ x. x ++ kept_from c.args.opening Nothing c.args.config.now 0
           (into_iter_items c.into_iter-program-iterator.result)) c.in_ok-sites.ensures.items
-          ∙ ap (kept_from Nothing c.args.config.now 0) gives.0;
+          ∙ ap (kept_from c.args.opening Nothing c.args.config.now 0) gives.0;
       written = λ all. subst (All IsWritten) gives.0 all;
     }
 
@@ -36,9 +36,9 @@ loop-program-preserved g c =
       finite = search rules;
       left = omega arith;
       count = omega arith;
-      all = one_more_kept Nothing c.args.config.now at.me at.sites.items c.in-Some.program
+      all = one_more_kept c.args.opening Nothing c.args.config.now at.me at.sites.items c.in-Some.program
           (into_iter_items at.program-iterator) (into_iter_items c.next.new.self) steps
-          c.in_ok-keeping.field-0 c.in_ok-keeping.ensures.first c.push.new.self.items
+          c.in_ok-opened.field-0 c.in_ok-opened.ensures.first c.push.new.self.items
           c.in_ok-push.ensures.items ∙ at.invariant.all;
       written = λ all. at.invariant.written
           (subst (All IsWritten) (sym steps)
@@ -52,22 +52,22 @@ returns-clause-first g c =
     let empty : into_iter_items at.program-iterator ≡ [] =
     nil_from_length _ (sym at.invariant.left ∙ none.0) in
     sym (append-nil at.sites.items)
-    ∙ ap (λ l. at.sites.items ++ kept_from Nothing c.args.config.now at.me l) (sym empty)
+    ∙ ap (λ l. at.sites.items ++ kept_from c.args.opening Nothing c.args.config.now at.me l) (sym empty)
     ∙ at.invariant.all
 
 pub returns-in_err-sites-clause-first : goal.returns-in_err-sites-clause-first
 returns-in_err-sites-clause-first g c = IfOk-from_err c.from_residual.result _ c.from_residual.ensures.0
 
-pub returns-in_err-keeping-clause-first : goal.returns-in_err-keeping-clause-first
-returns-in_err-keeping-clause-first g c =
-    IfOk-from_err c.from_residual-in_err-keeping.result _ c.from_residual-in_err-keeping.ensures.0
+pub returns-in_err-opened-clause-first : goal.returns-in_err-opened-clause-first
+returns-in_err-opened-clause-first g c =
+    IfOk-from_err c.from_residual-in_err-opened.result _ c.from_residual-in_err-opened.ensures.0
 
 pub returns-in_err-push-clause-first : goal.returns-in_err-push-clause-first
 returns-in_err-push-clause-first g c =
     IfOk-from_err c.from_residual-in_err-push.result _ c.from_residual-in_err-push.ensures.0
 
-pub keeping-requires-clause-limits : goal.keeping-requires-clause-limits
-keeping-requires-clause-limits g c = c.requires.limits
+pub opened-requires-clause-limits : goal.opened-requires-clause-limits
+opened-requires-clause-limits g c = c.requires.limits
 
 pub returns-clause-memory : goal.returns-clause-memory
 returns-clause-memory g c = tt
@@ -83,9 +83,9 @@ returns-clause-written g c =
 pub returns-in_err-sites-clause-written : goal.returns-in_err-sites-clause-written
 returns-in_err-sites-clause-written g c = IfOk-from_err c.from_residual.result _ c.from_residual.ensures.0
 
-pub returns-in_err-keeping-clause-written : goal.returns-in_err-keeping-clause-written
-returns-in_err-keeping-clause-written g c =
-    IfOk-from_err c.from_residual-in_err-keeping.result _ c.from_residual-in_err-keeping.ensures.0
+pub returns-in_err-opened-clause-written : goal.returns-in_err-opened-clause-written
+returns-in_err-opened-clause-written g c =
+    IfOk-from_err c.from_residual-in_err-opened.result _ c.from_residual-in_err-opened.ensures.0
 
 pub returns-in_err-push-clause-written : goal.returns-in_err-push-clause-written
 returns-in_err-push-clause-written g c =

@@ -12,7 +12,7 @@ invariant-loop-program g l = record {
   finite : (goal.iterator-loop-program g).is_finite l.program-iterator;
   left : into_iter_len l.program-iterator ≡ length (into_iter_items l.program-iterator);
   count : l.me + length (into_iter_items l.program-iterator) ≡ l.config.nodes;
-  all : l.sites.items ++ kept_from Nothing l.config l.me (into_iter_items l.program-iterator)
-      ≡ kept_from Nothing l.config 0 l.fn.programs.items;
+  all : l.sites.items ++ kept_from l.opening Nothing l.config l.me (into_iter_items l.program-iterator)
+      ≡ kept_from l.opening Nothing l.config 0 l.fn.programs.items;
   written : All IsWritten (into_iter_items l.program-iterator) → All IsWritten l.fn.programs.items;
 }

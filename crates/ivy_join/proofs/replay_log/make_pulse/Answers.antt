@@ -26,6 +26,7 @@ returns-then-to-config-clause-on g c = λ sent. record {
   config = refl;
   program = refl;
   keep = refl;
+  opened = refl;
   answered = same-records c.args.site.now c.args.site.now refl;
   more = [];
   events = sym (append-nil c.args.site.now.events);

@@ -30,7 +30,7 @@ returns-in_err-play_round-clause-refused g c =
     let many : length c.loop-made.made.items ≡ length (map (λ (x : Log g.row.A.Denot). x.entries.items) c.args.logs.now) =
     sym c.loop-made.made.ok.0 ∙ inv.made ∙ sym c.requires.logs ∙ sym size in
     rw p.1
-    (λ told none. subst (λ ps. AreNoParts c.args.config.now ps
+    (λ told none. subst (λ ps. AreNoParts c.args.config.now c.args.opening ps
     (map (λ (x : Log g.row.A.Denot). marks (events_in x.entries.items)) c.args.logs.now))
     (have-none (map (λ (x : Log g.row.A.Denot). x.entries.items) c.args.logs.now) (replicate (length c.args.logs.now) 0)
     c.loop-made.made.items (programs_of c.args.sites.now.items) (programs_of c.loop-made.sites.items) none
@@ -117,11 +117,11 @@ returns-clause-refused g c =
     IfErr-weaker c.check_ends.result
     (λ why. IsOneLeft (map (λ (x : Log g.row.A.Denot). x.entries.items) c.args.logs.now) c.deref.result.now)
     (λ why. SaysNoParts why → HaveNoCalls (map (λ (x : Log g.row.A.Denot). x.entries.items) c.args.logs.now)
-    → AreNoParts c.args.config.now (programs_of c.args.sites.now.items)
+    → AreNoParts c.args.config.now c.args.opening (programs_of c.args.sites.now.items)
     (map (λ (x : Log g.row.A.Denot). marks (events_in x.entries.items)) c.args.logs.now))
-    (λ why left told none. subst (λ ps. AreNoParts c.args.config.now ps
+    (λ why left told none. subst (λ ps. AreNoParts c.args.config.now c.args.opening ps
     (map (λ (x : Log g.row.A.Denot). marks (events_in x.entries.items)) c.args.logs.now)) (same none)
-    (stuck-no-parts (λ (x : Log g.row.A.Denot). x.entries.items) c.args.config.now c.play_round.new.sites.items
+    (stuck-no-parts (λ (x : Log g.row.A.Denot). x.entries.items) c.args.config.now c.args.opening c.play_round.new.sites.items
     c.play_round.new.sent c.args.logs.now c.play_round.new.made c.in_ok-play_round.ensures.played p.have each count
     p.each (p.stuck c.if-branch.false)
     (subst (IsOneLeft (map (λ (x : Log g.row.A.Denot). x.entries.items) c.args.logs.now)) written left)))

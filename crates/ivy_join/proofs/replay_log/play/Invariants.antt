@@ -8,7 +8,7 @@ use Rattle.ivy_join.proofs.replay_log.play.Given as goal
 -- each site made so many entries of its log, and all that they sent was collected
 abbrev pub invariant-loop-made : goal.invariant-loop-made
 invariant-loop-made g l = record {
-  played : ArePlayed l.config l.sites.items l.sent;
+  played : ArePlayed l.config l.opening l.sites.items l.sent;
   called : HaveCalled (map (λ x. x.entries.items) l.logs) (replicate (length l.logs) 0) l.made.items
       (programs_of l.initial.sites.items) (programs_of l.sites.items);
   count : length l.sites.items ≡ length l.initial.sites.items;

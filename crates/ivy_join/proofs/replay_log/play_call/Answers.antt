@@ -46,7 +46,7 @@ returns-clause-exact g c =
     c.requires.node c.in_ok-hand.ensures.ok
 
 pub returns-then-not-may_ask-clause-exact : goal.returns-then-not-may_ask-clause-exact
-returns-then-not-may_ask-clause-exact g c = λ config sent played have. tt
+returns-then-not-may_ask-clause-exact g c = λ config opening sent played have. tt
 
 pub returns-in_err-hand-clause-exact : goal.returns-in_err-hand-clause-exact
 returns-in_err-hand-clause-exact g c = IfOk-from_err c.from_residual.result _ c.from_residual.ensures.0

@@ -27,7 +27,7 @@ returns-in-Did-clause-count g c = c.play_event.ensures.count
 
 pub returns-in-Asked-clause-played : goal.returns-in-Asked-clause-played
 returns-in-Asked-clause-played g c =
-    on_ok_weaker c.play_call.result (λ on. on c.args.config.now c.args.sent.now c.requires.played)
+    on_ok_weaker c.play_call.result (λ on. on c.args.config.now c.args.opening c.args.sent.now c.requires.played)
     c.play_call.ensures.played
 
 pub returns-in-Asked-clause-count : goal.returns-in-Asked-clause-count
@@ -62,7 +62,7 @@ returns-in-Asked-clause-exact g c =
     (λ o exact. subst (λ e. HaveSent c.args.sent.now c.args.sites.now.items
     → CameTo c.args.node e c.args.sites.now.items c.play_call.new.sites.items c.args.sent.now
     c.args.sent.now o) (sym c.in-Asked.is)
-    (exact c.args.config.now c.args.sent.now c.requires.played))
+    (exact c.args.config.now c.args.opening c.args.sent.now c.requires.played))
     c.play_call.ensures.exact
 
 pub returns-in-Answered-clause-called : goal.returns-in-Answered-clause-called

@@ -38,7 +38,7 @@ returns-in-Never-clause-refused g c =
     c.loop-place.sent c.play_entry.new.sent) c.in-Never.is (c.in_ok-play_entry.ensures.exact inv.have) in
     λ told none. plays-never c.args.node c.args.log.now.entries.items c.args.made.now at.place c.args.sites.now.items
     at.sites.items c.args.sent.now at.sent from inv.have inv.here inv.elsewhere inv.sites inv.strings
-    c.args.config.now (programs_of c.args.sites.now.items) c.index-entry.result.now inv.played
+    c.args.config.now c.args.opening (programs_of c.args.sites.now.items) c.index-entry.result.now inv.played
     (subst (λ m. PlaysOn c.args.node c.args.log.now.entries.items c.args.made.now m
     (programs_of c.args.sites.now.items) (programs_of c.loop-place.sites.items)) inv.at inv.called)
     (inv.count ∙ sym (length-map c.args.sites.now.items program_in)) inside below c.index-entry.ensures never none

@@ -8,7 +8,7 @@ use Rattle.ivy_join.proofs.replay_log.play_log.Given as goal
 -- the entries before the place were made; where none was, all is as it was
 abbrev pub invariant-loop-place : goal.invariant-loop-place
 invariant-loop-place g l = record {
-  played : ArePlayed l.config l.sites.items l.sent;
+  played : ArePlayed l.config l.opening l.sites.items l.sent;
   called : PlaysOn l.node l.log.entries.items l.initial.made l.made (programs_of l.initial.sites.items)
       (programs_of l.sites.items);
   count : length l.sites.items ≡ length l.initial.sites.items;

@@ -35,7 +35,7 @@ returns-in_err-play_log-clause-refused g c =
     c.requires.made ∙ sym c.requires.logs ∙ sym logs in
     let olds = length-map c.args.sites.now.items program_in in
     rw p.1
-    (λ told none. none_of f c.args.config.now c.loop-node.sites.items c.loop-node.sent
+    (λ told none. none_of f c.args.config.now c.args.opening c.loop-node.sites.items c.loop-node.sent
     (programs_of c.args.sites.now.items) c.args.logs.now c.loop-node.node c.index-logs-node.result inv.played
     (have-none (map f c.args.logs.now) c.args.made.now c.loop-node.made (programs_of c.args.sites.now.items)
     (programs_of c.loop-node.sites.items) none before (inv.long ∙ before)

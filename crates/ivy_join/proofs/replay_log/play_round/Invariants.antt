@@ -10,7 +10,7 @@ use Rattle.ivy_join.proofs.replay_log.play_round.Given as goal
 -- fewer entries are left where a log went on; else the logs so far are stuck
 abbrev pub invariant-loop-node : goal.invariant-loop-node
 invariant-loop-node g l = record {
-  played : ArePlayed l.config l.sites.items l.sent;
+  played : ArePlayed l.config l.opening l.sites.items l.sent;
   called : HaveCalled (map (λ x. x.entries.items) l.logs) l.initial.made l.made
       (programs_of l.initial.sites.items) (programs_of l.sites.items);
   long : length l.made ≡ length l.initial.made;

@@ -15,9 +15,9 @@ returns-clause-played g c =
     let own = c.requires.played.each c.args.node old there in
     let on : GoesOnBy c.args.sent.now c.index_mut-site.result.now c.make.new.site =
     c.make.ensures.on c.args.sent.now
-    (limits-old c.args.config.now c.args.sent.now c.args.node old c.requires.played.limits own)
-    (took-old c.args.config.now c.args.sent.now c.args.node old own) c.requires.there in
-    played_on c.args.config.now c.args.sites.now.items c.args.sent.now c.collect.new.sent c.args.node old
+    (limits-old c.args.config.now c.args.opening c.args.sent.now c.args.node old c.requires.played.limits own)
+    (took-old c.args.config.now c.args.opening c.args.sent.now c.args.node old own) c.requires.there in
+    played_on c.args.config.now c.args.opening c.args.sites.now.items c.args.sent.now c.collect.new.sent c.args.node old
     c.make.new.site c.collect.new.site c.requires.played there on c.event_list.ensures.made
     c.event_list-2.ensures.made c.collect.ensures.site c.collect.ensures.kept c.collect.ensures.added
 
@@ -30,9 +30,9 @@ returns-clause-programs g c =
     let own = c.requires.played.each c.args.node old there in
     let on : GoesOnBy c.args.sent.now c.index_mut-site.result.now c.make.new.site =
     c.make.ensures.on c.args.sent.now
-    (limits-old c.args.config.now c.args.sent.now c.args.node old c.requires.played.limits own)
-    (took-old c.args.config.now c.args.sent.now c.args.node old own) c.requires.there in
-    programs-same c.args.config.now c.args.sites.now.items c.args.sent.now c.collect.new.sent c.args.node
+    (limits-old c.args.config.now c.args.opening c.args.sent.now c.args.node old c.requires.played.limits own)
+    (took-old c.args.config.now c.args.opening c.args.sent.now c.args.node old own) c.requires.there in
+    programs-same c.args.config.now c.args.opening c.args.sites.now.items c.args.sent.now c.collect.new.sent c.args.node
     old c.make.new.site c.collect.new.site c.requires.played there on c.event_list.ensures.made
     c.event_list-2.ensures.made c.collect.ensures.site c.collect.ensures.kept c.collect.ensures.added
 
@@ -43,9 +43,9 @@ returns-clause-exact g c =
     slice_get_read c.args.sites.now.items (length c.args.sites.now.items) c.args.node old refl
     c.requires.node c.index_mut-site.ensures.value in
     let own = c.requires.played.each c.args.node old there in
-    let limits = limits-old c.args.config.now c.args.sent.now c.args.node old c.requires.played.limits own in
+    let limits = limits-old c.args.config.now c.args.opening c.args.sent.now c.args.node old c.requires.played.limits own in
     let on : GoesOnBy c.args.sent.now c.index_mut-site.result.now c.make.new.site =
-    c.make.ensures.on c.args.sent.now limits (took-old c.args.config.now c.args.sent.now c.args.node old own)
+    c.make.ensures.on c.args.sent.now limits (took-old c.args.config.now c.args.opening c.args.sent.now c.args.node old own)
     c.requires.there in
     λ have. step-says c.args.sites.now.items c.args.node c.args.event.now old c.make.new.site c.collect.new.site
     c.args.sent.now c.collect.new.sent c.in_ok-happens.happens there own.made limits have on

@@ -64,6 +64,7 @@ returns g c =
       made = record {
         me = on.me;
         config = on.config;
+        opened = on.opened;
         program = on.program;
         events = on.events ∙ ap (λ l. l ++ marks (events_in c.args.log.now)) c.requires.fresh;
         told = subst (λ es. StandFirst (answers_in es) c.loop-place.site.node.core.history) whole

@@ -24,7 +24,7 @@ loop-ended-init g c =
       ether = c.requires.starter;
       left = left_all (λ i e. HasEnded (g.W.Work.done c.args.work.now) i e.mine e.out)
           (vec_len c.in_ok-sites.sites) _ c.args.worked.all.items empty gives.0 c.requires.done;
-      told = told_none g.S.Setup.config g.S.Setup.programs c.args.starter.now.known
+      told = told_none g.S.Setup.config g.S.Setup.opened g.S.Setup.programs c.args.starter.now.known
           (map report_of c.in_ok-sites.sites.items) (ap (map report_of) none);
       kept = subst (AllKeep c.args.plan.now.keep) (sym (ap (map report_of) none))
           (All-nil (λ (n : NodeReport). n.keep ≡ c.args.plan.now.keep));
@@ -93,7 +93,8 @@ loop-ended-preserved g c =
       ether = c.in_ok-site.ensures.ether ∙ was.ether;
       left = left_more (λ i e. HasEnded (g.W.Work.done c.args.work.now) i e.mine e.out)
           (vec_len at.sites) (vec_len sites) _ _ _ steps longer was.left;
-      told = told_more g.S.Setup.config g.S.Setup.programs _ _ (map report_of at.sites.items) _
+      told = told_more g.S.Setup.config g.S.Setup.opened g.S.Setup.programs _ _
+          (map report_of at.sites.items) _
           (report_of site) at.node (number ∙ here) mapped c.in_ok-site.ensures.told was.told;
       kept = subst (AllKeep c.args.plan.now.keep) (sym mapped)
           (All-push (λ (n : NodeReport). n.keep ≡ c.args.plan.now.keep) (map report_of at.sites.items)

@@ -15,7 +15,8 @@ invariant-loop-ended g l = record {
   ether : l.starter.ether ≡ l.fn.ether;
   left : (k : ℕ) (e : _) → slice_get (into_iter_items l.ended-iterator) k ≡ Some e
       → HasEnded (g.W.Work.done l.fn.work) (vec_len l.sites + k) e.mine e.out;
-  told : AreTold g.S.Setup.config g.S.Setup.programs l.starter.known (map report_of l.sites.items);
+  told : AreTold g.S.Setup.config g.S.Setup.opened g.S.Setup.programs l.starter.known
+      (map report_of l.sites.items);
   kept : AllKeep l.fn.plan.keep (map report_of l.sites.items);
   done : AreClosed (g.W.Work.done l.fn.work) (map report_of l.sites.items) l.outs.items;
 }

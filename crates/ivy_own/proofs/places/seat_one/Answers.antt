@@ -6,7 +6,7 @@ use Rattle.ivy_program.specs.stated.Programs.{Called}
 use Rattle.ivy_ether.specs.Held.{Held}
 use Rattle.ivy_ether.specs.Views.{newcomer, with_seat}
 use Rattle.ivy_site.specs.SiteView.{SiteView}
-use Rattle.ivy_site.specs.Sites.{first_keeping}
+use Rattle.ivy_site.specs.Sites.{first_opened}
 use Rattle.ivy_own.proofs.Each.{get_replicate}
 use Rattle.ivy_own.proofs.places.seat_one.Goals as goal
 
@@ -21,7 +21,8 @@ pub new-requires : goal.new-requires
 new-requires g c =
     let found : c.in-Some.found ≡ c.args.node = search rules in
     let first : c.in_ok-site.site
-    ≡ first_keeping c.args.plan.now.keep c.args.plan.now.config c.args.node (Called []) =
+    ≡ first_opened c.args.plan.now.opening c.args.plan.now.keep c.args.plan.now.config
+    c.args.node (Called []) =
     c.in_ok-site.ensures.first in
     let me : c.in_ok-site.site.me ≡ c.args.node = ap (λ (x : SiteView). x.me) first in
     let keep = ap (λ (x : SiteView). x.keep) first in
@@ -41,6 +42,7 @@ new-requires g c =
             ∙ ap (λ l. slice_get l c.args.node) c.requires.programs
             ∙ get_replicate g.S.Setup.config.nodes c.args.node (Called []) inside;
         site = first
-            ∙ (λ k. first_keeping (sym keep k) (c.requires.config k) (sym me k) (Called []));
+            ∙ (λ k. first_opened (c.requires.opened k) (sym keep k) (c.requires.config k) (sym me k)
+            (Called []));
       };
     }

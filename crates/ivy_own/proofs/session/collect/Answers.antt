@@ -14,16 +14,17 @@ returns-clause-report g c =
     let nodes = map report_of sites.items in
     let is : c.new-nodes.result ≡ nodes = c.new-nodes.ensures in
     let told =
-    subst (λ (h : Held). AreTold g.S.Setup.config g.S.Setup.programs h.known nodes)
+    subst (λ (h : Held). AreTold g.S.Setup.config g.S.Setup.opened g.S.Setup.programs h.known nodes)
     (sym c.learn.ensures.same) c.in_ok-sites.ensures.told in
     let long = length-map sites.items report_of in
     let both = c.in_ok-sites.ensures.all in
     let count = c.requires.nodes in
-    own_report g.S.Setup.config (g.W.Work.done c.args.work.now) c.requires.limits
+    own_report g.S.Setup.config g.S.Setup.opened (g.W.Work.done c.args.work.now) c.requires.limits
     g.S.Setup.programs c.requires.programs c.new-nodes.result outs.items c.learn.new.pass.known
     (ap length is ∙ omega (arith, long, both.0, count, sites.ok.0))
     (omega (arith, both.1, count, outs.ok.0))
-    (subst (AreTold g.S.Setup.config g.S.Setup.programs c.learn.new.pass.known) (sym is) told)
+    (subst (AreTold g.S.Setup.config g.S.Setup.opened g.S.Setup.programs c.learn.new.pass.known)
+    (sym is) told)
     c.learn.ensures.told
     (subst (λ l. AreClosed (g.W.Work.done c.args.work.now) l outs.items) (sym is)
     c.in_ok-sites.ensures.done)

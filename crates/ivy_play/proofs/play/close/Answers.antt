@@ -7,7 +7,13 @@ use Rattle.ivy_play.specs.Played.{HasDrawn, first_moment}
 use Rattle.ivy_play.proofs.Drawing.{are_on}
 use Rattle.ivy_play.proofs.Ending.{given_there}
 use Rattle.ivy_play.proofs.Ends.{stands_there}
+use Rattle.ivy_play.proofs.Playing.{is_played}
 use Rattle.ivy_play.proofs.play.close.Goals as goal
+
+pub returns-clause-opened : goal.returns-clause-opened
+returns-clause-opened g c =
+    (c.in_ok-ended.ensures.played (first_moment g.S.Setting.opened g.S.Setting.config)
+    c.in_ok-played.ensures.played.0).opened
 
 pub returns-clause-report : goal.returns-clause-report
 returns-clause-report g c =
@@ -21,7 +27,9 @@ returns-clause-report g c =
     omega (arith, all, outcomes.ok.0, nodes) in
     reported g.S.Setting.config (g.W.Work.done c.args.work.now) e.moves.items e.world
     outcomes.items e.rest
-    (c.in_ok-ended.ensures.played (first_moment g.S.Setting.config) c.in_ok-played.ensures.played.0)
+    (is_played g.S.Setting.opened g.S.Setting.config e.moves.items e.world
+    (c.in_ok-ended.ensures.played (first_moment g.S.Setting.opened g.S.Setting.config)
+    c.in_ok-played.ensures.played.0))
     (c.in_ok-ended.ensures.still c.in_ok-played.ensures.played.1) c.keeps-2.ensures count
     (given_there (g.W.Work.done c.args.work.now) p.world.world e.world.world outcomes.items
     c.in_ok-ended.ensures.cores c.in_ok-outcomes.ensures.given)

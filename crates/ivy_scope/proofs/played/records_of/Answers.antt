@@ -12,6 +12,6 @@ returns g c =
       moves = c.in_ok-moves.moves.items;
       said = c.in_ok-moves.ensures;
       is = subst (λ (moves : List Move). IsOrderOf c.args.run.now.text.config
-          c.args.run.now.text.programs.now moves order.items) c.deref.ensures.value is;
+          c.args.run.now.text.opening c.args.run.now.text.programs.now moves order.items) c.deref.ensures.value is;
     }))
     c.order_of.ensures

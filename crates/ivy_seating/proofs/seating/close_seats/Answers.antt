@@ -18,7 +18,7 @@ loop-seat-init g c =
       room = search rules;
       ether = c.requires.starter;
       count = ap length (sym none);
-      told = told_none g.S.Setup.config g.S.Setup.programs c.args.starter.now.known
+      told = told_none g.S.Setup.config g.S.Setup.opened g.S.Setup.programs c.args.starter.now.known
           (map report_of c.args.empty.items) (ap (map report_of) none);
       kept = subst (AllKeep c.args.keep) (sym (ap (map report_of) none))
           (All-nil (λ (n : NodeReport). n.keep ≡ c.args.keep));
@@ -40,7 +40,8 @@ loop-seat-preserved g c =
       room = search rules;
       ether = c.in_ok-site.ensures.ether ∙ at.invariant.ether;
       count = search rules;
-      told = told_more g.S.Setup.config g.S.Setup.programs _ _ (map report_of at.sites.items) _
+      told = told_more g.S.Setup.config g.S.Setup.opened g.S.Setup.programs _ _
+          (map report_of at.sites.items) _
           (report_of c.in_ok-site.site) at.node
           (count ∙ sym (length-map at.sites.items report_of))
           (ap (map report_of) c.push_reserved.ensures.items
@@ -63,7 +64,7 @@ returns-in_default-clause-starter g c =
 
 pub returns-clause-told : goal.returns-clause-told
 returns-clause-told g c =
-    subst (AreTold g.S.Setup.config g.S.Setup.programs c.loop-seat.starter.known)
+    subst (AreTold g.S.Setup.config g.S.Setup.opened g.S.Setup.programs c.loop-seat.starter.known)
     (sym c.new.ensures) c.loop-seat.invariant.told
 
 pub returns-clause-keep : goal.returns-clause-keep

@@ -13,7 +13,7 @@ invariant-loop-seat g l = record {
   room : vec_len l.sites + length (into_iter_items l.seat-iterator) ≤ vec_capacity l.sites;
   ether : l.starter.ether ≡ l.ether;
   count : l.node ≡ length l.sites.items;
-  told : AreTold g.S.Setup.config g.S.Setup.programs l.starter.known
+  told : AreTold g.S.Setup.config g.S.Setup.opened g.S.Setup.programs l.starter.known
       (map report_of l.sites.items);
   kept : AllKeep l.keep (map report_of l.sites.items);
 }

@@ -7,9 +7,9 @@ use Rattle.ivy_session.proofs.report.collect.Goals as goal
 pub returns-clause-report : goal.returns-clause-report
 returns-clause-report g c =
     let told =
-    subst (λ (h : Held). AreTold g.S.Setup.config g.S.Setup.programs h.known
+    subst (λ (h : Held). AreTold g.S.Setup.config g.S.Setup.opened g.S.Setup.programs h.known
     c.in_ok-report.report)
     (sym c.learn.ensures.same) c.in_ok-report.ensures.told in
     let many : length c.in_ok-report.report ≡ length g.S.Setup.programs = search rules in
-    reported g.S.Setup.config g.S.Setup.programs c.requires.limits c.requires.each
+    reported g.S.Setup.config g.S.Setup.opened g.S.Setup.programs c.requires.limits c.requires.each
     c.in_ok-report.report c.learn.new.pass.known many told c.learn.ensures.told

@@ -27,7 +27,7 @@ loop-given-init g c =
           (λ i r. MatchResult r (λ e. HasEnded (g.W.Work.done c.args.work.now) i e.mine e.out)
           (StopsFor (g.W.Work.gives_up c.args.work.now) i))
           (vec_len c.in_ok-sites.sites) _ c.args.stopped.all.items empty gives.0 c.requires.given;
-      told = told_none g.S.Setup.config g.S.Setup.programs c.args.starter.now.known
+      told = told_none g.S.Setup.config g.S.Setup.opened g.S.Setup.programs c.args.starter.now.known
           (map so_far_of c.in_ok-sites.sites.items) (ap (map so_far_of) none);
       kept = subst (AllKeepSoFar c.args.plan.now.keep) (sym (ap (map so_far_of) none))
           (All-nil (λ (n : NodeSoFar). n.keep ≡ c.args.plan.now.keep));
@@ -97,7 +97,8 @@ loop-given-preserved g c =
           (λ i r. MatchResult r (λ e. HasEnded (g.W.Work.done c.args.work.now) i e.mine e.out)
           (StopsFor (g.W.Work.gives_up c.args.work.now) i))
           (vec_len at.sites) (vec_len sites) _ _ _ steps longer was.left;
-      told = told_more g.S.Setup.config g.S.Setup.programs _ _ (map so_far_of at.sites.items) _
+      told = told_more g.S.Setup.config g.S.Setup.opened g.S.Setup.programs _ _
+          (map so_far_of at.sites.items) _
           (so_far_of site) at.node (number ∙ here) mapped c.in_ok-site.ensures.told was.told;
       kept = subst (AllKeepSoFar c.args.plan.now.keep) (sym mapped)
           (All-push (λ (n : NodeSoFar). n.keep ≡ c.args.plan.now.keep)

@@ -20,7 +20,8 @@ invariant-loop-given g l = record {
       → MatchResult r
       (λ ended. HasEnded (g.W.Work.done l.fn.work) (vec_len l.sites + k) ended.mine ended.out)
       (StopsFor (g.W.Work.gives_up l.fn.work) (vec_len l.sites + k));
-  told : AreToldSoFar g.S.Setup.config g.S.Setup.programs l.starter.known (map so_far_of l.sites.items);
+  told : AreToldSoFar g.S.Setup.config g.S.Setup.opened g.S.Setup.programs l.starter.known
+      (map so_far_of l.sites.items);
   kept : AllKeepSoFar l.fn.plan.keep (map so_far_of l.sites.items);
   stand : AllStand (g.W.Work.done l.fn.work) (map so_far_of l.sites.items) l.outs.items;
 }

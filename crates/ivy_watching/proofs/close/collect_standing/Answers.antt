@@ -14,16 +14,19 @@ returns-clause-report g c =
     let all = map so_far_of sites.items in
     let is : c.in_ok-nodes.nodes ≡ all = c.in_ok-nodes.ensures.same ∙ c.new-report.ensures in
     let told =
-    subst (λ (h : Held). AreToldSoFar g.S.Setup.config g.S.Setup.programs h.known all)
+    subst (λ (h : Held). AreToldSoFar g.S.Setup.config g.S.Setup.opened g.S.Setup.programs h.known
+    all)
     (sym c.learn.ensures.same) c.in_ok-sites.ensures.told in
     let long = length-map sites.items so_far_of in
     let both = c.in_ok-sites.ensures.all in
     let count = c.requires.nodes in
-    own_standstill (g.W.Work.done c.args.work.now) g.S.Setup.config c.requires.limits
+    own_standstill (g.W.Work.done c.args.work.now) g.S.Setup.config g.S.Setup.opened
+    c.requires.limits
     g.S.Setup.programs c.requires.programs c.in_ok-nodes.nodes outs.items c.learn.new.pass.known
     (ap length is ∙ omega (arith, long, both.0, count, sites.ok.0))
     (omega (arith, both.1, count, outs.ok.0))
-    (subst (AreToldSoFar g.S.Setup.config g.S.Setup.programs c.learn.new.pass.known) (sym is) told)
+    (subst (AreToldSoFar g.S.Setup.config g.S.Setup.opened g.S.Setup.programs
+    c.learn.new.pass.known) (sym is) told)
     c.learn.ensures.told c.in_ok-nodes.ensures.still
     (subst (λ l. AllStand (g.W.Work.done c.args.work.now) l outs.items) (sym is)
     c.in_ok-sites.ensures.stand)

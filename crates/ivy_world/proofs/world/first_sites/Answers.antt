@@ -13,9 +13,9 @@ loop-program-init g c =
       left = search rules;
       count = (let long = ap length gives.0 ∙ c.requires.each in omega (arith, long));
       all = ap
-          (λ x. x ++ first_sites_from c.args.config.now 0
+          (λ x. x ++ first_sites_from c.args.opening c.args.config.now 0
           (into_iter_items c.into_iter-program-iterator.result)) c.in_ok-sites.ensures.items
-          ∙ ap (first_sites_from c.args.config.now 0) gives.0;
+          ∙ ap (first_sites_from c.args.opening c.args.config.now 0) gives.0;
     }
 
 pub loop-program-preserved : goal.loop-program-preserved
@@ -31,9 +31,9 @@ loop-program-preserved g c =
       finite = search rules;
       left = omega arith;
       count = omega arith;
-      all = one_more_site c.args.config.now at.me at.sites.items c.in-Some.program
+      all = one_more_site c.args.opening c.args.config.now at.me at.sites.items c.in-Some.program
           (into_iter_items at.program-iterator) (into_iter_items c.next.new.self) steps
-          c.in_ok-keeping.field-0 c.in_ok-keeping.ensures.first c.push.new.self.items
+          c.in_ok-opened.field-0 c.in_ok-opened.ensures.first c.push.new.self.items
           c.in_ok-push.ensures.items ∙ at.invariant.all;
     }
 
@@ -44,5 +44,6 @@ returns-clause-first g c =
     let empty : into_iter_items at.program-iterator ≡ [] =
     nil_from_length _ (sym at.invariant.left ∙ none.0) in
     sym (append-nil at.sites.items)
-    ∙ ap (λ l. at.sites.items ++ first_sites_from c.args.config.now at.me l) (sym empty)
+    ∙ ap (λ l. at.sites.items ++ first_sites_from c.args.opening c.args.config.now at.me l)
+    (sym empty)
     ∙ at.invariant.all

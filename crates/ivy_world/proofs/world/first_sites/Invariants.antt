@@ -10,6 +10,7 @@ invariant-loop-program g l = record {
   finite : (goal.iterator-loop-program g).is_finite l.program-iterator;
   left : into_iter_len l.program-iterator ≡ length (into_iter_items l.program-iterator);
   count : l.me + length (into_iter_items l.program-iterator) ≡ l.config.nodes;
-  all : l.sites.items ++ first_sites_from l.config l.me (into_iter_items l.program-iterator)
-      ≡ first_sites_from l.config 0 l.fn.programs.items;
+  all : l.sites.items ++ first_sites_from l.opening l.config l.me
+      (into_iter_items l.program-iterator)
+      ≡ first_sites_from l.opening l.config 0 l.fn.programs.items;
 }

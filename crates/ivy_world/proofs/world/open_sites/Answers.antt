@@ -7,9 +7,10 @@ use Rattle.ivy_world.proofs.world.open_sites.Goals as goal
 
 pub loop-me-init : goal.loop-me-init
 loop-me-init g c =
-    ap (λ x. x ++ first_sites_from c.args.config.now 0 (own_code (c.args.config.now.nodes - 0)))
+    ap (λ x. x ++ first_sites_from c.args.opening c.args.config.now 0
+    (own_code (c.args.config.now.nodes - 0)))
     c.in_ok-sites.ensures.items
-    ∙ ap (λ n. first_sites_from c.args.config.now 0 (own_code n))
+    ∙ ap (λ n. first_sites_from c.args.opening c.args.config.now 0 (own_code n))
     (let same : c.args.config.now.nodes - 0 ≡ c.args.config.now.nodes = omega arith in same)
 
 pub loop-me-preserved : goal.loop-me-preserved
@@ -17,10 +18,10 @@ loop-me-preserved g c =
     let at = c.loop-me in
     let left : c.args.config.now.nodes - at.me ≡ suc (c.args.config.now.nodes - (at.me + 1)) =
     omega arith in
-    one_more_site c.args.config.now at.me at.sites.items (Called [])
+    one_more_site c.args.opening c.args.config.now at.me at.sites.items (Called [])
     (own_code (c.args.config.now.nodes - at.me))
     (own_code (c.args.config.now.nodes - (at.me + 1))) (ap own_code left)
-    c.in_ok-open_keeping.field-0 c.in_ok-open_keeping.ensures.first c.push.new.self.items
+    c.in_ok-open_by.field-0 c.in_ok-open_by.ensures.first c.push.new.self.items
     c.in_ok-push.ensures.items ∙ at.invariant
 
 pub returns-clause-first : goal.returns-clause-first
@@ -28,5 +29,6 @@ returns-clause-first g c =
     let at = c.loop-me in
     let none : c.args.config.now.nodes - at.me ≡ 0 = omega arith in
     sym (append-nil at.sites.items)
-    ∙ ap (λ n. at.sites.items ++ first_sites_from c.args.config.now at.me (own_code n)) (sym none)
+    ∙ ap (λ n. at.sites.items ++ first_sites_from c.args.opening c.args.config.now at.me
+    (own_code n)) (sym none)
     ∙ at.invariant

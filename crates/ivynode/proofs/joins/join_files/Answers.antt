@@ -12,6 +12,7 @@ returns-clause-joined g c =
     let logs = c.in_ok-logs.logs.items in
     on_ok_weaker c.join_logs.result
     (λ prints. record {
+      steady = prints.steady;
       config = prints.config;
       programs = c.in_ok-programs.programs.items;
       spelled = c.in_ok-programs.ensures.spelled;

@@ -11,8 +11,9 @@ use Rattle.ivy_ether.proofs.ether.Ether.give.Goals as goal
 pub another-requires-clause-rule : goal.another-requires-clause-rule
 another-requires-clause-rule g c =
     let config = g.S.Setup.config in
+    let opened = g.S.Setup.opened in
     let programs = g.S.Setup.programs in
-    gives (host_rules managed_ops) config (beginning config programs) handing _
+    gives (host_rules managed_ops) config (beginning config opened programs) handing _
     (view c.pass.inside.token) g.E.Given.events
-    (subst (λ (h : Held). MayGive config programs h.known g.E.Given.events)
+    (subst (λ (h : Held). MayGive config opened programs h.known g.E.Given.events)
     (sym c.pass.view_is) c.requires.events)

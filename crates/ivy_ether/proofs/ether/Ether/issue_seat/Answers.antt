@@ -3,6 +3,7 @@ use Rattle.crossbeam_queue.specs.Passes.{view}
 use Rattle.ivy_host.specs.Handing.{handing}
 use Rattle.ivy_host.specs.stated.Hosts.{host_rules}
 use Rattle.ivy_host.specs.stated.Managers.{managed_ops}
+use Rattle.ivy_host.specs.stated.Openings.{managed_start}
 use Rattle.ivy_ether.specs.Held.{Held}
 use Rattle.ivy_ether.specs.Programs.{beginning}
 use Rattle.std.proofs.Common.{true, ◌≡◌, ◌<◌}
@@ -14,6 +15,7 @@ use Rattle.ivy_ether.proofs.ether.Ether.issue_seat.Goals as goal
 pub push_as-requires-clause-rule : goal.push_as-requires-clause-rule
 push_as-requires-clause-rule g c =
     let config = g.S.Setup.config in
+    let opened = g.S.Setup.opened in
     let programs = g.S.Setup.programs in
     let starts =
     subst (λ (h : Held). h.known.starts ≡ true) (sym c.pass.view_is) c.requires.starter in
@@ -21,9 +23,9 @@ push_as-requires-clause-rule g c =
     subst (λ (h : Held). times c.args.node h.known.issued ≡ 0) (sym c.pass.view_is)
     c.requires.new in
     let inside =
-    subst (λ k. c.args.node < k) (sym (first_length managed_ops config 0 programs))
+    subst (λ k. c.args.node < k) (sym (first_length (managed_start opened) config 0 programs))
     c.requires.node in (
-      issues (host_rules managed_ops) config (beginning config programs) handing _ _
+      issues (host_rules managed_ops) config (beginning config opened programs) handing _ _
           (view c.pass.inside.token) c.args.node starts inside new,
       λ _ _ _ _. tt,
     )

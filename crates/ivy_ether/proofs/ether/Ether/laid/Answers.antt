@@ -8,10 +8,12 @@ use Rattle.ivy_ether.proofs.ether.Ether.laid.Goals as goal
 
 pub ruled-requires-clause-rule : goal.ruled-requires-clause-rule
 ruled-requires-clause-rule g c =
-    begins (host_rules managed_ops) g.S.Setup.config (beginning g.S.Setup.config g.S.Setup.programs)
+    begins (host_rules managed_ops) g.S.Setup.config
+    (beginning g.S.Setup.config g.S.Setup.opened g.S.Setup.programs)
     handing is_handing
 
 pub another-token-requires-clause-rule : goal.another-token-requires-clause-rule
 another-token-requires-clause-rule g c =
-    forks (host_rules managed_ops) g.S.Setup.config (beginning g.S.Setup.config g.S.Setup.programs)
+    forks (host_rules managed_ops) g.S.Setup.config
+    (beginning g.S.Setup.config g.S.Setup.opened g.S.Setup.programs)
     handing _ _

@@ -9,5 +9,7 @@ use Rattle.ivy_ether.proofs.ether.Ether.learn.Goals as goal
 pub learn_as-requires-clause-rule : goal.learn_as-requires-clause-rule
 learn_as-requires-clause-rule g c =
     let config = g.S.Setup.config in
+    let opened = g.S.Setup.opened in
     let programs = g.S.Setup.programs in
-    learns (host_rules managed_ops) config (beginning config programs) handing _ (view c.pass.inside.token)
+    learns (host_rules managed_ops) config (beginning config opened programs) handing _
+    (view c.pass.inside.token)

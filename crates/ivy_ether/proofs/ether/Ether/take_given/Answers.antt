@@ -11,10 +11,12 @@ use Rattle.ivy_ether.proofs.ether.Ether.take_given.Goals as goal
 pub pop_as-item-requires-clause-rule : goal.pop_as-item-requires-clause-rule
 pop_as-item-requires-clause-rule g c =
     let config = g.S.Setup.config in
+    let opened = g.S.Setup.opened in
     let programs = g.S.Setup.programs in
-    let may = subst (λ (h : Held). MayGive config programs h.known g.E.Given.events)
+    let may = subst (λ (h : Held). MayGive config opened programs h.known g.E.Given.events)
     (sym c.pass.view_is) c.requires.events in (
-      takes (host_rules managed_ops) config (beginning config programs) handing _ (view c.pass.inside.token)
+      takes (host_rules managed_ops) config (beginning config opened programs) handing _
+          (view c.pass.inside.token)
           g.E.Given.events may,
       λ _ _ _ _. tt,
     )
@@ -22,6 +24,8 @@ pop_as-item-requires-clause-rule g c =
 pub another-requires-clause-rule : goal.another-requires-clause-rule
 another-requires-clause-rule g c =
     let config = g.S.Setup.config in
+    let opened = g.S.Setup.opened in
     let programs = g.S.Setup.programs in
-    notes (host_rules managed_ops) config (beginning config programs) handing _ (view c.pop_as-item.new.pass)
+    notes (host_rules managed_ops) config (beginning config opened programs) handing _
+    (view c.pop_as-item.new.pass)
     _ _

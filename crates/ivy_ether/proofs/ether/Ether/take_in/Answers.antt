@@ -13,9 +13,10 @@ use Rattle.ivy_ether.proofs.ether.Ether.take_in.Goals as goal
 pub absorb-requires-clause-rule : goal.absorb-requires-clause-rule
 absorb-requires-clause-rule g c =
     let config = g.S.Setup.config in
+    let opened = g.S.Setup.opened in
     let programs = g.S.Setup.programs in
     let node = seat_there (view c.pass.inside.token).node
     (subst (λ (h : Held). IsSome h.known.node) (sym c.pass.view_is) c.requires.seated) in
-    closes (host_rules managed_ops) config (beginning config programs) handing is_handing _
+    closes (host_rules managed_ops) config (beginning config opened programs) handing is_handing _
     (view c.starter.inside.token) _ (view c.pass.inside.token) node.0 node.1
     (subst (λ (h : Held). h.known.reported ≡ false) (sym c.pass.view_is) c.requires.unreported)

@@ -9,8 +9,9 @@ use Rattle.ivy_ether.proofs.ether.Ether.take_report.Goals as goal
 pub pop_as-requires-clause-rule : goal.pop_as-requires-clause-rule
 pop_as-requires-clause-rule g c =
     let config = g.S.Setup.config in
+    let opened = g.S.Setup.opened in
     let programs = g.S.Setup.programs in (
-      tells (host_rules managed_ops) config (beginning config programs) handing _
+      tells (host_rules managed_ops) config (beginning config opened programs) handing _
           (view c.pass.inside.token),
       λ _ _ _ _. tt,
     )

@@ -12,9 +12,11 @@ use Rattle.ivy_ether.proofs.ether.Ether.take_seat.Goals as goal
 pub pop_as-requires-clause-rule : goal.pop_as-requires-clause-rule
 pop_as-requires-clause-rule g c =
     let config = g.S.Setup.config in
+    let opened = g.S.Setup.opened in
     let programs = g.S.Setup.programs in
     let none = subst (λ (h : Held). h.known.node ≡ None) (sym c.pass.view_is) c.requires.none in (
-      seats (host_rules managed_ops) config (beginning config programs) handing _ (view c.pass.inside.token)
+      seats (host_rules managed_ops) config (beginning config opened programs) handing _
+          (view c.pass.inside.token)
           none,
       λ _ _ _ _. tt,
     )

@@ -3,6 +3,6 @@ use Rattle.ivy_pagetable.proofs.wide_table.WideTable.install.Goals as goal
 
 pub returns : goal.returns
 returns g c =
-    page_set c.args.self.now c.self.inside.page_size c.self.inside.idle.items c.self.inside.locked
+    page_set c.args.self.now c.self.inside.page_size c.self.inside.idle.items c.self.inside.locked.items
     c.self.inside.pages.items c.self.view_is c.args.page c.copy_from.new.self c.args.bytes.now
     c.copy_from.ensures c.requires.sized

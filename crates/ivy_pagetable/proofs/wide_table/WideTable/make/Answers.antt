@@ -6,7 +6,7 @@ use Rattle.ivy_pagetable.proofs.wide_table.WideTable.make.Goals as goal
 pub returns : goal.returns
 returns g c =
     let page : OwnPage c.args.self.now c.self.inside.page_size c.self.inside.idle.items
-    c.self.inside.locked c.self.inside.pages.items c.args.page c.index_mut-own.result.now =
+    c.self.inside.locked.items c.self.inside.pages.items c.args.page c.index_mut-own.result.now =
     record {
       is = c.self.view_is;
       count = c.self.invariant.count;

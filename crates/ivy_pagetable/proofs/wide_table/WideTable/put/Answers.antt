@@ -5,7 +5,7 @@ use Rattle.ivy_pagetable.proofs.wide_table.WideTable.put.Goals as goal
 pub returns-clause-put : goal.returns-clause-put
 returns-clause-put g c h =
     let page : OwnPage c.args.self.now c.self.inside.page_size c.self.inside.idle.items
-    c.self.inside.locked c.self.inside.pages.items c.args.page c.index_mut-own.result.now =
+    c.self.inside.locked.items c.self.inside.pages.items c.args.page c.index_mut-own.result.now =
     record {
       is = c.self.view_is;
       count = c.self.invariant.count;

@@ -13,7 +13,8 @@ invariant_of-self-2 g c =
     let turns = c.in_ok-handed.ensures.turns in
     let longer =
     turns_longer c.args.asked.node c.in_ok-handed.handed.calls old.moves.items new.items turns in (
-      c.play_row.ensures.played (first_moment g.S.Setting.config) c.self.invariant.0,
+      c.play_row.ensures.played (first_moment g.S.Setting.opened g.S.Setting.config)
+          c.self.invariant.0,
       going Going c.play_row.new.world refl,
       c.self.invariant.2,
       c.self.invariant.3,

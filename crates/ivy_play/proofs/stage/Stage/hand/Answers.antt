@@ -15,7 +15,7 @@ invariant_of-self g c =
     let on : LeadsOn old.moves.items old.world old.moves.items c.hand.new.world =
     played_hand old.moves.items _ old.world c.hand.new.world c.hand.result c.hand.ensures.handed
     c.hand.ensures.refused in (
-      on (first_moment g.S.Setting.config) c.self.invariant.0,
+      on (first_moment g.S.Setting.opened g.S.Setting.config) c.self.invariant.0,
       going Going c.hand.new.world refl,
       c.self.invariant.2,
       c.self.invariant.3,

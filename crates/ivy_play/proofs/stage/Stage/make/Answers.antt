@@ -23,7 +23,8 @@ invariant_of-self g c = (
 pub invariant_of-self-2 : goal.invariant_of-self-2
 invariant_of-self-2 g c =
     let old = c.self.inside in (
-      c.play_move.ensures.played (first_moment g.S.Setting.config) c.self.invariant.0,
+      c.play_move.ensures.played (first_moment g.S.Setting.opened g.S.Setting.config)
+          c.self.invariant.0,
       going Going c.play_move.new.world refl,
       c.self.invariant.2,
       c.self.invariant.3,

@@ -7,7 +7,8 @@ use Rattle.ivy_play.proofs.stage.Stage.new.Goals as goal
 
 pub invariant_of-result : goal.invariant_of-result
 invariant_of-result g c = (
-  played_opening g.S.Setting.config c.new.result.items c.args.world c.new.ensures.items
+  played_opening g.S.Setting.opened g.S.Setting.config c.new.result.items c.args.world
+      c.new.ensures.items
       c.requires.opens,
   going Going c.args.world refl,
   c.requires.limits,

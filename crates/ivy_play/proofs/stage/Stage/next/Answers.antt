@@ -1,6 +1,7 @@
 use Rattle.std.proofs.Common.{rules, ◌∙◌}
 use Rattle.ivy_play.proofs.Counting.{all_drawn}
 use Rattle.ivy_play.proofs.Drawing.{given_asked, given_over}
+use Rattle.ivy_play.proofs.Playing.{is_played}
 use Rattle.ivy_play.proofs.stage.Stage.next.Goals as goal
 
 pub invariant_of-self-in-Some-2 : goal.invariant_of-self-in-Some-2
@@ -14,7 +15,9 @@ invariant_of-self-in-Some-2 g c =
       c.self.invariant.5,
       given_asked g.S.Setting.config g.S.Setting.gives old.moves.items old.world old.budget old.ahead
           old.held (g.M.MoveSource.gives old.source) (g.M.MoveSource.gives c.next.new.self) _ _
-          c.in_default.not-Some (search rules) c.in-Some-2.is c.self.invariant.0
+          c.in_default.not-Some (search rules) c.in-Some-2.is
+          (is_played g.S.Setting.opened g.S.Setting.config old.moves.items old.world
+          c.self.invariant.0)
           c.in_ok-step.ensures.next
           c.self.invariant.6,
     )

@@ -9,7 +9,8 @@ pub invariant_of-self : goal.invariant_of-self
 invariant_of-self g c =
     let old = c.self.inside in
     let more = c.find_still.ensures.more in (
-      c.find_still.ensures.played (first_moment g.S.Setting.config) c.self.invariant.0,
+      c.find_still.ensures.played (first_moment g.S.Setting.opened g.S.Setting.config)
+          c.self.invariant.0,
       going Going c.find_still.new.world refl,
       c.self.invariant.2,
       c.self.invariant.3,
@@ -25,7 +26,8 @@ pub invariant_of-self-2 : goal.invariant_of-self-2
 invariant_of-self-2 g c =
     let old = c.self.inside in
     let more = c.find_still.ensures.more in (
-      c.find_still.ensures.played (first_moment g.S.Setting.config) c.self.invariant.0,
+      c.find_still.ensures.played (first_moment g.S.Setting.opened g.S.Setting.config)
+          c.self.invariant.0,
       λ still. c.find_still.ensures.still (c.in_ok-is_still.was ∙ ap Ok (c.rest_of-self-inside.ensures still)),
       c.self.invariant.2,
       c.self.invariant.3,

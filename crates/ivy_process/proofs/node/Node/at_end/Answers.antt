@@ -30,6 +30,7 @@ returns c =
       by_log = record {
         me = ap (λ (x : SiteView). x.me) same ∙ on.me ∙ ap (λ (x : SiteView). x.me) was;
         config = ap (λ (x : SiteView). x.config) same ∙ on.config ∙ ap (λ (x : SiteView). x.config) was;
+        opened = ap (λ (x : SiteView). x.opened) same ∙ on.opened ∙ ap (λ (x : SiteView). x.opened) was;
         program = ap program_in same ∙ on.program
             ∙ ap (λ (p : Program). handed (one_by_one (calls_in c.deref.result.now)) p) (ap program_in was)
             ∙ ap (λ l. handed (one_by_one (calls_in l)) (program_in c.args.site)) c.deref.ensures.value;

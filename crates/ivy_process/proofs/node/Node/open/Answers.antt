@@ -7,11 +7,11 @@ use Rattle.ivy_site.specs.SiteView.{SiteView}
 use Rattle.ivy_join.specs.ReplaySites.{program_in}
 use Rattle.ivy_process.proofs.node.Node.open.Goals as goal
 
-pub open_keeping-requires-clause-limits : goal.open_keeping-requires-clause-limits
-open_keeping-requires-clause-limits c = c.requires.limits
+pub open_by-requires-clause-limits : goal.open_by-requires-clause-limits
+open_by-requires-clause-limits c = c.requires.limits
 
-pub open_keeping-requires-clause-here : goal.open_keeping-requires-clause-here
-open_keeping-requires-clause-here c = c.requires.here
+pub open_by-requires-clause-here : goal.open_by-requires-clause-here
+open_by-requires-clause-here c = c.requires.here
 
 pub returns-in_err-site : goal.returns-in_err-site
 returns-in_err-site c = IfOk-from_err c.from_residual.result _ c.from_residual.ensures.0
@@ -25,6 +25,7 @@ returns c =
     IfOk-weaker c.at_end.result _ _
     (λ node again. record {
       config = again.by_log.config ∙ ap (λ (x : SiteView). x.config) was;
+      opened = again.by_log.opened ∙ ap (λ (x : SiteView). x.opened) was ∙ c.opening_by.ensures;
       number = again.by_log.me ∙ ap (λ (x : SiteView). x.me) was;
       runs = again.by_log.program
           ∙ ap (λ (p : Program). handed (one_by_one (calls_in c.args.log.now.entries.items)) p) (ap program_in was);

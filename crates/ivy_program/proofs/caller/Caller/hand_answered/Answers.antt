@@ -10,12 +10,12 @@ use Rattle.ivy_program.proofs.caller.Caller.hand_answered.Goals as goal
 pub returns : goal.returns
 returns c = λ reply.
     let was = c.self.inside in
-    let none = none_left was.told.rows was.last was.left c.self.invariant
+    let none = none_left was.made.told was.last was.left c.self.invariant
     (subst HasEnded (sym c.self.view_is) c.requires.free) in
     subst (λ (rows : List (List Call)). awaiting rows was.left
     ≡ answered_with (process_handed ((c.args.call ∷ []) ∷ []) c.args.self.now) reply)
-    (sym c.push.ensures)
-    (subst (λ (p : Process). awaiting (was.told.rows ++ (c.args.call ∷ []) ∷ []) was.left
+    (sym c.append.ensures)
+    (subst (λ (p : Process). awaiting (was.made.told ++ (c.args.call ∷ []) ∷ []) was.left
     ≡ answered_with (process_handed ((c.args.call ∷ []) ∷ []) p) reply)
     c.self.view_is
-    (handed_answered was.told.rows was.left c.args.call reply none))
+    (handed_answered was.made.told was.left c.args.call reply none))

@@ -8,4 +8,4 @@ use Rattle.ivy_program.proofs.caller.Caller.is_free.Goals as goal
 pub returns-clause-next : goal.returns-clause-next
 returns-clause-next c = λ free.
     subst AsksNext c.self.view_is
-    (next_none c.self.inside.told.rows c.self.inside.left (eqb-true c.self.inside.left 0 free))
+    (next_none c.self.inside.made.told c.self.inside.left (eqb-true c.self.inside.left 0 free))

@@ -19,7 +19,7 @@ loop-seat-init g c =
       room = search rules;
       ether = c.requires.starter;
       count = ap length (sym none);
-      told = told_none g.S.Setup.config g.S.Setup.programs c.args.starter.now.known
+      told = told_none g.S.Setup.config g.S.Setup.opened g.S.Setup.programs c.args.starter.now.known
           (map so_far_of c.in_ok-sites.sites.items) (ap (map so_far_of) none);
       kept = subst (AllKeepSoFar c.args.keep) (sym (ap (map so_far_of) none))
           (All-nil (λ (n : NodeSoFar). n.keep ≡ c.args.keep));
@@ -42,7 +42,7 @@ loop-seat-preserved g c =
           omega (arith, len, cap, room, short);
       ether = c.in_ok-site.ensures.ether ∙ at.invariant.ether;
       count = search rules;
-      told = told_more g.S.Setup.config g.S.Setup.programs _ _ (map so_far_of at.sites.items) _
+      told = told_more g.S.Setup.config g.S.Setup.opened g.S.Setup.programs _ _ (map so_far_of at.sites.items) _
           (so_far_of c.in_ok-site.site) at.node
           (count ∙ sym (length-map at.sites.items so_far_of))
           (ap (map so_far_of) c.push_reserved.ensures.items
@@ -65,7 +65,7 @@ returns-in_default-clause-starter g c =
 
 pub returns-clause-told : goal.returns-clause-told
 returns-clause-told g c =
-    subst (AreToldSoFar g.S.Setup.config g.S.Setup.programs c.loop-seat.starter.known)
+    subst (AreToldSoFar g.S.Setup.config g.S.Setup.opened g.S.Setup.programs c.loop-seat.starter.known)
     (sym c.new.ensures) c.loop-seat.invariant.told
 
 pub returns-clause-keep : goal.returns-clause-keep

@@ -8,12 +8,12 @@ use Rattle.ivy_scope.proofs.watched.close.collect.Goals as goal
 pub returns-clause-report : goal.returns-clause-report
 returns-clause-report g c =
     let told =
-    subst (λ (h : Held). AreToldSoFar g.S.Setup.config g.S.Setup.programs h.known
+    subst (λ (h : Held). AreToldSoFar g.S.Setup.config g.S.Setup.opened g.S.Setup.programs h.known
     c.in_ok-report.report)
     (sym c.learn.ensures.same) c.in_ok-report.ensures.told in
     let many : length c.in_ok-report.report ≡ length g.S.Setup.programs =
     sym c.nodes.ensures ∙ c.if-nodes.false ∙ c.requires.nodes in
-    reported_so_far g.S.Setup.config g.S.Setup.programs c.requires.limits c.requires.each
+    reported_so_far g.S.Setup.config g.S.Setup.opened g.S.Setup.programs c.requires.limits c.requires.each
     c.in_ok-report.report c.learn.new.pass.known many told c.learn.ensures.told
 
 pub close_all-requires-clause-home : goal.close_all-requires-clause-home

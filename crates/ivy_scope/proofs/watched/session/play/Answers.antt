@@ -25,6 +25,9 @@ lay-requires g c = record {
 pub play_at-requires-clause-config : goal.play_at-requires-clause-config
 play_at-requires-clause-config g c = λ lifetimes outlives. c.requires.config
 
+pub play_at-requires-clause-opened : goal.play_at-requires-clause-opened
+play_at-requires-clause-opened g c = λ lifetimes outlives. c.requires.opened
+
 pub play_at-requires-clause-limits : goal.play_at-requires-clause-limits
 play_at-requires-clause-limits g c = λ lifetimes outlives. c.requires.limits
 

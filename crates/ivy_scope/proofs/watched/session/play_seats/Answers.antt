@@ -5,7 +5,7 @@ use Rattle.ivy_scope.proofs.watched.session.play_seats.Goals as goal
 
 pub returns-clause-played : goal.returns-clause-played
 returns-clause-played g c = record {
-  handed = subst (IsHandedSoFar g.S.Setup.config g.S.Setup.programs)
+  handed = subst (IsHandedSoFar g.S.Setup.config g.S.Setup.opened g.S.Setup.programs)
       (sym c.in_ok-looked.ensures.same) c.in_ok-report.ensures.report;
   kept = subst (AllKeepSoFar c.args.terms.now.keep) (sym c.in_ok-looked.ensures.same)
       c.in_ok-report.ensures.keep;

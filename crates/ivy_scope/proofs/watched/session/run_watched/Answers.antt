@@ -25,32 +25,32 @@ stop_is_not_bad r stop is =
 
 pub returns-clause-report : goal.returns-clause-report
 returns-clause-report g c =
-    if_written c.args.config c.args.programs.items c.args.terms.now.keep c.play.result
+    if_written c.args.config c.args.terms.now.opening c.args.programs.items c.args.terms.now.keep c.play.result
     (subst (All IsWritten) c.deref.ensures.value c.are_written.ensures) c.play.ensures.played
 
 pub returns-clause-keep : goal.returns-clause-keep
 returns-clause-keep g c =
-    if_kept c.args.config c.args.programs.items c.args.terms.now.keep c.play.result
+    if_kept c.args.config c.args.terms.now.opening c.args.programs.items c.args.terms.now.keep c.play.result
     c.play.ensures.played
 
 pub returns-clause-ended : goal.returns-clause-ended
 returns-clause-ended g c =
-    if_ended c.args.config c.args.programs.items c.args.terms.now.keep c.play.result
+    if_ended c.args.config c.args.terms.now.opening c.args.programs.items c.args.terms.now.keep c.play.result
     c.play.ensures.played
 
 pub returns-clause-still : goal.returns-clause-still
 returns-clause-still g c =
-    if_still c.args.config c.args.programs.items c.args.terms.now.keep c.play.result
+    if_still c.args.config c.args.terms.now.opening c.args.programs.items c.args.terms.now.keep c.play.result
     c.play.ensures.played
 
 pub returns-clause-unblocked : goal.returns-clause-unblocked
 returns-clause-unblocked g c =
-    if_unblocked c.args.config c.args.programs.items c.args.terms.now.keep c.play.result
+    if_unblocked c.args.config c.args.terms.now.opening c.args.programs.items c.args.terms.now.keep c.play.result
     (subst (All IsWritten) c.deref.ensures.value c.are_written.ensures) c.play.ensures.played
 
 pub returns-clause-settled : goal.returns-clause-settled
 returns-clause-settled g c =
-    if_settled c.args.config c.args.programs.items c.args.terms.now.keep c.play.result
+    if_settled c.args.config c.args.terms.now.opening c.args.programs.items c.args.terms.now.keep c.play.result
     (subst (All IsWritten) c.deref.ensures.value c.are_written.ensures) c.play.ensures.played
 
 pub returns-in_err-check-clause-report : goal.returns-in_err-check-clause-report
@@ -73,6 +73,9 @@ returns-in_err-check-clause-settled g c = IfOk-from_err c.from_residual.result _
 
 pub play-requires-clause-config : goal.play-requires-clause-config
 play-requires-clause-config g c = λ lifetimes outlives. refl
+
+pub play-requires-clause-opened : goal.play-requires-clause-opened
+play-requires-clause-opened g c = λ lifetimes outlives. refl
 
 pub play-requires-clause-programs : goal.play-requires-clause-programs
 play-requires-clause-programs g c = λ lifetimes outlives. refl

@@ -6,7 +6,8 @@ use Rattle.ivy_seating.proofs.seated.Seated.deliver.Goals as goal
 
 pub invariant_of-self : goal.invariant_of-self
 invariant_of-self g c =
-    delivered g.S.Setup.config g.S.Setup.programs _ c.deliver_shared.result c.args.string.now _ _ _
+    delivered g.S.Setup.config g.S.Setup.opened g.S.Setup.programs _ c.deliver_shared.result
+    c.args.string.now _ _ _
     c.deliver_shared.ensures.done
     (subst (λ p. Contains p.pass.known.took c.args.string.now) (sym c.self.view_is) c.requires.took)
     c.self.invariant

@@ -9,6 +9,7 @@ hand_row-requires-clause-seated g c = subst IsSome (sym c.self.invariant.node) r
 
 pub invariant_of-self : goal.invariant_of-self
 invariant_of-self g c =
-    row_seated g.S.Setup.config g.S.Setup.programs _ Loads c.args.addr _ c.self.inside.site
+    row_seated g.S.Setup.config g.S.Setup.opened g.S.Setup.programs _ Loads c.args.addr _
+    c.self.inside.site
     c.load_row-words.new.self c.self.inside.pass c.hand_row.new.pass c.load_row-words.ensures.loads c.hand_row.ensures.pass
     c.hand_row.ensures.known c.self.invariant

@@ -3,5 +3,5 @@ use Rattle.ivy_seating.proofs.seated.Seated.poll.Goals as goal
 
 pub invariant_of-self : goal.invariant_of-self
 invariant_of-self g c =
-    polled g.S.Setup.config g.S.Setup.programs _ c.poll.result _ _ _
+    polled g.S.Setup.config g.S.Setup.opened g.S.Setup.programs _ c.poll.result _ _ _
     c.poll.ensures.done c.self.invariant

@@ -10,6 +10,7 @@ loop-preserved g c = record {
     c.in-Ok-Some.ensures.same.0 ∙ c.loop.invariant.same.0,
     c.in-Ok-Some.ensures.same.1 ∙ c.loop.invariant.same.1,
     c.in-Ok-Some.ensures.same.2 ∙ c.loop.invariant.same.2,
+    c.in-Ok-Some.ensures.same.3 ∙ c.loop.invariant.same.3,
   );
   on = went_more c.args.from c.loop.counter c.in-Ok-Some.string c.args.self.now c.loop.self
       c.go_on_with.new.self c.loop.invariant.on

@@ -8,6 +8,8 @@ use Rattle.ivy_link.specs.contracts.verdict.Verdict.{the_type}
 use Rattle.ivy_link.specs.declared.Verdict.{Verdict}
 use Rattle.ivy_link.specs.declared.Verdict.TheVariants as verdict
 use Rattle.ivy_link.specs.Holding.{accepted_at}
+use Rattle.ivy_host.specs.declared.opening.Opening.{Opening}
+use Rattle.ivy_moves.specs.declared.keep.Keep.{Keep}
 use Rattle.ivy_moves.specs.Marks.{Mark, Delivery}
 use Rattle.ivy_link.specs.Outboxes.{Outbox, holding_of, with_holding}
 use Rattle.ivy_site.specs.SiteView.{SiteView, shown_of}
@@ -48,7 +50,7 @@ module _ (g : Over) (c : After-accept g) where
 
   -- what the fields are before the frame is accepted
   heard : IsHeard
-      (shown_of c.self.inside.keep
+      (shown_of c.self.inside.opening c.self.inside.keep
       (host_in c.self.inside.host)
       c.self.inside.outbox c.self.inside.events.marks)
       c.requires.spelled.0 c.offer-verdict.result
@@ -106,6 +108,13 @@ module _ (g : Over) (c : After-accept g) where
   -- what is kept of the past stays
   same_keep : c.if-eq-2.self-inside.keep ≡ c.self.inside.keep
   same_keep = elim c.if-eq-2.branch [
+    | then-eq-2+in-Some+in_ok-handle w ↦ rw w.self-inside-is refl
+    | then-eq-2+in_default w ↦ rw w.self-inside-is refl
+    | else-eq-2 w ↦ rw w.self-inside-is refl
+  ]
+
+  same_opening : c.if-eq-2.self-inside.opening ≡ c.self.inside.opening
+  same_opening = elim c.if-eq-2.branch [
     | then-eq-2+in-Some+in_ok-handle w ↦ rw w.self-inside-is refl
     | then-eq-2+in_default w ↦ rw w.self-inside-is refl
     | else-eq-2 w ↦ rw w.self-inside-is refl
@@ -185,9 +194,9 @@ invariant_of-self-in_err-handle g c =
 pub invariant_of-self-2 : goal.invariant_of-self-2
 invariant_of-self-2 g c =
     let after = (goal.at.invariant_of-self-2 g c).After-accept in (
-      subst (λ k. IsSite (shown_of k
+      subst (λ (p : Opening × Keep). IsSite (shown_of p.0 p.1
           (host_in c.if-eq-2.self-inside.host) c.accept.new.self c.list.new.events.marks))
-          (sym (same_keep g after))
+          (λ i. (sym (same_opening g after) i, sym (same_keep g after) i))
           (heard_site _ c.config-config.result c.requires.spelled.0 c.args.bytes.now
           c.offer-verdict.result c.config-config.ensures.fits
           (read_head c.args.self.now c.args.bytes.now c.args.bytes.now refl
@@ -218,10 +227,10 @@ returns-clause-done g c =
     c.requires.spelled c.head_of-head.result c.head_of-head.ensures _ c.self.view_is
     c.config-config.result c.config-config.ensures.is c.config-config.ensures.limits
     c.offer-verdict.result c.offer-verdict.ensures) in
-    subst (λ k. Hears c.args.bytes.now c.offer-verdict.result c.head_of-head.result.source
-    c.in_ok-held.held c.args.self.now (shown_of k
+    subst (λ (p : Opening × Keep). Hears c.args.bytes.now c.offer-verdict.result c.head_of-head.result.source
+    c.in_ok-held.held c.args.self.now (shown_of p.0 p.1
     (host_in c.if-eq-2.self-inside.host) c.accept.new.self c.list.new.events.marks))
-    (sym (same_keep g after))
+    (λ i. (sym (same_opening g after) i, sym (same_keep g after) i))
     (hears c.args.bytes.now c.offer-verdict.result c.head_of-head.result.source _ _ _
     (subst IsConfig config c.config-config.ensures.limits) c.requires.spelled.0
     c.requires.spelled.1

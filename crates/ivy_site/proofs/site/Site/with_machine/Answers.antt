@@ -7,6 +7,6 @@ pub invariant_of-result : goal.invariant_of-result
 invariant_of-result g c =
     let begins : c.args.machine ≡ record { program = c.args.machine.program; state = first_state } =
     ap (λ (s : State). record { program = c.args.machine.program; state = s }) c.requires.begins in (
-      first_site c.args.keep c.args.config.now c.args.me c.args.machine.program _ (search rules),
+      first_site c.args.opening c.args.keep c.args.config.now c.args.me c.args.machine.program _ (search rules),
       (search rules, search rules),
     )

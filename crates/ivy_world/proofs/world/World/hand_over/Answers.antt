@@ -14,7 +14,8 @@ invariant_of-self g c =
     ap (λ (r : Run). r.config.nodes) c.self.view_is in
     let below = c.requires.node in
     let l : c.args.node < length c.self.inside.sites.items = omega (arith, count, nodes, below) in
-    after_running c.self.inside.config c.self.inside.sites.items c.self.inside.sent.items
+    after_running c.self.inside.config c.self.inside.opening c.self.inside.sites.items
+    c.self.inside.sent.items
     c.self.inside.passed c.args.node ((c.args.call ∷ []) ∷ []) c.self.invariant.0 c.self.invariant.1 l
     c.hand.result c.hand.new.sites.items
     (record { ok = c.hand.ensures.ok; err = c.hand.ensures.err })
@@ -27,7 +28,8 @@ returns-clause-ok g c =
     let below = c.requires.node in
     let l : c.args.node < length c.self.inside.sites.items = omega (arith, count, nodes, below) in
     rw (← c.self.view_is)
-    (after_run c.self.inside.config c.self.inside.sites.items c.self.inside.sent.items
+    (after_run c.self.inside.config c.self.inside.opening c.self.inside.sites.items
+    c.self.inside.sent.items
     c.self.inside.passed c.args.node ((c.args.call ∷ []) ∷ []) c.self.invariant.0 c.self.invariant.1 l
     c.hand.result c.hand.new.sites.items
     (record { ok = c.hand.ensures.ok; err = c.hand.ensures.err }))
@@ -35,5 +37,6 @@ returns-clause-ok g c =
 pub returns-clause-err : goal.returns-clause-err
 returns-clause-err g c =
     rw (← c.self.view_is)
-    (after_refusal c.self.inside.config c.self.inside.sites.items c.self.inside.sent.items
+    (after_refusal c.self.inside.config c.self.inside.opening c.self.inside.sites.items
+    c.self.inside.sent.items
     c.hand.result c.hand.new.sites.items c.hand.ensures.err)

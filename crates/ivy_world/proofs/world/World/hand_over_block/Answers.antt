@@ -17,7 +17,8 @@ begin_block-requires-clause-waits g c =
 pub invariant_of-self : goal.invariant_of-self
 invariant_of-self g c =
     let a = c.args in
-    block_running c.self.inside.config c.self.inside.sites.items c.self.inside.sent.items
+    block_running c.self.inside.config c.self.inside.opening c.self.inside.sites.items
+    c.self.inside.sent.items
     c.self.inside.passed a.node c.self.invariant.0 c.self.invariant.1 c.begin_block.result
     (λ n. calls_of (row a.kind 0 a.addr (numbers_in n a.bytes.now)))
     c.begin_block.new.sites.items c.begin_block.new.sent.items c.begin_block.ensures.done
@@ -26,7 +27,8 @@ pub returns-clause-done : goal.returns-clause-done
 returns-clause-done g c =
     let a = c.args in
     rw (← c.self.view_is)
-    (block_begun c.self.inside.config c.self.inside.sites.items c.self.inside.sent.items
+    (block_begun c.self.inside.config c.self.inside.opening c.self.inside.sites.items
+    c.self.inside.sent.items
     c.self.inside.passed a.node c.self.invariant.0 c.self.invariant.1 c.begin_block.result
     (λ n. calls_of (row a.kind 0 a.addr (numbers_in n a.bytes.now)))
     c.begin_block.new.sites.items c.begin_block.new.sent.items c.begin_block.ensures.done)
@@ -63,7 +65,8 @@ returns-clause-cause g c =
     let a = c.args in
     let len : ℕ = length a.bytes.now in
     rw (← c.self.view_is)
-    (block_refused c.self.inside.config c.self.inside.sites.items c.self.inside.sent.items a.node
+    (block_refused c.self.inside.config c.self.inside.opening c.self.inside.sites.items
+    c.self.inside.sent.items a.node
     c.self.invariant.0 c.begin_block.result
     (λ s. calls_of (row a.kind 0 a.addr (numbers_in (row_together s a.kind a.addr a.words len) a.bytes.now)))
     (λ (m : Node (Host Managed)). calls_of (row a.kind 0 a.addr

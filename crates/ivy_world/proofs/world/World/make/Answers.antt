@@ -13,7 +13,8 @@ err_is (Err y) e x h k = ap Err h ∙ k
 
 pub make-requires-clause-spelled : goal.make-requires-clause-spelled
 make-requires-clause-spelled g c =
-    running_spelled c.self.inside.config c.self.inside.sites.items c.self.inside.sent.items
+    running_spelled c.self.inside.config c.self.inside.opening c.self.inside.sites.items
+    c.self.inside.sent.items
     c.self.invariant.0
 
 pub returns-in_err-did-clause-cause : goal.returns-in_err-did-clause-cause
@@ -29,7 +30,8 @@ returns-in_err-did-clause-named g c =
 
 pub invariant_of-self-2 : goal.invariant_of-self-2
 invariant_of-self-2 g c = (
-  runs_on c.self.inside.config c.self.inside.sites.items c.make.new.sites.items
+  runs_on c.self.inside.config c.self.inside.opening c.self.inside.sites.items
+      c.make.new.sites.items
       c.self.inside.sent.items c.make.new.sent.items c.args.step c.self.invariant.0
       c.in_ok-did.ensures.after.are c.in_ok-did.ensures.each c.in_ok-did.ensures.after.programs
       c.in_ok-did.ensures.after.made,
@@ -45,7 +47,7 @@ returns-clause-idle g c =
     rw (← c.self.view_is)
     (λ none.
     let is = c.in_ok-did.ensures.idle none in
-    (is.0, λ k. run_of c.self.inside.config (is.1 k) (is.2 k)))
+    (is.0, λ k. run_of c.self.inside.config c.self.inside.opening (is.1 k) (is.2 k)))
 
 pub returns-clause-did : goal.returns-clause-did
 returns-clause-did g c = rw (← c.self.view_is) c.in_ok-did.ensures.did

@@ -17,6 +17,7 @@ loop-place-preserved g c =
     c.loop-place.invariant.config c.in_default.ensures.ok in record {
       config = search rules;
       programs = search rules;
+      opened = search rules;
       led = rw (take_more c.args.moves.now c.loop-place.place (Turn 0) c.loop-place-test.true)
           (leads_one (host_rules managed_ops) c.args.self.now.config _ _ _ _ _
           c.loop-place.invariant.led made);

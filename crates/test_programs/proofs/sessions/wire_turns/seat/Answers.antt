@@ -3,7 +3,7 @@ use Rattle.ivy_model.specs.declared.Config.{Config}
 use Rattle.ivy_model.specs.stated.Config.{IsConfig}
 use Rattle.ivy_moves.specs.declared.keep.Keep.TheVariants.{All}
 use Rattle.ivy_site.specs.SiteView.{SiteView}
-use Rattle.ivy_site.specs.Sites.{first_keeping}
+use Rattle.ivy_site.specs.Sites.{first_keeping, first_opened}
 use Rattle.test_programs.proofs.sessions.wire_turns.seat.Goals as goal
 
 pub new-requires-2 : goal.new-requires-2
@@ -22,6 +22,8 @@ new-requires-2 g c =
         there = subst (λ i. slice_get g.S.Setup.programs i ≡ Some c.args.program) (sym me)
             c.requires.there;
         site = first
-            ∙ (λ k. first_keeping (sym keep k) (c.requires.config k) (sym me k) c.args.program);
+            ∙ (λ k. first_opened (sym c.requires.opened k) (sym keep k) (c.requires.config k)
+            (sym me k)
+            c.args.program);
       };
     }

@@ -1,9 +1,0 @@
--- The programs so far went in.
-use Rattle.std.proofs.Common.{◌≡◌, fold, take}
-use Rattle.ivy_logs.specs.Sums.{config_numbers, sum_on, with_program}
-use Rattle.ivy_logs.proofs.sum.sum_of_run.Given as goal
-
-abbrev pub invariant-loop-program : goal.invariant-loop-program
-invariant-loop-program g l =
-    l.total
-    ≡ fold with_program (sum_on 0xcbf2_9ce4_8422_2325 (config_numbers l.fn.config)) (take l.program-index l.programs)

@@ -1,6 +1,0 @@
--- It owns nothing.
-use denote.Param.Send.{IsSend}
-use Rattle.ivy_program.specs.contracts.story.Story.{the_row}
-
-pub send : IsSend the_row
-send = record { owned = λ d vs. ((λ vss. (tt, ((λ uss. (tt, tt)), tt))), tt); leaving = λ k f vs. tt }

@@ -1,0 +1,14 @@
+pub mod LateSteps
+pub mod LateNets
+pub mod LateMoves
+pub mod LateFacts
+pub mod LateKept
+pub mod LateSending
+pub mod LateAnswering
+pub mod LateRows
+pub mod LateWaits
+pub mod LateComes
+pub mod LateTable
+pub mod LateBack
+pub mod LateSteady
+pub mod LateProved

@@ -1,0 +1,11 @@
+pub mod Counted
+pub mod Chains
+pub mod NoneLate
+pub mod Delays
+pub mod SteadyRanks
+pub mod SteadyWorlds
+pub mod SteadyCalls
+pub mod SendingRows
+pub mod Senders
+pub mod SendsOn
+pub mod SentSteps

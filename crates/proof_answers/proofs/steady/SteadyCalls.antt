@@ -1,0 +1,15 @@
+-- Each call that is due is answered under steady hints.
+use Rattle.std.proofs.Common.{◌≡◌, ◌+◌, ◌*◌, ◌-◌, subst, arith}
+use Rattle.ivy_host.specs.declared.opening.Opening.TheVariants.{Steady}
+use Rattle.proof_answers.specs.answers.NodeRounds.{AreRounds}
+use Rattle.proof_answers.proofs.fairness.Calls.{due_answered}
+use Rattle.proof_answers.specs.steady.Steady.{SteadyCallsAnswered}
+use Rattle.proof_answers.proofs.steady.SteadyWorlds.{steady_rank}
+
+pub steady_answered : SteadyCallsAnswered
+steady_answered c programs w of i n there due end are =
+    let some = of.limits.nodes_from in
+    let e : 4 * c.nodes + 1 ≡ 4 * c.nodes - 2 + 3 = omega (arith, some) in
+    due_answered Steady c programs
+    (steady_rank c of.limits programs of.many) w of i n there due end
+    (subst (λ z. AreRounds c i z w end) e are)
