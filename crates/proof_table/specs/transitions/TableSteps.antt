@@ -219,7 +219,8 @@ bare s = record { had_copy = false; waiting = s.waiting }
 
 -- One step from this net and these pages of the flat memory to those, of which a manager has this
 -- notice. `sends` says whether requests are sent on where a copy is awaited, and not put off.
-pub data Row (sends : Bool) (c : Config) (n : Net) (f : ℕ → List ℕ) : Notice → Net → (ℕ → List ℕ) → Type 0 where
+pub data Row (sends : Bool) (c : Config) (n : Net) (f : ℕ → List ℕ)
+    : Notice → Net → (ℕ → List ℕ) → Type 0 where
   -- a word is carried out where access suffices
   carries : (r : Carries c n) → Row sends c n f Silent
       (installs n r.node r.page (carried_out r.word (n.page r.node r.page)).bytes)
