@@ -12,6 +12,7 @@ use Rattle.ivy_pagetable.specs.WordRows.{word_in, out_in}
 use Rattle.ivy_pagetable.specs.stated.Manager.{Ops}
 use Rattle.ivy_coherence.specs.declared.need.Need.TheVariants.{Have}
 use Rattle.ivy_coherence.specs.stated.Coherent.{Coherent}
+use Rattle.ivy_coherence.specs.stated.Fetching.{suits}
 use Rattle.ivy_coherence.specs.stated.PageFaults.{begun}
 
 -- the words of a row may be carried out at once, with this access to their page
@@ -33,11 +34,16 @@ abbrev pub all_taken : List Out → Bool
 all_taken [] = true
 all_taken (o ∷ os) = false
 
--- the words of a row have to be asked for, with this entry of their page: no word waits there, and
--- its access does not suffice
+-- the words of a row store
+abbrev pub stores : Row → Bool
+stores Loads = false
+stores Stores = true
+
+-- the words of a row would wait, with this entry of their page: its access does not suffice, or the
+-- page is fetched and they fit the fetch
 abbrev pub lacks_at : Entry → Row → Bool
 lacks_at (entry.Idle s) kind = not (permits s.access kind)
-lacks_at e kind = false
+lacks_at e kind = suits e (stores kind)
 
 -- words of this page would wait together: no word of this node waits for a page, no answer of words
 -- that waited along is left, and the page has to be asked for

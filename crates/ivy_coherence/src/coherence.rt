@@ -8,20 +8,24 @@ ghost use Rattle.ivy_wire.specs.Posts.{IsPostOf, HasPosted, HasRefused};
 ghost use Rattle.ivy_pagetable.specs.stated.Words.{IsWord, needs_write};
 ghost use Rattle.ivy_pagetable.specs.WordRows.{row_len};
 ghost use Rattle.ivy_pagetable.specs.Either.{MayBeUnmade};
+ghost use Rattle.ivy_pagetable.specs.stated.Entries.{is_locked};
+ghost use Rattle.ivy_pagetable.specs.stated.Tables.{entry_at};
 ghost use Rattle.ivy_pagetable.specs.stated.Accesses.{suffices};
 ghost use Rattle.ivy_coherence.specs.PageFaults.{IsIdleAt, HasToAsk, MayMakePage};
 ghost use Rattle.ivy_coherence.specs.stated.PageFaults.{fault_entry, fault_posted, faulted, begun, begun_row};
 ghost use Rattle.ivy_coherence.specs.Rests.{first_word, other_words};
-ghost use Rattle.ivy_coherence.specs.Hits.{permits, is_at_hand, has_to_wait, AreHits};
+ghost use Rattle.ivy_coherence.specs.Hits.{permits, stores, is_at_hand, has_to_wait, AreHits};
 ghost use Rattle.ivy_coherence.specs.Outcomes.{IsWantOfPage};
 ghost use Rattle.ivy_coherence.specs.stated.Several.{first_out, later_outs};
 ghost use Rattle.ivy_coherence.specs.Takes.{are_given, AreOutsTaken, given_there};
 ghost use Rattle.ivy_coherence.specs.stated.Sound.{new_coherent, first_coherent, IsSound};
 ghost use Rattle.ivy_pagetable.specs.Manager.{IsNew};
 
+use crate::fetching::MOST_FETCHED;
 use crate::need::Need;
 use crate::rest::{Rest, number_of, put_number, word_at};
 use crate::serving::invalidate;
+use arrayvec::ArrayVec;
 use ivy_model::{Config, Fault, Row};
 use ivy_pagetable::{
     Access, AwaitAcks, AwaitWrite, Entry, Idle, LentEntry, Manager, NodeTable, Out, Page, Waiting,
@@ -41,6 +45,8 @@ pub struct Coherence<M: Manager, A: Allocator> {
     pub(crate) table: NodeTable<A>,
     pub(crate) manager: M,
     pub(crate) locked: Option<u32>,
+    /// The pages that are fetched.
+    pub(crate) fetched: ArrayVec<u32, MOST_FETCHED>,
     pub(crate) done: Option<Out>,
     pub(crate) breaches: u64,
     /// The bytes of a page that comes are written here, and become the page of the table once the post
@@ -70,6 +76,7 @@ impl<M: Manager, A: Allocator> Model for Coherence<M, A> {
       table = c.table;
       manager = c.manager;
       locked = c.locked;
+      fetched = c.fetched.items;
       more = c.rest.words;
       done = c.done;
       done_more = c.rest.outs;
@@ -83,6 +90,7 @@ impl<M: Manager, A: Allocator> Model for Coherence<M, A> {
       table = c.table;
       manager = c.manager;
       locked = c.locked;
+      fetched = c.fetched.items;
       more = c.rest.words;
       done = c.done;
       done_more = c.rest.outs;
@@ -98,6 +106,16 @@ fn permits(access: Access, kind: Row) -> bool
     match kind {
         Row::Loads => access.reads(),
         Row::Stores => access.writes(),
+    }
+}
+
+/// Whether the words of a row store.
+fn stores(kind: Row) -> bool
+    ensures { result ≡ stores kind }
+{
+    match kind {
+        Row::Loads => false,
+        Row::Stores => true,
     }
 }
 
@@ -142,6 +160,7 @@ impl<M: Manager, A: Allocator + Copy> Coherence<M, A> {
         let table = NodeTable::new(alloc, config, me)?;
         let spare = Page::zeros(alloc, config.page_size as usize)?;
         let rest = Rest::new(alloc, config.page_size)?;
+        let fetched = ArrayVec::new();
         Ok(Coherence {
             config: *config,
             me,
@@ -149,6 +168,7 @@ impl<M: Manager, A: Allocator + Copy> Coherence<M, A> {
             table,
             manager,
             locked: None,
+            fetched,
             done: None,
             breaches: 0,
             spare,
@@ -261,7 +281,7 @@ impl<M: Manager, A: Allocator> Coherence<M, A> {
     }
 
     /// What the word's page is asked for by, and the entry that it waits at then.
-    fn fault<P: Post>(
+    pub(crate) fn fault<P: Post>(
         &self,
         page: u32,
         word: Word,
@@ -352,6 +372,7 @@ impl<M: Manager, A: Allocator> Coherence<M, A> {
         requires call { 1 ≤ call }
         requires post { IsPostOf P.ops post.old self.old.config self.old.me }
         ensures sure { OnErr result (HasToAsk self.old page word ⊎ MayMakePage self.old page word) }
+        ensures idle { OnErr result (is_locked (entry_at self.old.table page) ≡ false) }
         ensures need { IfOk result (λ need. need ≡ (begun M.ops self.old page word call).need) }
         ensures ok { OnOk result (self.new ≡ (begun M.ops self.old page word call).after) }
         ensures posted { OnOk result
@@ -390,6 +411,7 @@ impl<M: Manager, A: Allocator> Coherence<M, A> {
         requires call { 1 ≤ call }
         requires post { IsPostOf P.ops post.old self.old.config self.old.me }
         ensures sure { OnErr result (HasToAsk self.old page word ⊎ MayMakePage self.old page word) }
+        ensures idle { OnErr result (is_locked (entry_at self.old.table page) ≡ false) }
         ensures need { IfOk result (λ need. need ≡ (begun M.ops self.old page word call).need) }
         ensures ok { OnOk result (self.new ≡ (begun M.ops self.old page word call).after) }
         ensures posted { OnOk result
@@ -412,7 +434,7 @@ impl<M: Manager, A: Allocator> Coherence<M, A> {
                 Ok(Need::Started)
             }
             LentEntry::AwaitRead(_) | LentEntry::AwaitWrite(_) | LentEntry::AwaitAcks(_) => {
-                Ok(Need::Busy)
+                Ok(self.join(page, word))
             }
         }
     }
@@ -443,6 +465,7 @@ impl<M: Manager, A: Allocator> Coherence<M, A> {
         requires post { IsPostOf P.ops post.old self.old.config self.old.me }
         ensures sure { OnErr result (HasToAsk self.old page (first_word kind offset bytes.now)
             ⊎ MayMakePage self.old page (first_word kind offset bytes.now)) }
+        ensures idle { OnErr result (is_locked (entry_at self.old.table page) ≡ false) }
         ensures need { IfOk result (λ need.
             need ≡ (begun M.ops self.old page (first_word kind offset bytes.now) call).need) }
         ensures ok { OnOk result (self.new ≡ (begun_row M.ops self.old page
@@ -463,7 +486,7 @@ impl<M: Manager, A: Allocator> Coherence<M, A> {
         let need = self.need(page, word, call, post)?;
         match need {
             Need::Started => self.rest.wait(kind, offset + 8, words - 1, &bytes[8..]),
-            Need::Have(_) | Need::Busy => {}
+            Need::Have(_) | Need::Busy | Need::Fetched => {}
         }
         Ok(need)
     }
@@ -480,7 +503,8 @@ impl<M: Manager, A: Allocator> Coherence<M, A> {
         }
         match self.table.entry(page) {
             LentEntry::Idle(idle) => !permits(idle.access(), kind),
-            LentEntry::AwaitRead(_) | LentEntry::AwaitWrite(_) | LentEntry::AwaitAcks(_) => false,
+            LentEntry::AwaitRead(_) => !stores(kind),
+            LentEntry::AwaitWrite(_) | LentEntry::AwaitAcks(_) => stores(kind),
         }
     }
 

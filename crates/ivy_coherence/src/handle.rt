@@ -6,18 +6,20 @@ ghost use Rattle.ivy_wire.specs.Lent.{owned_message};
 ghost use Rattle.ivy_wire.specs.stated.Spelling.{FitsMessage};
 ghost use Rattle.ivy_wire.specs.Posts.{IsPostOf, HasRefused};
 ghost use Rattle.ivy_pagetable.specs.declared.Request.TheVariants as request;
-ghost use Rattle.ivy_pagetable.specs.stated.Entries.{is_locked};
-ghost use Rattle.ivy_pagetable.specs.stated.Tables.{entry_at};
+ghost use Rattle.ivy_pagetable.specs.stated.Entries.{is_locked, owning};
+ghost use Rattle.ivy_pagetable.specs.stated.Tables.{entry_at, page_at};
 ghost use Rattle.ivy_pagetable.specs.stated.NodeSets.{IsBelow};
 ghost use Rattle.ivy_coherence.specs.stated.IdleSound.{CanBeServed, AreOthers};
 ghost use Rattle.ivy_coherence.specs.EventLimits.{most_posted};
 ghost use Rattle.ivy_coherence.specs.Outcomes.{IsStep, IsWantOfPage};
 ghost use Rattle.ivy_coherence.specs.MessageSteps.{IsWaiting, IsCollecting};
+ghost use Rattle.ivy_coherence.specs.stated.Fetching.{without_page};
 ghost use Rattle.ivy_coherence.specs.stated.MessageSteps.{unlocked_as};
-ghost use Rattle.ivy_coherence.specs.stated.MessageSteps.{is_none, unlocked_by_reply, unlocked_by_last};
+ghost use Rattle.ivy_coherence.specs.stated.MessageSteps.{is_none, word_unlocked, fetch_unlocked, unlocked_by_reply, unlocked_by_last};
 ghost use Rattle.ivy_coherence.specs.stated.MessageSteps.{reply_as, sent_on, put_aside_at, given_up, asked_at, copy_came_at, owned_with, page_came_at, left_with, acknowledged_at, handled};
 
 use crate::coherence::Coherence;
+use crate::fetching::leave_out;
 use crate::serving::{Place, count, invalidate, serve_put_off};
 use ivy_model::Fault;
 use ivy_pagetable::{
@@ -214,8 +216,7 @@ impl<M: Manager, A: Allocator> Coherence<M, A> {
         Ok(())
     }
 
-    /// The page's bytes come for the word that waits, to read or to write. The word is carried out on a copy of
-    /// them, and the words that wait along with it; what was put off is served with that, and it becomes the page.
+    /// The page's bytes come, to read or to write: for the word that waits there, or for none, where the page was fetched.
     fn unlock<P: Post>(
         &mut self,
         from: u8,
@@ -233,6 +234,34 @@ impl<M: Manager, A: Allocator> Coherence<M, A> {
         requires post { IsPostOf P.ops post.old self.old.config self.old.me }
         ensures { IsStep P.ops post.old post.new result self.old self.new
             (unlocked_by_reply M.ops self.old from page kind bytes.now waiting.now) }
+    {
+        if self.waits_at(page) {
+            return self.word_came(from, page, kind, waiting, bytes, post);
+        }
+        self.fetch_came(from, page, kind, waiting, bytes, post)
+    }
+
+    /// The word is carried out on a copy of the bytes, and the words that wait along with it; what was put off is served
+    /// with that, and it becomes the page.
+    fn word_came<P: Post>(
+        &mut self,
+        from: u8,
+        page: u32,
+        kind: Request,
+        waiting: &Waiting,
+        bytes: &[u8],
+        post: &mut P,
+    ) -> Result<(), Fault>
+        requires from { from < self.old.config.nodes }
+        requires foreign { from ≢ self.old.me }
+        requires page { page < self.old.config.pages }
+        requires sized { length bytes.now ≡ self.old.config.page_size }
+        requires waits { IsWaiting (entry_at self.old.table page) kind waiting.now }
+        requires here { self.old.locked ≡ Some page }
+        requires post { IsPostOf P.ops post.old self.old.config self.old.me }
+        ensures { IsStep P.ops post.old post.new result self.old self.new
+            (word_unlocked M.ops self.old from page (unlocked_as kind) (reply_as kind waiting.now)
+            bytes.now waiting.now) }
     {
         self.spare.fill(bytes)?;
         let out = self.spare.carry_out(waiting.word());
@@ -253,6 +282,90 @@ impl<M: Manager, A: Allocator> Coherence<M, A> {
         self.rest.end();
         self.done = Some(out);
         self.locked = None;
+        Ok(())
+    }
+
+    /// The page's bytes come, and no word waits for them. What was put off is served, and they become the page; words that
+    /// wait elsewhere go on waiting.
+    fn fetch_came<P: Post>(
+        &mut self,
+        from: u8,
+        page: u32,
+        kind: Request,
+        waiting: &Waiting,
+        bytes: &[u8],
+        post: &mut P,
+    ) -> Result<(), Fault>
+        requires from { from < self.old.config.nodes }
+        requires foreign { from ≢ self.old.me }
+        requires page { page < self.old.config.pages }
+        requires sized { length bytes.now ≡ self.old.config.page_size }
+        requires waits { IsWaiting (entry_at self.old.table page) kind waiting.now }
+        requires elsewhere { self.old.locked ≢ Some page }
+        requires post { IsPostOf P.ops post.old self.old.config self.old.me }
+        ensures { IsStep P.ops post.old post.new result self.old self.new
+            (fetch_unlocked M.ops self.old from page (unlocked_as kind) (reply_as kind waiting.now)
+            bytes.now waiting.now) }
+    {
+        self.spare.fill(bytes)?;
+        let at = Place {
+            me: self.me,
+            from,
+            page,
+            bytes: self.spare.bytes(),
+        };
+        let after = serve_put_off(
+            at,
+            reply_as(kind, waiting),
+            unlocked_as(kind),
+            &mut self.manager,
+            &mut self.breaches,
+            waiting.put_offs(),
+            post,
+        )?;
+        self.table.set_entry(page, Entry::Idle(after));
+        let came = &mut self.spare;
+        self.table.exchange(page, came);
+        leave_out(&mut self.fetched, page);
+        Ok(())
+    }
+
+    /// The last copy of a page that is fetched to write was given up, and no word waits for that. What was put off is served.
+    fn fetch_ended<P: Post>(
+        &mut self,
+        from: u8,
+        page: u32,
+        waiting: &Waiting,
+        post: &mut P,
+    ) -> Result<(), Fault>
+        requires from { from < self.old.config.nodes }
+        requires foreign { from ≢ self.old.me }
+        requires page { page < self.old.config.pages }
+        requires waits { IsCollecting (entry_at self.old.table page) waiting.now }
+        requires elsewhere { self.old.locked ≢ Some page }
+        requires post { IsPostOf P.ops post.old self.old.config self.old.me }
+        ensures { IsStep P.ops post.old post.new result self.old self.new
+            (fetch_unlocked M.ops self.old from page owning None (page_at self.old.table page)
+            waiting.now) }
+    {
+        let at = Place {
+            me: self.me,
+            from,
+            page,
+            bytes: self.table.page(page),
+        };
+        let breaches = &mut self.breaches;
+        let after = serve_put_off(
+            at,
+            None,
+            Idle::owned(),
+            &mut self.manager,
+            breaches,
+            waiting.put_offs(),
+            post,
+        )?;
+        self.table.set_entry(page, Entry::Idle(after));
+        leave_out(&mut self.fetched, page);
         Ok(())
     }
 
@@ -407,7 +520,8 @@ impl<M: Manager, A: Allocator> Coherence<M, A> {
         Ok(())
     }
 
-    /// The last copy was given up: the word is carried out on the page here, and what was put off is served.
+    /// The last copy was given up: the word that waits is carried out on the page here, if one does, and what was put off is
+    /// served.
     fn write<P: Post>(
         &mut self,
         from: u8,
@@ -422,6 +536,30 @@ impl<M: Manager, A: Allocator> Coherence<M, A> {
         requires post { IsPostOf P.ops post.old self.old.config self.old.me }
         ensures { IsStep P.ops post.old post.new result self.old self.new
             (unlocked_by_last M.ops self.old from page waiting.now) }
+    {
+        if self.waits_at(page) {
+            return self.write_word(from, page, waiting, post);
+        }
+        self.fetch_ended(from, page, waiting, post)
+    }
+
+    /// The word that waits is carried out on the page here, and those that wait along with it.
+    fn write_word<P: Post>(
+        &mut self,
+        from: u8,
+        page: u32,
+        waiting: &Waiting,
+        post: &mut P,
+    ) -> Result<(), Fault>
+        requires from { from < self.old.config.nodes }
+        requires foreign { from ≢ self.old.me }
+        requires page { page < self.old.config.pages }
+        requires waits { IsCollecting (entry_at self.old.table page) waiting.now }
+        requires here { self.old.locked ≡ Some page }
+        requires post { IsPostOf P.ops post.old self.old.config self.old.me }
+        ensures { IsStep P.ops post.old post.new result self.old self.new
+            (word_unlocked M.ops self.old from page owning None (page_at self.old.table page)
+            waiting.now) }
     {
         if self.rest.is_waiting() {
             return self.write_all(from, page, waiting, post);
@@ -442,9 +580,11 @@ impl<M: Manager, A: Allocator> Coherence<M, A> {
         requires foreign { from ≢ self.old.me }
         requires page { page < self.old.config.pages }
         requires waits { IsCollecting (entry_at self.old.table page) waiting.now }
+        requires here { self.old.locked ≡ Some page }
         requires post { IsPostOf P.ops post.old self.old.config self.old.me }
         ensures { IsStep P.ops post.old post.new result self.old self.new
-            (unlocked_by_last M.ops self.old from page waiting.now) }
+            (word_unlocked M.ops self.old from page owning None (page_at self.old.table page)
+            waiting.now) }
     {
         self.spare.fill(self.table.page(page))?;
         let first = self.spare.carry_out(waiting.word());
@@ -488,10 +628,12 @@ impl<M: Manager, A: Allocator> Coherence<M, A> {
         requires foreign { from ≢ self.old.me }
         requires page { page < self.old.config.pages }
         requires waits { IsCollecting (entry_at self.old.table page) waiting.now }
+        requires here { self.old.locked ≡ Some page }
         requires alone { self.old.more ≡ [] }
         requires post { IsPostOf P.ops post.old self.old.config self.old.me }
         ensures { IsStep P.ops post.old post.new result self.old self.new
-            (unlocked_by_last M.ops self.old from page waiting.now) }
+            (word_unlocked M.ops self.old from page owning None (page_at self.old.table page)
+            waiting.now) }
     {
         let word = waiting.word();
         let before = Word::Store {

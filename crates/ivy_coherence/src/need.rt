@@ -7,6 +7,8 @@ pub enum Need {
     Have(Out),
     /// The entry is locked now, and the word waits for its page.
     Started,
-    /// An entry of this node is locked already; nothing changed.
+    /// A word of this node waits at an entry already; nothing changed.
     Busy,
+    /// The page is fetched otherwise than the word needs it; nothing changed, and the word waits at no entry.
+    Fetched,
 }

@@ -12,14 +12,17 @@ use Rattle.ivy_program.specs.Programs.{IsCalled}
 use Rattle.ivy_program.specs.OwnCode.{process_handed}
 use Rattle.ivy_program.specs.stated.InstructionSteps.{Asks, Process, answered_with, step_of}
 use Rattle.ivy_program.proofs.running.Handing.{handed_called}
+use Rattle.ivy_moves.specs.stated.Cores.{Outcome}
 use Rattle.ivy_host.specs.stated.Hosts.{Host, turn_of}
 use Rattle.ivy_host.specs.stated.Managers.{Managed, managed_ops}
-use Rattle.ivy_host.proofs.Programs.{posting-core}
+use Rattle.ivy_host.proofs.Programs.{asked-fetches, posting-core}
+use Rattle.ivy_host.proofs.Turns.{none-due}
 use Rattle.ivy_host.proofs.WellBehaved.{IsAskingHost, turn-asking}
 use Rattle.ivy_site.specs.Calls.{AreAnswered, AreTaken}
 use Rattle.ivy_site.specs.Handed.{site_handed}
 use Rattle.ivy_site.specs.SiteView.{SiteView}
-use Rattle.ivy_site.specs.Sites.{SiteTurns}
+use Rattle.ivy_site.specs.Sites.{AreUsed, SiteTurns}
+use Rattle.ivy_site.proofs.Calling.{used-due}
 use Rattle.ivy_embedded.specs.declared.lending.Lending.{Lending}
 use Rattle.ivy_embedded.specs.Exports.{AfterBegin, AfterCall}
 use Rattle.ivy_embedded.specs.Lending.{HasUnanswered, lending_in, may_ask, permits}
@@ -30,10 +33,11 @@ use Rattle.ivy_embedded.proofs.Holding.{IsHeld, MayWait, turned_held}
 abbrev pub core_of : SiteView → Host Managed
 core_of s = s.node.core
 
--- own code, whose calls in progress are those that it makes
+-- own code, whose calls in progress are those that it makes, and for which no fetch is due
 pub record IsOwn (n : Host Managed) : Type 0 where
   pub called : IsCalled n.process.program
   pub asking : IsAskingHost n
+  pub fetched : AreUsed n.fetches
 
 -- what a turn of a site comes to
 pub turned_core : (old new : SiteView) → (t : SiteTurns old new) → t.outcome.after ≡ core_of new
@@ -45,7 +49,8 @@ pub turned_so : (old new : SiteView) → IsOwn (core_of old) → SiteTurns old n
     → IsTurned (core_of old) (core_of new)
 turned_so old new own t =
     subst (IsTurned (core_of old)) (turned_core old new t)
-    (turn_turned managed_ops (core_of old) t.outcome own.called own.asking t.turn)
+    (turn_turned managed_ops (core_of old) t.outcome own.called own.asking
+    (used-due (core_of old) own.fetched) t.turn)
 
 called_on : (n new : Host Managed) → IsTurned n new → IsCalled n.process.program
     → IsCalled new.process.program
@@ -54,12 +59,22 @@ called_on n new t called = elim t.process [
   | inr answers ↦ rw answers.process called
 ]
 
+-- a turn at which no fetch is due leaves them as they are
+turned_used : (n : Host Managed) (o : Outcome (Host Managed)) → AreUsed n.fetches
+    → turn_of managed_ops n ≡ Some o → AreUsed o.after.fetches
+turned_used n o used is =
+    subst AreUsed
+    (sym (asked-fetches n n.memory.asked o
+    (sym (none-due managed_ops n (used-due n used)) ∙ is))) used
+
 pub turned_own : (old new : SiteView) → IsOwn (core_of old) → SiteTurns old new
     → IsOwn (core_of new)
 turned_own old new own t = record {
   called = called_on (core_of old) (core_of new) (turned_so old new own t) own.called;
   asking = subst IsAskingHost (turned_core old new t)
       (turn-asking managed_ops (core_of old) t.outcome own.asking t.turn);
+  fetched = subst (λ (n : Host Managed). AreUsed n.fetches) (turned_core old new t)
+      (turned_used (core_of old) t.outcome own.fetched t.turn);
 }
 
 pub turned_config : (old new : SiteView) → SiteTurns old new → new.config ≡ old.config
@@ -127,6 +142,7 @@ handed_own s more own none = record {
   called = handed_called more (core_of s).process.program own.called;
   asking = λ k at. absurd (none k
       (asks_unanswered (core_of s).process k own.called (own.asking k at).0));
+  fetched = own.fetched;
 }
 
 -- the calls that have no reply yet may be made, as their pages are lent

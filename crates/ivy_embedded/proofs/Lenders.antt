@@ -30,7 +30,7 @@ use Rattle.ivy_site.specs.Handed.{site_handed}
 use Rattle.ivy_site.specs.SiteView.{SiteView}
 use Rattle.ivy_site.specs.Inside.{Holds, Receives}
 use Rattle.ivy_host.specs.declared.opening.Opening.{Opening}
-use Rattle.ivy_site.specs.Sites.{GoesOnOnce, IsSite, SiteDelivers, first_opened, without_ready}
+use Rattle.ivy_site.specs.Sites.{AreUsed, GoesOnOnce, IsSite, SiteDelivers, first_opened, without_ready}
 use Rattle.ivy_wire.specs.stated.Data.{Frame}
 use Rattle.ivy_link.specs.declared.Verdict.{Verdict}
 use Rattle.ivy_link.specs.declared.Verdict.TheVariants as verdict
@@ -55,6 +55,7 @@ soundly s page l = record { each = l.each; first = l.first; had = l.had; calls =
 pub record IsKnown (s : SiteView) : Type 0 where
   pub config : (core_of s).memory.coherence.config ≡ s.config
   pub asking : IsAskingHost (core_of s)
+  pub fetched : AreUsed (core_of s).fetches
   pub limits : IsConfig s.config
   pub entries : length (core_of s).memory.coherence.table.entries ≡ s.config.pages
 
@@ -62,6 +63,7 @@ pub known : (s : SiteView) → IsSite s → IsSoundMemory managed_ops (core_of s
 known s site memory = record {
   config = site.config;
   asking = site.asking;
+  fetched = site.fetched;
   limits = subst IsConfig site.config memory.coherent.limits;
   entries = memory.coherent.entries ∙ ap (λ (c : Config). c.pages) site.config;
 }
@@ -69,7 +71,7 @@ known s site memory = record {
 module _ (old : SiteView) (lent : List Lending) (page : ℕ) (l : IsLender old lent page)
     (k : IsKnown old) where
   own : IsOwn (core_of old)
-  own = record { called = l.own; asking = k.asking }
+  own = record { called = l.own; asking = k.asking; fetched = k.fetched }
 
   pub settled : IsFree (core_of old).process → IsSettled lent old
   settled free = record {
@@ -261,7 +263,13 @@ pub gone_lender : (old new : SiteView) (lent : List Lending) (page : ℕ) (from 
 gone_lender old new lent page from bytes l k none g =
     delivers_lender (without_ready old from) lent page
     (other_strings old (without_ready old from) lent page refl refl l)
-    (record { config = k.config; asking = k.asking; limits = k.limits; entries = k.entries }) bytes
+    (record {
+      config = k.config;
+      asking = k.asking;
+      fetched = k.fetched;
+      limits = k.limits;
+      entries = k.entries;
+    }) bytes
     verdict.Next new g.next
     (λ left leaves. none left (record {
       frame = leaves.frame;

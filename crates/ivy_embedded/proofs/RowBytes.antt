@@ -40,12 +40,14 @@ use Rattle.ivy_memory.proofs.batches.AtOnce.{row_begins}
 use Rattle.ivy_program.specs.Programs.{IsCalled}
 use Rattle.ivy_program.specs.stated.InstructionSteps.{Step, Asks, Ends, Local, along_of, step_of}
 use Rattle.ivy_moves.specs.stated.Cores.{Outcome}
-use Rattle.ivy_host.specs.stated.Hosts.{Host, begins_as, begins_with, number_of, recorded, steps, turn_of, turned_at}
+use Rattle.ivy_host.specs.stated.Hosts.{Host, begins_as, begins_with, due, number_of, recorded, steps, turn_of, turned_at}
 use Rattle.ivy_host.specs.stated.Managers.{Managed, managed_ops}
 use Rattle.ivy_host.proofs.Programs.{guarded}
+use Rattle.ivy_host.proofs.Turns.{none-due}
 use Rattle.ivy_site.specs.Calls.{AreAnswered, BeginsCall}
 use Rattle.ivy_site.specs.Handed.{site_handed}
 use Rattle.ivy_site.specs.SiteView.{SiteView}
+use Rattle.ivy_site.proofs.Calling.{used-due}
 use Rattle.ivy_embedded.specs.declared.lending.Lending.{Lending}
 use Rattle.ivy_embedded.proofs.Delivered.{table_of}
 use Rattle.ivy_embedded.proofs.Going.{IsSettled, answered_config, answered_settled, core_of, handed_own, turned_core}
@@ -153,10 +155,10 @@ module _ (n : Host Managed) (r : Record) (o : Outcome (Host Managed))
   given_at None none called at = given_step (step_of n.process) called refl at
   given_at (Some k) none called at = absurd (none-some k (sym none))
 
-  given_turn : n.memory.asked ≡ None → IsCalled n.process.program
+  given_turn : n.memory.asked ≡ None → IsCalled n.process.program → due n ≡ None
       → turn_of managed_ops n ≡ Some o → IsGivenBy n r o.after
-  unfolding turn_of
-  given_turn none called at = given_at n.memory.asked none called at
+  given_turn none called undue at =
+      given_at n.memory.asked none called (sym (none-due managed_ops n undue) ∙ at)
 
 -- what an access that is had at once does to its page
 abbrev IsHad : Coherent Managed → ℕ → Word → Begun Managed → Type 0
@@ -173,6 +175,8 @@ had_rows c page w call = record {
   read = λ i none at short reads o is. absurd cc;
   write = λ i none at short writes other o is. absurd cc;
   owner = λ i none at short writes own o is. absurd cc;
+  joins = λ e none at fits o is. absurd cc;
+  beside = λ e none at lock unfit o is. absurd cc;
 }
 
 -- a call whose word was had
@@ -195,6 +199,7 @@ answered_by_need m k more number b r (need.Have o) at given =
     answered_by_reply m k number b r o (reply_of o) at refl given
 answered_by_need m k more number b r need.Started at given = absurd cc
 answered_by_need m k more number b r need.Busy at given = absurd cc
+answered_by_need m k more number b r need.Fetched at given = absurd cc
 
 -- a word of a row was had: its page changed so, and no other page did
 pub record IsWordHad (kind : Row) (addr number : ℕ) (old new : NodeMemory Managed) : Type 0 where
@@ -319,7 +324,7 @@ module _ (lent : List Lending) (c : Config) (limits : IsConfig c) (kind : Row) (
       let given = given_turn (core_of handed)
       (record { node = number_of (core_of old); call = r.call; reply = r.reply })
       h.turns.outcome (ap (λ (n : Host Managed). n.history) after ∙ h.recorded)
-      (settled_asks lent old settled) own.called h.turns.turn in
+      (settled_asks lent old settled) own.called (used-due (core_of handed) own.fetched) h.turns.turn in
       subst (IsWordHad kind addr number (core_of old).memory)
       (sym given.1 ∙ ap (λ (n : Host Managed). n.memory) after)
       (word_had (core_of old).memory kind me addr number (along_of (core_of handed).process)

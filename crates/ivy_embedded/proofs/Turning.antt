@@ -17,6 +17,8 @@ use Rattle.ivy_pagetable.specs.stated.Manager.{Ops}
 use Rattle.ivy_coherence.specs.declared.need.Need.{Need}
 use Rattle.ivy_coherence.specs.declared.need.Need.TheVariants as need
 use Rattle.ivy_coherence.specs.stated.Coherent.{Coherent}
+use Rattle.ivy_coherence.specs.stated.Fetching.{suits, joined_by}
+use Rattle.ivy_pagetable.specs.stated.Words.{needs_write}
 use Rattle.ivy_coherence.specs.stated.PageFaults.{Begun, along, begun, started}
 use Rattle.ivy_coherence.proofs.keeping.EventTable.{AccessRows, begun-by_rows}
 use Rattle.ivy_alloc.specs.declared.CallProgress.{CallProgress}
@@ -29,8 +31,9 @@ use Rattle.ivy_memory.specs.stated.Memories.{NodeMemory, CallBegun, again, again
 use Rattle.ivy_program.specs.Programs.{IsCalled}
 use Rattle.ivy_program.specs.stated.InstructionSteps.{Process, Step, Asks, Ends, Local, along_of, answered_with, at_state, step_of}
 use Rattle.ivy_moves.specs.stated.Cores.{Outcome}
-use Rattle.ivy_host.specs.stated.Hosts.{Host, begins, begins_as, begins_with, number_of, recorded, steps, turn_of, turned_at}
+use Rattle.ivy_host.specs.stated.Hosts.{Host, begins, begins_as, begins_with, due, number_of, recorded, steps, turn_of, turned_at}
 use Rattle.ivy_host.proofs.Programs.{guarded}
+use Rattle.ivy_host.proofs.Turns.{none-due}
 use Rattle.ivy_host.proofs.WellBehaved.{IsAskingHost, asks_first}
 use Rattle.ivy_embedded.proofs.Unanswered.{local_less}
 
@@ -79,6 +82,14 @@ module _ {S : Type 0} (ops : Ops S) (p : ℕ) (s : IdleState) where
     | inr y ↦ inl (get_or-set_other c.table.entries page p e nothing y.1 ∙ is)
   ]
 
+  -- a word joins at another page's entry
+  joins_other : (c : Coherent S) (page : ℕ) (w : Word) (e : Entry)
+      → entry_at c.table p ≡ entry.Idle s → entry_at c.table page ≡ e
+      → suits e (needs_write w) ≡ true → p ≢ page
+  joins_other c page w e is at fits same =
+      let idle : e ≡ entry.Idle s = sym at ∙ (ap (entry_at c.table) (sym same) ∙ is) in
+      let f : false ≡ true = ap (λ (x : Entry). suits x (needs_write w)) (sym idle) ∙ fits in absurd cc
+
   access-rows : (c : Coherent S) (page : ℕ) (w : Word) (call : ℕ)
       → entry_at c.table p ≡ entry.Idle s → AccessRows ops c page w call (IsBegunAt page w p s)
   access-rows c page w call is = record {
@@ -87,6 +98,9 @@ module _ {S : Type 0} (ops : Ops S) (p : ℕ) (s : IdleState) where
     read = λ i none at short reads. started_at c page w _ i is at short;
     write = λ i none at short writes other. started_at c page w _ i is at short;
     owner = λ i none at short writes own. started_at c page w _ i is at short;
+    joins = λ e none at fits. inl (get_or-set_other c.table.entries page p (joined_by e w) nothing
+        (λ same. joins_other c page w e is at fits same) ∙ is);
+    beside = λ e none at lock unfit. inl is;
   }
 
   begun_at_entry : (c : Coherent S) (page : ℕ) (w : Word) (call : ℕ)
@@ -125,6 +139,8 @@ module _ {S : Type 0} (ops : Ops S) (p : ℕ) (s : IdleState) where
   needed_kept m k more number page w b need.Started at of h is =
       waiting_kept m k more number page w b of h
   needed_kept m k more number page w b need.Busy at of h is = inl is
+  needed_kept m k more number page w b need.Fetched at of h is =
+      inl (at_once page w b h (λ f. let g : need.Fetched ≡ need.Started = sym at ∙ f in absurd cc))
 
   begun_as_kept : (m : NodeMemory S) (k : Call) (calls : List Call) (number : ℕ) (a : Asked)
       → asked_of m.coherence.config k ≡ a → entry_at m.coherence.table p ≡ entry.Idle s
@@ -159,6 +175,7 @@ module _ {S : Type 0} (ops : Ops S) (p : ℕ) (s : IdleState) where
   tried_need m k page w b need.Started at of h is =
       waiting_kept (without_call m) k nothing_beside m.number page w b of h
   tried_need m k page w b need.Busy at of h is = inl is
+  tried_need m k page w b need.Fetched at of h is = inl is
 
   tried_kept : (m : NodeMemory S) (k : Call) (a : Asked) → asked_of m.coherence.config k ≡ a
       → entry_at m.coherence.table p ≡ entry.Idle s → IsKeptBy m k p s (tried_as ops m k a)
@@ -248,7 +265,8 @@ module _ {S : Type 0} (ops : Ops S) where
   turned_at_turned n None o called asking at is =
       stepped_turned n (step_of n.process) o called refl is
 
+  -- where no fetch is due
   pub turn_turned : (n : Host S) (o : Outcome (Host S)) → IsCalled n.process.program
-      → IsAskingHost n → turn_of ops n ≡ Some o → IsTurned n o.after
-  unfolding turn_of
-  turn_turned n o called asking is = turned_at_turned n n.memory.asked o called asking refl is
+      → IsAskingHost n → due n ≡ None → turn_of ops n ≡ Some o → IsTurned n o.after
+  turn_turned n o called asking none is =
+      turned_at_turned n n.memory.asked o called asking refl (sym (none-due ops n none) ∙ is)

@@ -8,11 +8,14 @@ use Rattle.ivy_program.specs.stated.InstructionSteps.{Step, Local, Asks, Ends, s
 use Rattle.ivy_moves.specs.stated.Cores.{Outcome}
 use Rattle.ivy_alloc.specs.declared.CallProgress.{CallProgress}
 use Rattle.ivy_alloc.specs.declared.CallProgress.TheVariants.{Given, Awaited, Unserved}
-use Rattle.ivy_memory.specs.stated.Memories.{CallBegun, call_begun, polled}
-use Rattle.ivy_host.specs.stated.Hosts.{Host, recorded, quietly, begins, begins_as, begins_with, steps, turned_at, turn_of, serving}
+use Rattle.ivy_coherence.proofs.keeping.Same.{fetch-same}
+use Rattle.ivy_memory.specs.stated.Memories.{CallBegun, MemoryFetch, call_begun, polled}
+use Rattle.ivy_host.specs.stated.Fetches.{HandedFetch}
+use Rattle.ivy_host.specs.stated.Hosts.{Host, recorded, quietly, begins, begins_as, begins_with, steps, turned_at, turn_of, fetch_of, serving}
 use Rattle.ivy_memory.proofs.keeping.WellBehaved.{SameNode, call-same}
 use Rattle.ivy_memory.proofs.keeping.Polling.{polled-same}
 use Rattle.ivy_memory.proofs.keeping.Same.{told-same}
+use Rattle.ivy_host.proofs.Turns.{either_turn, either_fetch}
 
 module _ {S : Type 0} (ops : Ops S) where
   abbrev IsSame : Host S → Outcome (Host S) → Type 0
@@ -57,11 +60,20 @@ module _ {S : Type 0} (ops : Ops S) where
       with-same n c a a.answer o (polled-same ops n.memory) is
   at-same n None o is = steps-same n (step_of n.process) o is
 
+  fetch_of-same : (n : Host S) (f : HandedFetch)
+      → SameNode n.memory.coherence (fetch_of ops n f).after.coherence
+  fetch_of-same n f =
+      either_fetch ops (λ (x : MemoryFetch S). SameNode n.memory.coherence x.after.coherence) n f
+      (record { config = refl; me = refl; sends_on = refl })
+      (λ inside below.
+      (let is = fetch-same ops n.memory.coherence f.page f.write (length n.history + 1) in
+      record { config = is.config; me = is.me; sends_on = is.sends_on }))
+
   -- the node stays who it is
   pub turn-same : (n : Host S) (o : Outcome (Host S)) → turn_of ops n ≡ Some o
       → SameNode n.memory.coherence o.after.memory.coherence
-  unfolding turn_of
-  turn-same n o is = at-same n n.memory.asked o is
+  turn-same n o is =
+      either_turn ops (IsSame n) n o (at-same n n.memory.asked o) (fetch_of-same n) is
 
   pub serving-same : (n : Host S) (from : ℕ) (m : Message)
       → SameNode n.memory.coherence (serving ops n from m).after.memory.coherence

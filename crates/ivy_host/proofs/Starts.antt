@@ -1,5 +1,5 @@
 -- What nodes begin with.
-use Rattle.std.proofs.Common.{◌≡◌, ℕ, ◌<◌, refl}
+use Rattle.std.proofs.Common.{ℕ, ◌<◌}
 use Rattle.ivy_model.specs.declared.Config.{Config}
 use Rattle.ivy_model.specs.stated.Config.{IsConfig}
 use Rattle.ivy_pagetable.specs.stated.Manager.{Ops}
@@ -9,7 +9,7 @@ use Rattle.ivy_dynamic.specs.DynamicLaws.{steady_new}
 use Rattle.ivy_coherence.proofs.keeping.SoundEntries.{first_new}
 use Rattle.ivy_host.specs.declared.opening.Opening.{Opening}
 use Rattle.ivy_host.specs.declared.opening.Opening.TheVariants.{Configured, Steady}
-use Rattle.ivy_host.specs.stated.Managers.{Managed, Dynamic, managed_ops}
+use Rattle.ivy_host.specs.stated.Managers.{Dynamic, managed_ops}
 use Rattle.ivy_host.specs.stated.Openings.{Start, managed_start}
 use Rattle.ivy_host.specs.ManagedLaws.{managed_laws}
 

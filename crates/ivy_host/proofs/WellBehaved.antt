@@ -16,7 +16,9 @@ use Rattle.ivy_wire.specs.stated.Data.{Message}
 use Rattle.ivy_wire.specs.stated.Spelling.{FitsMessage, FitsParcel}
 use Rattle.ivy_pagetable.specs.stated.Manager.{Ops}
 use Rattle.ivy_pagetable.specs.Manager.{Laws, IsNew}
+use Rattle.ivy_coherence.proofs.keeping.Accesses.{fetch-keeps}
 use Rattle.ivy_coherence.proofs.keeping.IdleServing.{all_none}
+use Rattle.ivy_coherence.proofs.keeping.Same.{fetch-same}
 use Rattle.ivy_program.specs.stated.Programs.{Program}
 use Rattle.ivy_program.specs.stated.InstructionSteps.{Process, Step, Local, Asks, Ends, step_of, at_state, answered_with, AsksRow, along_of}
 use Rattle.ivy_program.proofs.running.Along.{asks_along, along_wide}
@@ -27,13 +29,16 @@ use Rattle.ivy_moves.specs.Following.{IsWellBehaved}
 use Rattle.ivy_moves.specs.stated.Following.{IsOpening}
 use Rattle.ivy_alloc.specs.declared.CallProgress.{CallProgress}
 use Rattle.ivy_alloc.specs.declared.CallProgress.TheVariants.{Given, Awaited, Unserved}
-use Rattle.ivy_memory.specs.stated.Memories.{NodeMemory, CallBegun, call_begun, polled}
+use Rattle.ivy_memory.specs.stated.Memories.{NodeMemory, CallBegun, MemoryFetch, call_begun, memory_fetched, polled}
 use Rattle.ivy_memory.specs.stated.Sound.{IsSoundMemory}
+use Rattle.ivy_host.specs.stated.Fetches.{HandedFetch}
 use Rattle.ivy_host.specs.stated.Sound.{IsSoundHost}
-use Rattle.ivy_host.specs.stated.Hosts.{Host, recorded, quietly, begins_with, begins_as, begins, steps, turned_at, turn_of, serving, host_rules}
+use Rattle.ivy_host.specs.stated.Hosts.{Host, recorded, quietly, begins_with, begins_as, begins, steps, turned_at, turn_of, fetch_of, fetched_with, serving, host_rules}
 use Rattle.ivy_host.specs.stated.Openings.{Start, first_host, first_node, first_nodes, opening}
 use Rattle.ivy_host.proofs.Starts.{IsStart}
-use Rattle.ivy_memory.proofs.keeping.WellBehaved.{SameNode, KeepsMemory, new_sound-memory, told-sound, call-sound}
+use Rattle.ivy_host.proofs.Turns.{either_turn, either_fetch}
+use Rattle.ivy_memory.proofs.keeping.WellBehaved.{SameNode, KeepsMemory, new_sound-memory, told_memory, told-sound, call-sound}
+use Rattle.ivy_memory.proofs.keeping.Fetches.{fetch-told}
 use Rattle.ivy_memory.proofs.keeping.Begun.{GoesOn, IsBegunAs, IsBegun, call-begun}
 use Rattle.ivy_memory.proofs.keeping.Polling.{polled-keeps, polled-begun}
 use Rattle.ivy_memory.proofs.keeping.Same.{told-same, told-asked, told-along, told-number}
@@ -113,11 +118,18 @@ module _ {S : Type 0} (ops : Ops S) where
       (polled-begun ops n.memory k at) is
   at-asking n None o asking at is = steps-asking n (step_of n.process) o at refl is
 
+  fetched-asking : (n : Host S) → IsAskingHost n → (f : HandedFetch)
+      → IsAskingHost (fetched_with n (fetch_of ops n f)).after
+  fetched-asking n asking f =
+      either_fetch ops (λ (x : MemoryFetch S). IsAskingHost (fetched_with n x).after) n f asking
+      (λ inside below. asking)
+
   -- after a turn, the calls in progress are those that the program makes, if it was so before
   pub turn-asking : (n : Host S) (o : Outcome (Host S)) → IsAskingHost n → turn_of ops n ≡ Some o
       → IsAskingHost o.after
-  unfolding turn_of
-  turn-asking n o asking is = at-asking n n.memory.asked o asking refl is
+  turn-asking n o asking is =
+      either_turn ops (λ (x : Outcome (Host S)). IsAskingHost x.after) n o
+      (at-asking n n.memory.asked o asking refl) (fetched-asking n asking) is
 
   -- and so after a message, if it was so before
   pub serve-asking : (n : Host S) (from : ℕ) (m : Message) → IsAskingHost n
@@ -222,10 +234,30 @@ module _ {S : Type 0} {ops : Ops S} (laws : Laws ops) where
       (at-asking ops n (Some k) o s.asking at is) is
   at-well_behaved c i n None o s at is = steps-well_behaved c i n _ o s at refl is
 
+  -- a fetch leaves the call in progress and its number as they are
+  fetched-well_behaved : (c : Config) (i : ℕ) (n : Host S) (f : HandedFetch) → IsSoundHost ops c i n
+      → KeepsWellBehaved c i (fetched_with n (fetch_of ops n f))
+  fetched-well_behaved c i n f s =
+      either_fetch ops (λ (x : MemoryFetch S). KeepsWellBehaved c i (fetched_with n x)) n f
+      (keeps_well_behaved c i n
+      (fetched_with n (record { begun = false; after = n.memory; posted = [] })) s s.memory
+      (record { config = refl; me = refl; sends_on = refl })
+      (all_none (FitsParcel n.memory.coherence.config n.memory.coherence.me)) s.numbered s.asking)
+      (λ inside below.
+      (let number : ℕ = length n.history + 1 in
+      let kept = fetch-keeps laws n.memory.coherence f.page f.write number s.memory.coherent inside
+      (omega arith) below in
+      let is = fetch-same ops n.memory.coherence f.page f.write number in
+      keeps_well_behaved c i n
+      (fetched_with n (memory_fetched ops n.memory f.page f.write number)) s
+      (told_memory n.memory _ s.memory (fetch-told ops n.memory.coherence f.page f.write number) kept.0)
+      (record { config = is.config; me = is.me; sends_on = is.sends_on }) kept.1 s.numbered s.asking))
+
   turn-well_behaved : (c : Config) (i : ℕ) (n : Host S) (o : Outcome (Host S)) → IsSoundHost ops c i n
       → turn_of ops n ≡ Some o → KeepsWellBehaved c i o
-  unfolding turn_of
-  turn-well_behaved c i n o s is = at-well_behaved c i n _ o s refl is
+  turn-well_behaved c i n o s is =
+      either_turn ops (KeepsWellBehaved c i) n o (at-well_behaved c i n _ o s refl)
+      (λ f. fetched-well_behaved c i n f s) is
 
   serve-well_behaved : (c : Config) (i source : ℕ) (n : Host S) (m : Message) → IsSoundHost ops c i n
       → source < c.nodes → source ≢ i → FitsMessage c m → KeepsWellBehaved c i (serving ops n source m)

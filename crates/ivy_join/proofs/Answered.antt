@@ -27,6 +27,7 @@ use Rattle.ivy_moves.specs.stated.Nodes.{Node, Effect, stays, posting, accepting
 use Rattle.ivy_host.specs.stated.Managers.{Managed, managed_ops}
 use Rattle.ivy_host.specs.stated.Hosts.{Host, host_rules, turn_of, serving, turned_at, steps, begins, begins_as, begins_with, quietly, number_of, recorded}
 use Rattle.ivy_host.proofs.Programs.{accepting-core, guarded, posting-core}
+use Rattle.ivy_host.proofs.Turns.{either_turn}
 use Rattle.ivy_join.specs.ReplaySites.{AddsRecords}
 use Rattle.ivy_join.specs.Remade.{IsAnsweredLast, StandFirst}
 use Rattle.ivy_join.proofs.AnswersLogged.{answers-taken}
@@ -38,7 +39,7 @@ adds-none old new same = ([], same ∙ sym (append-nil old))
 pub adds-further : (a b d : List Record) → AddsRecords a b → AddsRecords b d → AddsRecords a d
 adds-further a b d x y = (x.0 ++ y.0, y.1 ∙ ap (λ l. l ++ y.0) x.1 ∙ append_assoc a x.0 y.0)
 
--- a turn records one reply, or none
+-- a turn records one reply, or none; a fetch has none
 module _ where
   with-records : (n : Host Managed) (c : Call) (a : CallBegun Managed) (r : CallProgress)
       (o : Outcome (Host Managed)) → begins_with n c a r ≡ Some o → AddsRecords n.history o.after.history
@@ -77,8 +78,10 @@ module _ where
 
   pub turned-records : (n : Host Managed) (o : Outcome (Host Managed))
       → turn_of managed_ops n ≡ Some o → AddsRecords n.history o.after.history
-  unfolding turn_of
-  turned-records n o e = asked-records n n.memory.asked o e
+  turned-records n o =
+      either_turn managed_ops
+      (λ (x : Outcome (Host Managed)). AddsRecords n.history x.after.history) n o
+      (asked-records n n.memory.asked o) (λ f. adds-none n.history n.history refl)
 
 -- a delivery records none, and the code goes on with nothing
 pub record IsUntold (old new : Host Managed) : Type 0 where

@@ -1,4 +1,5 @@
 pub mod Answered
+pub mod Began
 pub mod EventSteps
 pub mod Played
 pub mod Collected

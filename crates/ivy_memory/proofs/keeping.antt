@@ -4,3 +4,4 @@ pub mod Begun
 pub mod Beginning
 pub mod Polling
 pub mod Same
+pub mod Fetches

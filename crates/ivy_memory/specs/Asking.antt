@@ -6,14 +6,11 @@ use Rattle.ivy_model.specs.declared.Fault.{Fault}
 use Rattle.ivy_model.specs.declared.Fault.TheVariants.{Memory}
 use Rattle.ivy_model.specs.stated.Limits.{most_pages}
 use Rattle.ivy_wire.specs.stated.Data.{Parcel}
-use Rattle.ivy_pagetable.specs.declared.Word.{Word}
-use Rattle.ivy_pagetable.specs.declared.Word.TheVariants as word
 use Rattle.ivy_pagetable.specs.stated.Words.{IsWord}
 use Rattle.ivy_coherence.specs.stated.Coherent.{Coherent}
 use Rattle.ivy_coherence.specs.PageFaults.{HasToAsk, MayMakePage}
 use Rattle.ivy_memory.specs.declared.memory.Asked.{Asked}
 use Rattle.ivy_memory.specs.declared.memory.Asked.TheVariants as asked
-use Rattle.ivy_alloc.specs.declared.HeapCall.TheVariants as heap
 use Rattle.ivy_alloc.specs.declared.CallProgress.{CallProgress}
 use Rattle.ivy_alloc.specs.declared.CallProgress.TheVariants.{Awaited}
 use Rattle.ivy_alloc.specs.HeapCalls.{IsAddress, IsAddressPosted}

@@ -22,7 +22,7 @@ other_calls kind addr words bytes = row_calls kind (addr + 8) (words - 1) (drop 
 
 -- the calls of a row from the address on would wait, if they began together: no call is in progress,
 -- nor is an answer left of calls that were made along with an earlier one, a word of the heap is
--- there, and its page has to be asked for
+-- there, and its page has to be asked for, or is fetched as they need it
 abbrev pub row_has_to_wait : {S : Type 0} → NodeMemory S → Row → ℕ → Bool
 row_has_to_wait m kind addr =
     is_none m.asked && is_none (access_refusal m.coherence.config 8 addr)

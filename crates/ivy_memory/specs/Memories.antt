@@ -2,8 +2,6 @@
 -- the heap.
 use Rattle.std.specs.Prelude.{◌≡◌, ◌⊎◌, Some, None}
 use Rattle.ivy_model.specs.declared.Call.{Call}
-use Rattle.ivy_model.specs.declared.Reply.TheVariants as reply
-use Rattle.ivy_memory.specs.declared.memory.Asked.TheVariants as asked
 use Rattle.ivy_memory.specs.Asking.{CallHasToAsk, CallMayMakePage}
 use Rattle.ivy_memory.specs.stated.Memories.{NodeMemory, reply_at}
 

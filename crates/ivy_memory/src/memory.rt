@@ -137,7 +137,8 @@ impl<M: Manager, A: Allocator + Copy> Memory<M, A> {
     /// Refused with 18 exactly where a call is in progress already. Else only a call that other nodes have to be asked
     /// for, or one that the heap gives a block for, is refused: any other takes no memory, and asks the post nothing. Where
     /// there are more than 256 pages, so may be a word that is the first to be written to its page.
-    /// A call that is not refused does begin: it is never Unserved.
+    /// A call that is not refused does begin: it is never Unserved. Where its page is fetched otherwise than its word
+    /// needs it, it is in progress, and is tried again.
     /// Node 0 serves the calls of the heap at once, and any other node asks node 0.
     pub fn begin<P: Post>(
         &mut self,
@@ -188,6 +189,11 @@ impl<M: Manager, A: Allocator + Copy> Memory<M, A> {
                     self.number = number;
                     Ok(CallProgress::Awaited)
                 }
+                Need::Fetched => {
+                    self.asked = Some(call);
+                    self.number = number;
+                    Ok(CallProgress::Awaited)
+                }
                 Need::Busy => Ok(CallProgress::Unserved),
             },
             Asked::Heap(of_heap) => {
@@ -233,7 +239,8 @@ impl<M: Manager, A: Allocator + Copy> Memory<M, A> {
     /// The reply of the call in progress [1, 17]: it is there, or the call's word is tried again, under the number of
     /// the call. The call is over with its reply, and the next of those made along with it is in progress.
     ///
-    /// Where the word has no answer now either, and where no call is in progress, nothing changes. Only a word that
+    /// Where the word has no answer now either, where its page is fetched otherwise than the word needs it, and where no
+    /// call is in progress, nothing changes. Only a word that
     /// other nodes have to be asked for is refused by a fault, or, where there are more than 256 pages, one that is the
     /// first to be written to its page: else it takes no memory, and asks the post nothing.
     pub fn poll_reply<P: Post>(&mut self, post: &mut P) -> Result<CallProgress, Fault>
@@ -281,6 +288,7 @@ impl<M: Manager, A: Allocator + Copy> Memory<M, A> {
                 Ok(CallProgress::Awaited)
             }
             Need::Busy => Ok(CallProgress::Unserved),
+            Need::Fetched => Ok(CallProgress::Unserved),
         }
     }
 

@@ -1,7 +1,10 @@
-//! What a node may do with a page, and what a message would leave of that.
-ghost use Rattle.std.specs.Prelude.{◌≡◌, ◌<◌, IsOkUnless};
+//! What a node may do with a page, and what a message would leave of that; pages that are fetched.
+ghost use Rattle.std.specs.Prelude.{◌≡◌, ◌<◌, ◌≤◌, IsOkUnless, IfOk, OnOk, OnErr, length};
 ghost use Rattle.ivy_wire.specs.Lent.{owned_message};
 ghost use Rattle.ivy_wire.specs.stated.Spelling.{FitsMessage};
+ghost use Rattle.ivy_wire.specs.Posts.{IsPostOf, HasPosted};
+ghost use Rattle.ivy_coherence.specs.EventLimits.{most_posted};
+ghost use Rattle.ivy_memory.specs.stated.Memories.{memory_fetched};
 ghost use Rattle.ivy_pagetable.specs.stated.Tables.{entry_at};
 ghost use Rattle.ivy_coherence.specs.Leavings.{access_at, leaves};
 ghost use Rattle.ivy_memory.specs.stated.Sound.{IsSoundMemory};
@@ -10,7 +13,7 @@ use crate::memory::Memory;
 use ivy_coherence::Leaving;
 use ivy_model::Fault;
 use ivy_pagetable::{Access, Manager};
-use ivy_wire::Message;
+use ivy_wire::{Message, Post};
 use std::alloc::Allocator;
 
 impl<M: Manager, A: Allocator> Memory<M, A> {
@@ -23,7 +26,7 @@ impl<M: Manager, A: Allocator> Memory<M, A> {
         let _ = &self.number;
     }
 
-    /// What this node may do with a page, where no word of it waits there. It takes no memory.
+    /// What this node may do with a page, where no word of it waits there and it is not fetched. It takes no memory.
     pub fn access(&self, page: u32) -> Option<Access>
         requires { page < self.now.coherence.config.pages }
         ensures { result ≡ access_at (entry_at self.now.coherence.table page) }
@@ -38,6 +41,32 @@ impl<M: Manager, A: Allocator> Memory<M, A> {
         ensures { result ≡ leaves self.now.coherence from (owned_message message.entry) }
     {
         self.coherence.leaves(from, message)
+    }
+
+    /// Fetches a page, to read or to write: asks for it beside the call in progress, under this number, that of the next
+    /// record, and says whether it did [1, 17]. No call waits for it, and there is no reply to it.
+    ///
+    /// It does nothing where the page is here already, where it is asked for, and where 7 pages are being fetched.
+    pub fn fetch<P: Post>(
+        &mut self,
+        page: u32,
+        write: bool,
+        number: u64,
+        post: &mut P,
+    ) -> Result<bool, Fault>
+        requires page { page < self.old.coherence.config.pages }
+        requires number { 1 ≤ number }
+        requires post { IsPostOf P.ops post.old self.old.coherence.config self.old.coherence.me }
+        ensures few { length (memory_fetched M.ops self.old page write number).posted ≤ most_posted }
+        ensures begun { IfOk result (λ begun.
+            begun ≡ (memory_fetched M.ops self.old page write number).begun) }
+        ensures ok { OnOk result
+            (self.new ≡ (memory_fetched M.ops self.old page write number).after) }
+        ensures posted { HasPosted P.ops post.old post.new result
+            (memory_fetched M.ops self.old page write number).posted }
+        ensures err { OnErr result (self.new ≡ self.old) }
+    {
+        self.coherence.fetch(page, write, number, post)
     }
 
     /// Makes a page, so that no store to it takes memory [1]. Nothing else changes.

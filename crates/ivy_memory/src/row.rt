@@ -17,7 +17,8 @@ use std::alloc::Allocator;
 
 impl<M: Manager, A: Allocator + Copy> Memory<M, A> {
     /// Whether the calls of a row of words of 8 bytes at an address would wait, if they began together: no call is in progress,
-    /// and another node has to be asked for the page of that address, which is one of the heap. It takes no memory.
+    /// and another node has to be asked for the page of that address, which is one of the heap, or it is fetched already, to
+    /// read for loads and to write for stores. It takes no memory.
     pub fn has_to_wait(&self, kind: Row, addr: u64) -> bool
         ensures { result ≡ row_has_to_wait self.now kind addr }
     {

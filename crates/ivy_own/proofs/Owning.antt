@@ -16,6 +16,7 @@ use Rattle.ivy_alloc.specs.declared.CallProgress.TheVariants.{Given, Awaited, Un
 use Rattle.ivy_memory.specs.stated.Memories.{CallBegun, polled}
 use Rattle.ivy_host.specs.stated.Hosts.{Host, begins_with, number_of, recorded, turn_of, turned_at}
 use Rattle.ivy_host.specs.stated.Managers.{Managed, managed_ops}
+use Rattle.ivy_host.proofs.Turns.{either_turn}
 use Rattle.ivy_site.specs.SiteView.{SiteView}
 use Rattle.ivy_site.specs.Handed.{site_handed}
 use Rattle.ivy_site.specs.Calls.{BeginsCall}
@@ -52,10 +53,11 @@ with_came n c a Unserved o e = absurd (none-some o e)
 
 turn_came : (n : H) (c : Call) (o : Outcome H) → n.memory.asked ≡ Some c
     → turn_of managed_ops n ≡ Some o → CameHost c n o.after
-unfolding turn_of
 turn_came n c o asked e =
     let a = polled managed_ops n.memory in
-    with_came n c a a.answer o (subst (λ k. turned_at managed_ops n k ≡ Some o) asked e)
+    either_turn managed_ops (λ (x : Outcome H). CameHost c n x.after) n o
+    (λ t. with_came n c a a.answer o (subst (λ k. turned_at managed_ops n k ≡ Some o) asked t))
+    (λ f. inl refl) e
 
 posted_core : (b : Bool) (x e : Effect H) → (if b then Some x else None) ≡ Some e
     → x.after.core ≡ e.after.core

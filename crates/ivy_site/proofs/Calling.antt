@@ -3,6 +3,7 @@ use Rattle.std.proofs.Common.{◌≡◌, ◌≢◌, ℕ, ◌+◌, ◌<◌, ◌�
 use Rattle.std.proofs.Common.{◌++◌, length, Option, Some, None, Result, Ok, Err, OnErr, refl, sym}
 use Rattle.std.proofs.Common.{ap, ◌∙◌, subst, arith, if◌then◌else◌}
 use Rattle.std.proofs.lemmas.Bool.{lt-ltb}
+use Rattle.std.proofs.lemmas.Option.{slice_get_past}
 use Rattle.ivy_model.specs.declared.Call.{Call}
 use Rattle.ivy_model.specs.declared.Fault.{Fault}
 use Rattle.ivy_model.specs.declared.Fault.TheVariants as fault
@@ -24,10 +25,14 @@ use Rattle.ivy_memory.specs.declared.Asked.TheVariants as asked
 use Rattle.ivy_memory.specs.stated.Asking.{asked_of}
 use Rattle.ivy_memory.proofs.serving.Sides.{heap_unserved}
 use Rattle.ivy_memory.specs.stated.Beside.{Beside, nothing_beside, beside}
-use Rattle.ivy_memory.specs.stated.Memories.{NodeMemory, CallBegun, reply_of, reply_at, without_call, answered, needed, again_unless, again, begun_as, call_begun, tried_as, polled_as, polled}
+use Rattle.ivy_memory.specs.stated.Memories.{NodeMemory, CallBegun, reply_of, reply_at, without_call, answered, needed, again_unless, again, begun_as, call_begun, in_progress, tried_as, polled_as, polled}
 use Rattle.ivy_memory.proofs.keeping.Polling.{polled_so}
-use Rattle.ivy_host.specs.stated.Hosts.{Host, begins_as, begins_with, steps, turned_at, turn_of, number_of, recorded}
+use Rattle.ivy_host.specs.stated.Hosts.{Host, begins_as, begins_with, due, steps, turned_at, turn_of, number_of, recorded}
 use Rattle.ivy_link.specs.Outboxes.{Outbox, HasNumbers, RefusesParcels, posted_by, takes_none, after_none}
+use Rattle.ivy_program.specs.stated.Programs.{Program, Written, Called}
+use Rattle.ivy_host.specs.stated.Fetches.{Fetches, due_of, if_reached}
+use Rattle.ivy_host.proofs.Turns.{none-due}
+use Rattle.ivy_site.specs.Sites.{AreUsed}
 use Rattle.ivy_site.specs.Inside.{HasTurn, AfterHostTurn, HasNoNumbers, host_of, is_served, kept_by, told_by}
 use Rattle.ivy_link.proofs.Boxes.{as_many-wait}
 
@@ -48,6 +53,7 @@ needed-changes : (m : NodeMemory Managed) (k : Call) (more : Beside) (number : �
 needed-changes m k more number b (need.Have o) is = answered-changes m k number b (reply_of o) is
 needed-changes m k more number b need.Started is = absurd cc
 needed-changes m k more number b need.Busy is = (refl, refl)
+needed-changes m k more number b need.Fetched is = absurd cc
 
 as-changes : (m : NodeMemory Managed) (k : Call) (calls : List Call) (number : ℕ) (x : Asked)
     → ChangesNothing m (begun_as managed_ops m k calls number x)
@@ -72,6 +78,7 @@ again-changes : (m : NodeMemory Managed) (k : Call) (b : Begun Managed) (d : Nee
 again-changes m k b (need.Have o) is = unless-changes m k b (reply_of o) is
 again-changes m k b need.Started is = absurd cc
 again-changes m k b need.Busy is = (refl, refl)
+again-changes m k b need.Fetched is = (refl, refl)
 
 tried-changes : (m : NodeMemory Managed) (k : Call) (x : Asked)
     → ChangesNothing m (tried_as managed_ops m k x)
@@ -121,11 +128,23 @@ pub record IsNumbered (h : H) (number : ℕ) : Type 0 where
   pub is : number ≡ length h.history + 1
   pub below : length h.history + 1 < 2 ^ 64
 
-pub begin_call : (h : H) (k : Call) (number : ℕ) → IsNumbered h number → h.memory.asked ≡ None
+-- where each fetch is used up, none is due
+none-of : (p : Program) (reached : ℕ) (fetches : Fetches) → AreUsed fetches
+    → due_of p reached fetches ≡ None
+none-of (Written is) reached fetches used = refl
+none-of (Called rows) reached fetches used =
+    ap (if_reached reached) (slice_get_past fetches.handed fetches.used (omega (arith, used)))
+
+pub used-due : (h : H) → AreUsed h.fetches → due h ≡ None
+used-due h used =
+    none-of h.process.program
+    (h.process.state.place + length (in_progress h.memory.asked h.memory.along)) h.fetches used
+
+pub begin_call : (h : H) (k : Call) (number : ℕ) → IsNumbered h number → AreUsed h.fetches
+    → h.memory.asked ≡ None
     → step_of h.process ≡ Asks k → IsCall h k (call_begun managed_ops h.memory k (along_of h.process) number)
-unfolding turn_of
-begin_call h k number n idle asks = record {
-  turn = ap (turned_at managed_ops h) idle
+begin_call h k number n used idle asks = record {
+  turn = none-due managed_ops h (used-due h used) ∙ ap (turned_at managed_ops h) idle
       ∙ ap (steps managed_ops h) asks
       ∙ ap (λ b. if b
       then begins_as h k
@@ -137,18 +156,17 @@ begin_call h k number n idle asks = record {
 }
 
 -- where no call is made along with it, the memory has it begin alone
-pub begin_alone : (h : H) (k : Call) (number : ℕ) → IsNumbered h number → h.memory.asked ≡ None
-    → step_of h.process ≡ Asks k → along_of h.process ≡ []
+pub begin_alone : (h : H) (k : Call) (number : ℕ) → IsNumbered h number → AreUsed h.fetches
+    → h.memory.asked ≡ None → step_of h.process ≡ Asks k → along_of h.process ≡ []
     → IsCall h k (call_begun managed_ops h.memory k [] number)
-begin_alone h k number n idle asks alone =
+begin_alone h k number n used idle asks alone =
     subst (λ (ks : List Call). IsCall h k (call_begun managed_ops h.memory k ks number)) alone
-    (begin_call h k number n idle asks)
+    (begin_call h k number n used idle asks)
 
-pub poll_call : (h : H) (k : Call) → h.memory.asked ≡ Some k
+pub poll_call : (h : H) (k : Call) → AreUsed h.fetches → h.memory.asked ≡ Some k
     → IsCall h k (polled managed_ops h.memory)
-unfolding turn_of
-poll_call h k asked = record {
-  turn = ap (turned_at managed_ops h) asked;
+poll_call h k used asked = record {
+  turn = none-due managed_ops h (used-due h used) ∙ ap (turned_at managed_ops h) asked;
   nothing =
       subst (ChangesNothing h.memory) (sym (polled_so managed_ops h.memory k asked))
       (polled-changes h.memory k (reply_at h.memory));
@@ -161,20 +179,22 @@ module _ (h : H) (k : Call) (a : CallBegun Managed) (calls : IsCall h k a) where
 
   -- it has a reply
   called_answered : (box after : Outbox) (node : ℕ) (memory : NodeMemory Managed)
-      (process : Process) (history : List Record) (answer : CallProgress) (r : Reply)
-      → node ≡ number_of h → answer ≡ a.answer → answer ≡ Given r → memory ≡ a.after
+      (process : Process) (history : List Record) (fetches : Fetches) (answer : CallProgress)
+      (r : Reply) → fetches ≡ h.fetches → node ≡ number_of h → answer ≡ a.answer → answer ≡ Given r → memory ≡ a.after
       → HasNumbers box a.posted → after ≡ posted_by box a.posted
       → history ≡ h.history ++ record { node = node; call = k; reply = r } ∷ []
       → process ≡ answered_with h.process r
-      → HasTurn h box (host_of memory process history) after
-  called_answered box after node memory process history answer r mine same is next numbers sent kept
-      goes = record {
+      → HasTurn h box (host_of fetches memory process history) after
+  called_answered box after node memory process history fetches answer r stay mine same is next
+      numbers sent kept goes = record {
         outcome = record { after = recorded h a.after k r; posted = a.posted };
         turn = by_answer answer (Given r) same is;
-        host = ap (λ m. host_of m process history) next ∙ (ap (λ p. host_of a.after p history) goes
-            ∙ (ap (λ rs. host_of a.after (answered_with h.process r) rs) kept
-            ∙ ap (λ i. host_of a.after (answered_with h.process r)
-            (h.history ++ record { node = i; call = k; reply = r } ∷ [])) mine));
+        host = ap (λ fs. host_of fs memory process history) stay
+            ∙ (ap (λ m. host_of h.fetches m process history) next
+            ∙ (ap (λ p. host_of h.fetches a.after p history) goes
+            ∙ (ap (λ rs. host_of h.fetches a.after (answered_with h.process r) rs) kept
+            ∙ ap (λ i. host_of h.fetches a.after (answered_with h.process r)
+            (h.history ++ record { node = i; call = k; reply = r } ∷ [])) mine)));
         numbers = numbers;
         sent = sent;
       }
@@ -183,11 +203,11 @@ module _ (h : H) (k : Call) (a : CallBegun Managed) (calls : IsCall h k a) where
   called_awaited : (box after : Outbox) (memory : NodeMemory Managed) (answer : CallProgress)
       → answer ≡ a.answer → answer ≡ Awaited → memory ≡ a.after → HasNumbers box a.posted
       → after ≡ posted_by box a.posted
-      → HasTurn h box (host_of memory h.process h.history) after
+      → HasTurn h box (host_of h.fetches memory h.process h.history) after
   called_awaited box after memory answer same is next numbers sent = record {
     outcome = record { after = record h { memory = a.after }; posted = a.posted };
     turn = by_answer answer Awaited same is;
-    host = ap (λ m. host_of m h.process h.history) next;
+    host = ap (λ m. host_of h.fetches m h.process h.history) next;
     numbers = numbers;
     sent = sent;
   }
@@ -195,31 +215,32 @@ module _ (h : H) (k : Call) (a : CallBegun Managed) (calls : IsCall h k a) where
   -- nothing changes
   not_called : (box after : Outbox) (memory : NodeMemory Managed) (answer : CallProgress)
       → answer ≡ a.answer → answer ≡ Unserved → memory ≡ a.after → after ≡ posted_by box a.posted
-      → AfterHostTurn false h box (host_of memory h.process h.history) after
+      → AfterHostTurn false h box (host_of h.fetches memory h.process h.history) after
   not_called box after memory answer same is next sent =
       let none = calls.nothing (sym same ∙ is) in (
         by_answer answer Unserved same is,
-        ap (λ m. host_of m h.process h.history) (next ∙ none.0),
+        ap (λ m. host_of h.fetches m h.process h.history) (next ∙ none.0),
         sent ∙ (ap (posted_by box) none.1 ∙ after_none box),
       )
 
   -- one of the three
   pub called : (box after : Outbox) (node : ℕ) (memory : NodeMemory Managed) (process : Process)
-      (history : List Record) (served : Bool) (answer : CallProgress) → node ≡ number_of h
+      (history : List Record) (fetches : Fetches) (served : Bool) (answer : CallProgress)
+      → fetches ≡ h.fetches → node ≡ number_of h
       → answer ≡ a.answer → memory ≡ a.after → HasNumbers box a.posted
       → after ≡ posted_by box a.posted → served ≡ is_served answer
       → history ≡ kept_by h.history node k answer → process ≡ told_by h.process answer
-      → AfterHostTurn served h box (host_of memory process history) after
-  called box after node memory process history served (Given r) mine same next numbers sent is kept
-      goes =
-      rw is (called_answered box after node memory process history (Given r) r mine same refl next
-      numbers sent kept goes)
-  called box after node memory process history served Awaited mine same next numbers sent is kept
-      goes =
-      rw (is, kept, goes) (called_awaited box after memory Awaited same refl next numbers sent)
-  called box after node memory process history served Unserved mine same next numbers sent is kept
-      goes =
-      rw (is, kept, goes) (not_called box after memory Unserved same refl next sent)
+      → AfterHostTurn served h box (host_of fetches memory process history) after
+  called box after node memory process history fetches served (Given r) stay mine same next numbers
+      sent is kept goes =
+      rw is (called_answered box after node memory process history fetches (Given r) r stay mine same
+      refl next numbers sent kept goes)
+  called box after node memory process history fetches served Awaited stay mine same next numbers
+      sent is kept goes =
+      rw (stay, is, kept, goes) (called_awaited box after memory Awaited same refl next numbers sent)
+  called box after node memory process history fetches served Unserved stay mine same next numbers
+      sent is kept goes =
+      rw (stay, is, kept, goes) (not_called box after memory Unserved same refl next sent)
 
   -- numbers are at an end for what it would post
   cannot_by : (box : Outbox) → has_numbers box.link a.posted ≡ false → (r : CallProgress) → a.answer ≡ r

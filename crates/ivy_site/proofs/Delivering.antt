@@ -35,7 +35,7 @@ use Rattle.ivy_memory.specs.stated.Memories.{NodeMemory, memory_handled, memory_
 use Rattle.ivy_host.specs.stated.Hosts.{Host, host_rules, serving}
 use Rattle.ivy_link.specs.Outboxes.{Outbox, HasNumbers, RefusesParcels, holding_of, with_holding, posted_by}
 use Rattle.ivy_site.specs.SiteView.{SiteView, after_hearing, after_delivery, box_of, shown_of}
-use Rattle.ivy_site.specs.Sites.{early_at, SiteDelivers, IsSpentDelivery, IsSite}
+use Rattle.ivy_site.specs.Sites.{early_at, AreUsed, SiteDelivers, IsSpentDelivery, IsSite}
 use Rattle.ivy_site.specs.Inside.{CameEarlyAs}
 use Rattle.ivy_link.proofs.Boxes.{as_many}
 use Rattle.ivy_moves.specs.Early.{early_as}
@@ -173,6 +173,7 @@ pub record IsHeard (v : SiteView) (f : Frame) (w : Verdict) (h : H) (box : Outbo
   pub config : h.memory.coherence.config ≡ v.node.core.memory.coherence.config
   pub me : h.memory.coherence.me ≡ v.node.core.memory.coherence.me
   pub asking : IsAskingHost v.node.core → IsAskingHost h
+  pub fetches : h.fetches ≡ v.node.core.fetches
 
 quietly_as : (w : Verdict) (m : Node H) (f : Frame) → (w ≡ verdict.NotMine → ⊥)
     → (w ≡ verdict.Next → f.body ≡ None) → received_as rules w m f ≡ accepting f (Some (stays m))
@@ -198,6 +199,7 @@ heard_quietly v f w ne none = record {
   config = refl;
   me = refl;
   asking = λ a. a;
+  fetches = refl;
 }
 
 -- by a message that is served
@@ -227,6 +229,7 @@ told_message v f w m next body numbers few =
       config = same.config;
       me = same.me;
       asking = λ a. serve-asking managed_ops v.node.core f.source m a;
+      fetches = refl;
     }
 
 pub heard_message : (v : SiteView) (f : Frame) (w : Verdict) (m : Message)
@@ -236,15 +239,15 @@ pub heard_message : (v : SiteView) (f : Frame) (w : Verdict) (m : Message)
     → length (memory_handled managed_ops v.node.core.memory f.source m).posted ≤ most_posted
     → box ≡ posted_by (box_of v) (memory_handled managed_ops v.node.core.memory f.source m).posted
     → IsHeard v f w
-    (record { memory = memory; process = v.node.core.process; history = v.node.core.history })
+    (record v.node.core { memory = memory })
     box
 unfolding serving
 heard_message v f w m memory box next body told numbers few posted =
     subst (λ x. IsHeard v f w
-    (record { memory = memory; process = v.node.core.process; history = v.node.core.history })
+    (record v.node.core { memory = memory })
     x) (sym posted)
     (subst (λ x. IsHeard v f w
-    (record { memory = x; process = v.node.core.process; history = v.node.core.history })
+    (record v.node.core { memory = x })
     (posted_by (box_of v) (memory_handled managed_ops v.node.core.memory f.source m).posted))
     (sym told)
     (told_message v f w m next body numbers few))
@@ -329,6 +332,7 @@ heard_site v k f bytes w fits r ne h box new events site x is listed =
       config = x.config ∙ site.config ∙ sym (ap (λ (b : Outbox). b.config) same);
       me = x.me ∙ site.me ∙ sym (ap (λ (b : Outbox). b.me) same);
       asking = x.asking site.asking;
+      fetched = subst AreUsed (sym x.fetches) site.fetched;
       made = delivery_made bytes w v (shown_of v.opened v.keep h new events) limits site.made d;
       held = hearing-holds v (shown_of v.opened v.keep h new events) f w site.held (record {
         link = x.link;

@@ -75,7 +75,7 @@ pub heard_from : (v : SiteView) (f : Frame) (w : Verdict) (m : Message) (memory 
     → length (memory_handled managed_ops v.node.core.memory from m).posted ≤ most_posted
     → box ≡ posted_by (box_of v) (memory_handled managed_ops v.node.core.memory from m).posted
     → IsHeard v f w
-    (record { memory = memory; process = v.node.core.process; history = v.node.core.history })
+    (record v.node.core { memory = memory })
     box
 heard_from v f w m memory box from same next body =
     subst (λ i. memory ≡ memory_told managed_ops v.node.core.memory i m
@@ -83,7 +83,7 @@ heard_from v f w m memory box from same next body =
     → length (memory_handled managed_ops v.node.core.memory i m).posted ≤ most_posted
     → box ≡ posted_by (box_of v) (memory_handled managed_ops v.node.core.memory i m).posted
     → IsHeard v f w
-    (record { memory = memory; process = v.node.core.process; history = v.node.core.history })
+    (record v.node.core { memory = memory })
     box) same (heard_message v f w m memory box next body)
 
 pub spent_from : {B C : Type 0} (n v : SiteView) → v ≡ n

@@ -12,6 +12,7 @@ use Rattle.ivy_host.specs.stated.Managers.{Managed, managed_ops}
 use Rattle.ivy_alloc.specs.declared.CallProgress.TheVariants.{Given}
 use Rattle.ivy_memory.specs.AtOnce.{AnswerAtOnce}
 use Rattle.ivy_memory.specs.stated.Memories.{NodeMemory, CallBegun, call_begun}
+use Rattle.ivy_host.specs.stated.Fetches.{Fetches}
 use Rattle.ivy_host.specs.stated.Hosts.{Host}
 use Rattle.ivy_moves.specs.declared.keep.Keep.{Keep}
 use Rattle.ivy_moves.specs.Marks.{Mark, Turn, turns}
@@ -30,9 +31,9 @@ use Rattle.ivy_site.proofs.Handed.{handed_site}
 use Rattle.ivy_site.proofs.Turned.{called_site, called_turn, has_turned}
 
 -- a site whose own code was answered each call of these rows
-abbrev at : Opening → Keep → NodeMemory Managed → List (List Call) → List Record → Outbox → List Mark → SiteView
-at opened keep m rows history box events =
-    shown_of opened keep (host_of m (asking rows None) history) box events
+abbrev at : Opening → Keep → Fetches → NodeMemory Managed → List (List Call) → List Record → Outbox → List Mark → SiteView
+at opened keep fs m rows history box events =
+    shown_of opened keep (host_of fs m (asking rows None) history) box events
 
 -- the memory answers the call at once, whatever its number
 abbrev AtOnce : Record → NodeMemory Managed → NodeMemory Managed → Type 0
@@ -40,18 +41,18 @@ AtOnce r old new = (number : ℕ) → call_begun managed_ops old r.call [] numbe
     ≡ record { answer = Given r.reply; after = new; posted = [] }
 
 -- a site, and what one more call makes of it
-module _ (opened : Opening) (keep : Keep) (m mid : NodeMemory Managed) (rows : List (List Call)) (history : List Record)
-    (box : Outbox) (events : List Mark) (r : Record) (site : IsSite (at opened keep m rows history box events))
+module _ (opened : Opening) (keep : Keep) (fs : Fetches) (m mid : NodeMemory Managed) (rows : List (List Call)) (history : List Record)
+    (box : Outbox) (events : List Mark) (r : Record) (site : IsSite (at opened keep fs m rows history box events))
     (idle : m.asked ≡ None) (width : HasWidth r.call) (mine : r.node ≡ box.me)
     (room : length history + 1 < 2 ^ 64) (once : AtOnce r m mid) where
   abbrev before : SiteView
-  before = at opened keep m rows history box events
+  before = at opened keep fs m rows history box events
 
   abbrev later : SiteView
-  later = at opened keep mid (rows ++ (r.call ∷ []) ∷ []) (history ++ r ∷ []) box (events ++ Turn ∷ [])
+  later = at opened keep fs mid (rows ++ (r.call ∷ []) ∷ []) (history ++ r ∷ []) box (events ++ Turn ∷ [])
 
   abbrev asks : Host Managed
-  asks = host_of m (process_handed ((r.call ∷ []) ∷ []) (asking rows None)) history
+  asks = host_of fs m (process_handed ((r.call ∷ []) ∷ []) (asking rows None)) history
 
   begun : call_begun managed_ops m r.call [] (length history + 1)
       ≡ record { answer = Given r.reply; after = mid; posted = [] }
@@ -60,15 +61,15 @@ module _ (opened : Opening) (keep : Keep) (m mid : NodeMemory Managed) (rows : L
   posts : (call_begun managed_ops m r.call [] (length history + 1)).posted ≡ []
   posts = ap (λ (b : CallBegun Managed). b.posted) begun
 
-  turn : HasTurn asks box (host_of mid (asking (rows ++ (r.call ∷ []) ∷ []) None) (history ++ r ∷ [])) box
+  turn : HasTurn asks box (host_of fs mid (asking (rows ++ (r.call ∷ []) ∷ []) None) (history ++ r ∷ [])) box
   turn =
       has_turned true refl asks box
-      (host_of mid (asking (rows ++ (r.call ∷ []) ∷ []) None) (history ++ r ∷ [])) box
+      (host_of fs mid (asking (rows ++ (r.call ∷ []) ∷ []) None) (history ++ r ∷ [])) box
       (called asks r.call (call_begun managed_ops m r.call [] (length history + 1))
-      (begin_alone asks r.call (length history + 1) (record { is = refl; below = room }) idle
+      (begin_alone asks r.call (length history + 1) (record { is = refl; below = room }) site.fetched idle
       (asks_next rows None refl r.call width) (alone_waiting rows (Some r.call)))
-      box box r.node mid (asking (rows ++ (r.call ∷ []) ∷ []) None) (history ++ r ∷ []) true
-      (Given r.reply) (mine ∙ sym site.me) (sym (ap (λ (b : CallBegun Managed). b.answer) begun))
+      box box r.node mid (asking (rows ++ (r.call ∷ []) ∷ []) None) (history ++ r ∷ []) fs true
+      (Given r.reply) refl (mine ∙ sym site.me) (sym (ap (λ (b : CallBegun Managed). b.answer) begun))
       (sym (ap (λ (b : CallBegun Managed). b.after) begun))
       (subst (HasNumbers box) (sym posts) (takes_none box))
       (sym (ap (posted_by box) posts ∙ after_none box)) refl refl
@@ -80,7 +81,7 @@ module _ (opened : Opening) (keep : Keep) (m mid : NodeMemory Managed) (rows : L
   pub once_answered : BeginsCall r.call (Some r.reply) before later
   once_answered = record {
     turns = called_turn (site_handed ((r.call ∷ []) ∷ []) before) (site_handed ((r.call ∷ []) ∷ []) before) refl
-        asks (host_of mid (asking (rows ++ (r.call ∷ []) ∷ []) None) (history ++ r ∷ [])) box events
+        asks (host_of fs mid (asking (rows ++ (r.call ∷ []) ∷ []) None) (history ++ r ∷ [])) box events
         (events ++ Turn ∷ []) refl turn refl refl;
     recorded = ap (λ (i : ℕ). history ++ record { node = i; call = r.call; reply = r.reply } ∷ [])
         (mine ∙ sym site.me);
@@ -89,7 +90,7 @@ module _ (opened : Opening) (keep : Keep) (m mid : NodeMemory Managed) (rows : L
   pub once_site : IsSite later
   once_site =
       called_site (site_handed ((r.call ∷ []) ∷ []) before) asks
-      (host_of mid (asking (rows ++ (r.call ∷ []) ∷ []) None) (history ++ r ∷ [])) box events
+      (host_of fs mid (asking (rows ++ (r.call ∷ []) ∷ []) None) (history ++ r ∷ [])) box events
       (events ++ Turn ∷ []) (handed_site ((r.call ∷ []) ∷ []) before site free) refl turn refl refl
 
 -- a word of a row
@@ -103,49 +104,49 @@ record-width Loads node addr number = (3, omega arith, refl)
 record-width Stores node addr number = (3, omega arith, refl)
 
 -- the site once the calls of a row of words were answered, which are made one after another
-abbrev after : Opening → Keep → NodeMemory Managed → List (List Call) → List Record → Outbox → List Mark
+abbrev after : Opening → Keep → Fetches → NodeMemory Managed → List (List Call) → List Record → Outbox → List Mark
     → List Record → SiteView
-after opened keep m rows history box events rs =
-    at opened keep m (rows ++ one_by_one (calls_of rs)) (history ++ rs) box (events ++ turns (length rs))
+after opened keep fs m rows history box events rs =
+    at opened keep fs m (rows ++ one_by_one (calls_of rs)) (history ++ rs) box (events ++ turns (length rs))
 
-after-one : (opened : Opening) (keep : Keep) (m : NodeMemory Managed) (rows : List (List Call)) (history : List Record)
+after-one : (opened : Opening) (keep : Keep) (fs : Fetches) (m : NodeMemory Managed) (rows : List (List Call)) (history : List Record)
     (box : Outbox) (events : List Mark) (r : Record) (rs : List Record)
-    → after opened keep m (rows ++ (r.call ∷ []) ∷ []) (history ++ r ∷ []) box (events ++ Turn ∷ []) rs
-    ≡ after opened keep m rows history box events (r ∷ rs)
-after-one opened keep m rows history box events r rs =
-    ap (λ (ks : List (List Call)). at opened keep m ks ((history ++ r ∷ []) ++ rs) box
+    → after opened keep fs m (rows ++ (r.call ∷ []) ∷ []) (history ++ r ∷ []) box (events ++ Turn ∷ []) rs
+    ≡ after opened keep fs m rows history box events (r ∷ rs)
+after-one opened keep fs m rows history box events r rs =
+    ap (λ (ks : List (List Call)). at opened keep fs m ks ((history ++ r ∷ []) ++ rs) box
     ((events ++ Turn ∷ []) ++ turns (length rs))) (append_assoc rows ((r.call ∷ []) ∷ []) (one_by_one (calls_of rs)))
-    ∙ ap (λ (hs : List Record). at opened keep m (rows ++ one_by_one (calls_of (r ∷ rs))) hs box
+    ∙ ap (λ (hs : List Record). at opened keep fs m (rows ++ one_by_one (calls_of (r ∷ rs))) hs box
     ((events ++ Turn ∷ []) ++ turns (length rs))) (append_assoc history (r ∷ []) rs)
-    ∙ ap (λ (es : List Mark). at opened keep m (rows ++ one_by_one (calls_of (r ∷ rs))) (history ++ r ∷ rs) box es)
+    ∙ ap (λ (es : List Mark). at opened keep fs m (rows ++ one_by_one (calls_of (r ∷ rs))) (history ++ r ∷ rs) box es)
     (append_assoc events (Turn ∷ []) (turns (length rs)))
 
-after-none : (opened : Opening) (keep : Keep) (m : NodeMemory Managed) (rows : List (List Call)) (history : List Record)
+after-none : (opened : Opening) (keep : Keep) (fs : Fetches) (m : NodeMemory Managed) (rows : List (List Call)) (history : List Record)
     (box : Outbox) (events : List Mark)
-    → after opened keep m rows history box events [] ≡ at opened keep m rows history box events
-after-none opened keep m rows history box events =
-    ap (λ (ks : List (List Call)). at opened keep m ks (history ++ []) box (events ++ [])) (append-nil rows)
-    ∙ ap (λ (hs : List Record). at opened keep m rows hs box (events ++ [])) (append-nil history)
-    ∙ ap (λ (es : List Mark). at opened keep m rows history box es) (append-nil events)
+    → after opened keep fs m rows history box events [] ≡ at opened keep fs m rows history box events
+after-none opened keep fs m rows history box events =
+    ap (λ (ks : List (List Call)). at opened keep fs m ks (history ++ []) box (events ++ [])) (append-nil rows)
+    ∙ ap (λ (hs : List Record). at opened keep fs m rows hs box (events ++ [])) (append-nil history)
+    ∙ ap (λ (es : List Mark). at opened keep fs m rows history box es) (append-nil events)
 
 -- the calls of a row of words are answered, and the site stays one
 pub record IsAfterRow (kind : Row) (numbers : List ℕ) (addr : ℕ) (old new : SiteView) : Type 0 where
   pub answered : AreAnswered (row kind old.me addr numbers) old new
   pub site : IsSite new
 
-row_at : (kind : Row) (numbers : List ℕ) (addr : ℕ) (opened : Opening) (keep : Keep) (m new : NodeMemory Managed)
+row_at : (kind : Row) (numbers : List ℕ) (addr : ℕ) (opened : Opening) (keep : Keep) (fs : Fetches) (m new : NodeMemory Managed)
     (rows : List (List Call)) (history : List Record) (box : Outbox) (events : List Mark)
-    → IsSite (at opened keep m rows history box events) → m.asked ≡ None
+    → IsSite (at opened keep fs m rows history box events) → m.asked ≡ None
     → length history + length numbers < 2 ^ 64
     → AnswerAtOnce managed_ops (row kind box.me addr numbers) m new
-    → IsAfterRow kind numbers addr (at opened keep m rows history box events)
-    (after opened keep new rows history box events (row kind box.me addr numbers))
-row_at kind [] addr opened keep m new rows history box events site idle room is =
-    let same : after opened keep new rows history box events [] ≡ at opened keep m rows history box events =
-    after-none opened keep new rows history box events
-    ∙ ap (λ (x : NodeMemory Managed). at opened keep x rows history box events) is in
+    → IsAfterRow kind numbers addr (at opened keep fs m rows history box events)
+    (after opened keep fs new rows history box events (row kind box.me addr numbers))
+row_at kind [] addr opened keep fs m new rows history box events site idle room is =
+    let same : after opened keep fs new rows history box events [] ≡ at opened keep fs m rows history box events =
+    after-none opened keep fs new rows history box events
+    ∙ ap (λ (x : NodeMemory Managed). at opened keep fs x rows history box events) is in
     record { answered = same; site = subst IsSite (sym same) site }
-row_at kind (number ∷ more) addr opened keep m new rows history box events site idle room is =
+row_at kind (number ∷ more) addr opened keep fs m new rows history box events site idle room is =
     let r : Record = record_in kind box.me addr number in
     let mid : NodeMemory Managed = is.0 in
     let small : length history + 1 < 2 ^ 64 = omega (arith, room) in
@@ -153,21 +154,21 @@ row_at kind (number ∷ more) addr opened keep m new rows history box events sit
     omega (arith, room, length-append history (r ∷ [])) in
     let width : HasWidth r.call = record-width kind box.me addr number in
     let mine : r.node ≡ box.me = record-node kind box.me addr number in
-    let first : BeginsCall r.call (Some r.reply) (at opened keep m rows history box events)
-    (at opened keep mid (rows ++ (r.call ∷ []) ∷ []) (history ++ r ∷ []) box (events ++ Turn ∷ [])) =
-    once_answered opened keep m mid rows history box events r site idle width mine small is.1 in
-    let then : IsSite (at opened keep mid (rows ++ (r.call ∷ []) ∷ []) (history ++ r ∷ []) box (events ++ Turn ∷ [])) =
-    once_site opened keep m mid rows history box events r site idle width mine small is.1 in
-    let rest = row_at kind more (addr + 8) opened keep mid new (rows ++ (r.call ∷ []) ∷ []) (history ++ r ∷ []) box
+    let first : BeginsCall r.call (Some r.reply) (at opened keep fs m rows history box events)
+    (at opened keep fs mid (rows ++ (r.call ∷ []) ∷ []) (history ++ r ∷ []) box (events ++ Turn ∷ [])) =
+    once_answered opened keep fs m mid rows history box events r site idle width mine small is.1 in
+    let then : IsSite (at opened keep fs mid (rows ++ (r.call ∷ []) ∷ []) (history ++ r ∷ []) box (events ++ Turn ∷ [])) =
+    once_site opened keep fs m mid rows history box events r site idle width mine small is.1 in
+    let rest = row_at kind more (addr + 8) opened keep fs mid new (rows ++ (r.call ∷ []) ∷ []) (history ++ r ∷ []) box
     (events ++ Turn ∷ []) then is.2 next is.3 in
     let rs : List Record = row kind box.me (addr + 8) more in
-    let all = after-one opened keep new rows history box events r rs in
+    let all = after-one opened keep fs new rows history box events r rs in
     record {
       answered = (
-        at opened keep mid (rows ++ (r.call ∷ []) ∷ []) (history ++ r ∷ []) box (events ++ Turn ∷ []),
+        at opened keep fs mid (rows ++ (r.call ∷ []) ∷ []) (history ++ r ∷ []) box (events ++ Turn ∷ []),
         first,
         subst (λ (s : SiteView). AreAnswered rs
-            (at opened keep mid (rows ++ (r.call ∷ []) ∷ []) (history ++ r ∷ []) box (events ++ Turn ∷ [])) s) all
+            (at opened keep fs mid (rows ++ (r.call ∷ []) ∷ []) (history ++ r ∷ []) box (events ++ Turn ∷ [])) s) all
             rest.answered,
       );
       site = subst IsSite all rest.site;
@@ -178,7 +179,8 @@ pub row_made : (kind : Row) (n v : SiteView) → v ≡ n → IsSite v → Rests 
     → v.node.core.memory.asked ≡ None → (words : ℕ) (bytes : List ℕ) (addr : ℕ)
     → length v.node.core.history + words < 2 ^ 64 → (m : NodeMemory Managed)
     → AnswerAtOnce managed_ops (row kind v.me addr (numbers_in words bytes)) v.node.core.memory m
-    → (h : Host Managed) → h.memory ≡ m
+    → (h : Host Managed)
+    → h.fetches ≡ v.node.core.fetches → h.memory ≡ m
     → ((rows : List (List Call)) → v.node.core.process ≡ asking rows None
     → h.process
     ≡ asking (rows ++ one_by_one (calls_of (row kind 0 addr (numbers_in words bytes)))) None)
@@ -186,17 +188,17 @@ pub row_made : (kind : Row) (n v : SiteView) → v ≡ n → IsSite v → Rests 
     → h.history ≡ v.node.core.history ++ row kind i addr (numbers_in words bytes)
     → (events : List Mark) → events ≡ v.events ++ turns words
     → IsAfterRow kind (numbers_in words bytes) addr n (shown_of v.opened v.keep h (box_of v) events)
-row_made kind n v same site rests idle words bytes addr room m hits h next goes i mine kept events
+row_made kind n v same site rests idle words bytes addr room m hits h stay next goes i mine kept events
     listed =
     let numbers : List ℕ = numbers_in words bytes in
     let many : length numbers ≡ words = length-numbers_in words bytes in
     let rows : List (List Call) = rests.0 in
     let rs : List Record = row kind v.me addr numbers in
-    let is : v ≡ at v.opened v.keep v.node.core.memory rows v.node.core.history (box_of v) v.events =
+    let is : v ≡ at v.opened v.keep v.node.core.fetches v.node.core.memory rows v.node.core.history (box_of v) v.events =
     ap (λ (q : Process).
-    shown_of v.opened v.keep (host_of v.node.core.memory q v.node.core.history) (box_of v) v.events)
+    shown_of v.opened v.keep (host_of v.node.core.fetches v.node.core.memory q v.node.core.history) (box_of v) v.events)
     rests.1 in
-    let made = row_at kind numbers addr v.opened v.keep v.node.core.memory m rows v.node.core.history
+    let made = row_at kind numbers addr v.opened v.keep v.node.core.fetches v.node.core.memory m rows v.node.core.history
     (box_of v) v.events (subst IsSite is site) idle (omega (arith, room, many)) hits in
     let program : h.process ≡ asking (rows ++ one_by_one (calls_of rs)) None =
     goes rows rests.1
@@ -206,9 +208,9 @@ row_made kind n v same site rests idle words bytes addr room m hits h next goes 
     let marks : events ≡ v.events ++ turns (length rs) =
     listed ∙ ap (λ (j : ℕ). v.events ++ turns j) (sym (length-row kind v.me addr numbers ∙ many)) in
     let to : shown_of v.opened v.keep h (box_of v) events
-    ≡ after v.opened v.keep m rows v.node.core.history (box_of v) v.events rs =
-    (λ k. shown_of v.opened v.keep (host_of (next k) (program k) (history k)) (box_of v) (marks k)) in
+    ≡ after v.opened v.keep v.node.core.fetches m rows v.node.core.history (box_of v) v.events rs =
+    (λ k. shown_of v.opened v.keep (host_of (stay k) (next k) (program k) (history k)) (box_of v) (marks k)) in
     subst (λ (o : SiteView). IsAfterRow kind numbers addr o (shown_of v.opened v.keep h (box_of v) events))
     (sym is ∙ same)
     (subst (λ (x : SiteView). IsAfterRow kind numbers addr
-    (at v.opened v.keep v.node.core.memory rows v.node.core.history (box_of v) v.events) x) (sym to) made)
+    (at v.opened v.keep v.node.core.fetches v.node.core.memory rows v.node.core.history (box_of v) v.events) x) (sym to) made)

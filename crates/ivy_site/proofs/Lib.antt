@@ -5,9 +5,11 @@ pub mod Calling
 pub mod Pulsing
 pub mod Turned
 pub mod Made
+pub mod Unhanded
 pub mod Handed
 pub mod HeldStrings
 pub mod Receiving
 pub mod InRow
 pub mod BatchedTurn
 pub mod Taking
+pub mod FetchTurns

@@ -10,7 +10,7 @@ use Rattle.ivy_moves.specs.stated.Nodes.{pulsing}
 use Rattle.ivy_link.specs.Outboxes.{Outbox, with_sending}
 use Rattle.ivy_site.specs.SiteView.{SiteView, after_pulse_to, box_of, shown_of}
 use Rattle.ivy_moves.specs.Parts.{pulse_marks}
-use Rattle.ivy_site.specs.Sites.{IsSite}
+use Rattle.ivy_site.specs.Sites.{AreUsed, IsSite}
 use Rattle.ivy_host.proofs.WellBehaved.{IsAskingHost}
 use Rattle.ivy_link.specs.stated.Linked.{peer_at}
 use Rattle.ivy_link.proofs.Holds.{pulsed-delivered}
@@ -76,6 +76,7 @@ pulsed_site v s to new after = record {
   me = ap (λ (x : SiteView). x.node.core.memory.coherence.me) after ∙ s.me
       ∙ sym (ap (λ (x : SiteView). x.me) after);
   asking = subst (λ (x : SiteView). IsAskingHost x.node.core) (sym after) s.asking;
+  fetched = subst (λ (x : SiteView). AreUsed x.node.core.fetches) (sym after) s.fetched;
   made = pulse_made-on to v new s.made after;
   held = quiet_holds v new s.held (record {
     held = ap (λ (x : SiteView). x.held) after;

@@ -13,7 +13,9 @@ use Rattle.ivy_moves.specs.stated.Nodes.{Node, Effect, posting, turned, turned_t
 use Rattle.ivy_host.specs.stated.Hosts.{Host, host_rules, turn_of, turned_at, steps, quietly}
 use Rattle.ivy_link.specs.Outboxes.{Outbox}
 use Rattle.ivy_site.specs.SiteView.{SiteView, box_of, shown_of}
-use Rattle.ivy_site.specs.Sites.{SiteTurns, IsSpentTurn}
+use Rattle.ivy_host.proofs.Turns.{none-due}
+use Rattle.ivy_site.specs.Sites.{AreUsed, SiteTurns, IsSpentTurn}
+use Rattle.ivy_site.proofs.Calling.{used-due}
 use Rattle.ivy_site.specs.Inside.{HasTurn, HasNoNumbers}
 
 abbrev H : Type 0
@@ -22,10 +24,11 @@ H = Host Managed
 abbrev turn : H → Option (Outcome H)
 turn = turn_of managed_ops
 
-pub turn_steps : (h : H) (t : Step) → h.memory.asked ≡ None → step_of h.process ≡ t
-    → turn h ≡ steps managed_ops h t
-unfolding turn_of
-turn_steps h t idle is = ap (turned_at managed_ops h) idle ∙ ap (steps managed_ops h) is
+pub turn_steps : (h : H) (t : Step) → AreUsed h.fetches → h.memory.asked ≡ None
+    → step_of h.process ≡ t → turn h ≡ steps managed_ops h t
+turn_steps h t used idle is =
+    none-due managed_ops h (used-due h used) ∙ ap (turned_at managed_ops h) idle
+    ∙ ap (steps managed_ops h) is
 
 -- a turn that posts nothing
 pub moved_quietly : (n v : SiteView) → v ≡ n → (h : H) (events : List Mark)

@@ -1,5 +1,5 @@
--- A call that own code makes, and the turn in which it begins.
-use Rattle.std.specs.Prelude.{◌≡◌, ℕ, ◌+◌, ◌*◌, ◌%◌, ◌<◌, ◌≤◌, ◌^◌, Bool, false, List, [], ◌∷◌, ◌++◌}
+-- A call that own code makes, and the turn in which it begins; a page that it has fetched ahead.
+use Rattle.std.specs.Prelude.{◌≡◌, ℕ, ◌+◌, ◌*◌, ◌%◌, ◌<◌, ◌≤◌, ◌^◌, Bool, true, false, List, [], ◌∷◌, ◌++◌}
 use Rattle.std.specs.Prelude.{length, min, MatchOption, Option, Some, None, if◌then◌else◌}
 use Rattle.ivy_model.specs.declared.Call.{Call}
 use Rattle.ivy_model.specs.declared.Config.{Config}
@@ -9,8 +9,8 @@ use Rattle.ivy_alloc.specs.declared.CallProgress.{CallProgress}
 use Rattle.ivy_alloc.specs.declared.CallProgress.TheVariants.{Given}
 use Rattle.ivy_model.specs.declared.Row.{Row}
 use Rattle.ivy_pagetable.specs.WordRows.{row_len}
-use Rattle.ivy_host.specs.stated.Managers.{Managed}
-use Rattle.ivy_memory.specs.stated.Memories.{NodeMemory, in_progress}
+use Rattle.ivy_host.specs.stated.Managers.{Managed, managed_ops}
+use Rattle.ivy_memory.specs.stated.Memories.{NodeMemory, in_progress, memory_fetched}
 use Rattle.ivy_memory.specs.BatchedCalls.{row_has_to_wait}
 use Rattle.ivy_memory.specs.BatchedReplies.{HasReplies, left_in}
 use Rattle.ivy_host.specs.stated.Hosts.{number_of}
@@ -19,7 +19,7 @@ use Rattle.ivy_moves.specs.Histories.{HistoryState}
 use Rattle.ivy_program.specs.OwnCode.{IsFree}
 use Rattle.ivy_program.specs.Programs.{IsCalled}
 use Rattle.ivy_program.specs.stated.InstructionSteps.{Asks, Process, step_of}
-use Rattle.ivy_site.specs.Handed.{site_handed}
+use Rattle.ivy_site.specs.Handed.{site_handed, site_fetching}
 use Rattle.ivy_site.specs.SiteView.{SiteView}
 use Rattle.ivy_site.specs.Sites.{SiteTurns}
 
@@ -139,3 +139,28 @@ pub record MayTakeRow (kind : Row) (addr : ℕ) (bytes : List ℕ) (s : SiteView
   pub below : addr + length bytes < 2 ^ 64
   pub there : HasReplies kind addr bytes s.node.core.memory
   pub room : 8 * left_in s.node.core.memory ≤ length bytes
+
+-- whether this node would ask for the page now, where its owner has it fetch the page
+abbrev pub can_fetch : SiteView → ℕ → Bool → Bool
+can_fetch s page write =
+    (memory_fetched managed_ops s.node.core.memory page write (length s.node.core.history + 1)).begun
+
+-- own code has the node fetch a page, to read or to write, and has a turn, in which it asks for it: no
+-- call is of it, and no reply
+pub record BeginsFetch (page : ℕ) (write : Bool) (old new : SiteView) : Type 0 where
+  pub turns : SiteTurns (site_fetching page write old) new
+  pub asks : can_fetch old page write ≡ true
+  pub process : new.node.core.process ≡ old.node.core.process
+  pub recorded : new.node.core.history ≡ old.node.core.history
+
+-- or it does nothing: a call before has no reply, or it is no own code; or the page is not there; or it
+-- need not be asked for, or can't be now
+pub record FetchesNone (page : ℕ) (write : Bool) (old new : SiteView) : Type 0 where
+  pub same : new ≡ old
+  pub why : IsFree old.node.core.process → page < old.config.pages
+      → can_fetch old page write ≡ false
+
+-- what a fetch came to
+abbrev pub AfterFetch : Bool → ℕ → Bool → SiteView → SiteView → Type 0
+AfterFetch true page write old new = BeginsFetch page write old new
+AfterFetch false page write old new = FetchesNone page write old new

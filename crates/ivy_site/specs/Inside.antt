@@ -1,5 +1,5 @@
 -- What the calls inside a site do, of which its own calls are made.
-use Rattle.std.specs.Prelude.{◌≡◌, ◌≢◌, ℕ, List, MatchOption, Bool, true, false, Option, Some, None, Contains}
+use Rattle.std.specs.Prelude.{◌≡◌, ◌≢◌, ℕ, ◌+◌, List, length, MatchOption, Bool, true, false, Option, Some, None, Contains}
 use Rattle.ivy_model.specs.declared.Call.{Call}
 use Rattle.ivy_model.specs.declared.Fault.{Fault}
 use Rattle.ivy_model.specs.declared.Fault.TheVariants.{NumbersSpent}
@@ -16,6 +16,8 @@ use Rattle.ivy_alloc.specs.declared.CallProgress.{CallProgress}
 use Rattle.ivy_alloc.specs.declared.CallProgress.TheVariants.{Given, Unserved}
 use Rattle.ivy_memory.specs.stated.Memories as memories
 use Rattle.ivy_link.specs.Outboxes.{Outbox, HasNumbers, posted_by}
+use Rattle.ivy_host.specs.Handing.{fetching}
+use Rattle.ivy_host.specs.stated.Fetches.{Fetches, HandedFetch}
 use Rattle.ivy_host.specs.stated.Hosts.{Host, turn_of}
 use Rattle.ivy_link.specs.Holding.{ready_of}
 use Rattle.ivy_site.specs.Calls.{reply_in, recorded_by}
@@ -63,13 +65,27 @@ abbrev pub AfterOnce : Option (List ℕ) → ℕ → SiteView → SiteView → T
 AfterOnce (Some bytes) source old new = GoesOnOnce source bytes old new
 AfterOnce None source old new = (ready_of (holding_at new) source ≡ None) × (new ≡ old)
 
+-- whether its memory would ask for the page now
+abbrev pub host_can_fetch : Host Managed → ℕ → Bool → Bool
+host_can_fetch h page write =
+    (memories.memory_fetched managed_ops h.memory page write (length h.history + 1)).begun
+
 -- the host of these
-abbrev pub host_of : memories.NodeMemory Managed → Process → List Record → Host Managed
-host_of memory process history = record { memory = memory; process = process; history = history }
+abbrev pub host_of : Fetches → memories.NodeMemory Managed → Process → List Record → Host Managed
+host_of fetches memory process history = record {
+  memory = memory;
+  process = process;
+  history = history;
+  fetches = fetches;
+}
+
+-- these were handed, and each of them is used up
+abbrev pub all_used : List HandedFetch → Fetches
+all_used handed = record { handed = handed; used = length handed }
 
 -- the host that the code has
 abbrev pub host_in : {A : Type 0} → host.Host A → Host Managed
-host_in h = host_of h.memory h.machine h.history.records
+host_in h = host_of (all_used h.fetches.told) h.memory h.machine h.history.records
 
 -- whether the answer is a reply, or that the call waits
 abbrev pub is_served : CallProgress → Bool
@@ -99,6 +115,14 @@ abbrev pub AfterHostTurn : Bool → Host Managed → Outbox → Host Managed →
 AfterHostTurn true old box new after = HasTurn old box new after
 AfterHostTurn false old box new after =
     (turn_of managed_ops old ≡ None) × (new ≡ old) × (after ≡ box)
+
+-- a page is fetched in the node's turn, or its memory asks for nothing, and nothing changes
+abbrev pub AfterHostFetch : Bool → ℕ → Bool → Host Managed → Outbox → Host Managed → Outbox
+    → Type 0
+AfterHostFetch true page write old box new after =
+    HasTurn (fetching page write old) box new after × (host_can_fetch old page write ≡ true)
+AfterHostFetch false page write old box new after =
+    (host_can_fetch old page write ≡ false) × (new ≡ old) × (after ≡ box)
 
 -- numbers are at an end for what it would post
 abbrev pub HasNoNumbers : Host Managed → Outbox → Fault → Type 0

@@ -17,10 +17,11 @@ ghost use Rattle.ivy_memory.specs.BatchedCalls.{first_call, other_calls, row_has
 ghost use Rattle.ivy_site.specs.Calls.{MayCallTogether, TakesReplies, TakesRow, recorded_by, reply_in};
 ghost use Rattle.ivy_site.specs.Inside.{host_in, is_served, kept_by, told_by, HasTurn, AfterHostTurn, HasNoNumbers};
 
+use crate::fetching::Ahead;
 use crate::manager::NodeManager;
 use ivy_link::Outbox;
 use ivy_memory::{CallProgress, Memory};
-use ivy_model::{Call, Fault, Record, Reply, Row};
+use ivy_model::{Call, Fault, Record, Reply, Row, Story};
 use ivy_moves::{Events, History};
 use ivy_program::Machine;
 use std::alloc::Allocator;
@@ -51,6 +52,8 @@ pub(crate) struct Host<A: Allocator> {
     pub(crate) memory: Memory<NodeManager<A>, A>,
     pub(crate) machine: Machine<A>,
     pub(crate) history: History<A>,
+    // for the proof: the pages that it was handed to fetch.
+    pub(crate) fetches: Story<Ahead>,
 }
 
 impl<A: Allocator + Copy> Host<A> {
@@ -65,6 +68,7 @@ impl<A: Allocator + Copy> Host<A> {
         ensures machine { self.new.machine ≡ told_by self.old.machine answer }
         ensures history { self.new.history.records ≡ kept_by self.old.history.records node call answer }
         ensures kept { self.new.history.kept ≡ self.old.history.kept }
+        ensures fetches { self.new.fetches.told ≡ self.old.fetches.told }
     {
         match answer {
             CallProgress::Given(reply) => {
@@ -88,6 +92,7 @@ impl<A: Allocator + Copy> Host<A> {
         ensures machine { self.new.machine ≡ told_by (process_handed ((call ∷ []) ∷ []) self.old.machine) answer }
         ensures history { self.new.history.records ≡ kept_by self.old.history.records node call answer }
         ensures kept { self.new.history.kept ≡ self.old.history.kept }
+        ensures fetches { self.new.fetches.told ≡ self.old.fetches.told }
     {
         match answer {
             CallProgress::Given(reply) => {
@@ -224,6 +229,7 @@ impl<A: Allocator + Copy> Host<A> {
         ensures machine { (rows : List (List Call)) → self.old.machine ≡ asking rows None → self.new.machine ≡ asking (rows ++ one_by_one (calls_of (row kind 0 addr (numbers_in words bytes.now)))) None }
         ensures history { self.new.history.records ≡ self.old.history.records ++ row kind node addr (numbers_in words bytes.now) }
         ensures kept { self.new.history.kept ≡ self.old.history.kept }
+        ensures fetches { self.new.fetches.told ≡ self.old.fetches.told }
         ensures events { events.new.marks ≡ events.old.marks ++ turns words }
         ensures listed { events.new.kept ≡ events.old.kept }
     {
@@ -315,6 +321,7 @@ impl<A: Allocator + Copy> Host<A> {
         ensures machine { (replies : List Reply) → length replies ≡ taken → self.new.machine ≡ answered_all self.old.machine replies }
         ensures history { self.new.history.records ≡ self.old.history.records ++ row kind node addr (numbers_in taken bytes.now) }
         ensures kept { self.new.history.kept ≡ self.old.history.kept }
+        ensures fetches { self.new.fetches.told ≡ self.old.fetches.told }
         ensures events { events.new.marks ≡ events.old.marks ++ turns taken }
         ensures listed { events.new.kept ≡ events.old.kept }
     {

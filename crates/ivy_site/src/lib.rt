@@ -3,6 +3,7 @@
 //! In a comment, numbers in brackets as [1, 17] are the fault numbers that a call may answer.
 #![tactic(auto)]
 
+mod fetching;
 mod host;
 mod manager;
 mod opened;

@@ -29,7 +29,7 @@ use crate::opened::opened_memory;
 use crate::turn::Turn;
 use ivy_host::Opening;
 use ivy_link::{MOST_AHEAD, Outbox, Verdict};
-use ivy_model::{Call, Config, Fault, Reply, Row};
+use ivy_model::{Call, Config, Fault, Reply, Row, Story};
 use ivy_moves::{Event, Events, History, Keep};
 use ivy_program::{Machine, Next, Program};
 use ivy_wire::{Bytes, head_of, message_of, read_frame};
@@ -198,6 +198,7 @@ impl<A: Allocator + Copy> Site<A> {
         Site::open_by(alloc, config, me, Opening::Configured, keep)
     }
 
+    #[tactic(auto, using(crate::proofs::Made::plain_is))]
     /// Node `me` with a machine that has done nothing yet, which begins so.
     pub(crate) fn with_machine(
         alloc: A,
@@ -221,6 +222,7 @@ impl<A: Allocator + Copy> Site<A> {
                 memory,
                 machine,
                 history: History::new(alloc, keep.keeps_history()),
+                fetches: Story::new(),
             },
             opening,
             keep,

@@ -43,7 +43,9 @@ AreDelivered nodes = (i j : ℕ) (n m : NodeSoFar) → i ≢ j → slice_get nod
 
 -- so no node is blocked, whatever the turns of the others would do: by the last memory of some legal
 -- order it has no call in progress, or one that its next turn answers, or an await of a count that is
--- too low; or of one that has come to its least value, and its next turn asks for a copy of it
+-- too low; or of one that has come to its least value, and its next turn asks for a copy of it; or a
+-- call of a page that it was handed to fetch, which its next turn answers, or which waits at the
+-- page's entry from then on
 abbrev pub AreUnblockedSoFar : Config → List NodeSoFar → Type 0
 AreUnblockedSoFar c nodes = AreUnblocked managed_ops c (map (λ (n : NodeSoFar). n.node.core) nodes)
 

@@ -2,6 +2,7 @@ pub mod LinkEvents
 pub mod Events
 pub mod Acknowledged
 pub mod Pulsed
+pub mod Unhanded
 pub mod Turning
 pub mod Falling
 pub mod Counts

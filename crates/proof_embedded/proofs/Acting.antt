@@ -88,14 +88,18 @@ own_handed rows a own = record {
   called = handed_called rows (core_of a).process.program own.called;
   asking = λ call is.
       row_handed rows (core_of a).process (call ∷ (core_of a).memory.along) (own.asking call is);
+  fetched = own.fetched;
 }
 
 -- own code, as messages keep it
 own_served : (n : Host Managed) (from : ℕ) (m : Message) → IsOwn n
     → IsOwn (serving managed_ops n from m).after
 unfolding serving
-own_served n from m own =
-    record { called = own.called; asking = serve-asking managed_ops n from m own.asking }
+own_served n from m own = record {
+  called = own.called;
+  asking = serve-asking managed_ops n from m own.asking;
+  fetched = own.fetched;
+}
 
 pub own_on : (x : Act) (a b : SiteView) → IsConfig a.config → Acts x a b → IsOwn (core_of a)
     → IsOwn (core_of b)

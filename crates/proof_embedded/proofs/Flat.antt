@@ -18,6 +18,7 @@ use Rattle.ivy_host.proofs.WellBehaved.{first-asking}
 use Rattle.ivy_site.specs.SiteView.{SiteView}
 use Rattle.ivy_site.specs.Sites.{first_opened}
 use Rattle.ivy_site.proofs.Made.{first_made}
+use Rattle.ivy_site.proofs.Unhanded.{first_unhanded}
 use Rattle.ivy_world.specs.WorldSites.{first_sites_from, world_of}
 use Rattle.ivy_world.proofs.Worlds.{first_run-of, first_running-of}
 use Rattle.proof_worlds.specs.stated.Keeping.{Keeps}
@@ -400,7 +401,11 @@ first_node o c i = record {
   me = refl;
   made = first_made o History c i (Called []);
   early = λ bytes has. has;
-  own = record { called = tt; asking = first-asking managed_ops (managed_start o) c i (Called []) };
+  own = record {
+    called = tt;
+    asking = first-asking managed_ops (managed_start o) c i (Called []);
+    fetched = sym (ap length (first_unhanded o c i (Called [])));
+  };
 }
 
 first_sound : (o : Opening) (c : Config) (i : ℕ) → LendsSoundly (opened_embedded o c i)

@@ -11,6 +11,7 @@ pub mod RowsGiven
 pub mod Relabelled
 pub mod Quiet
 pub mod RowsBegun
+pub mod RowsJoined
 pub mod RowsCome
 pub mod OrderlyKept
 pub mod Alike

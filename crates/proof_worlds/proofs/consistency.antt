@@ -8,6 +8,7 @@ pub mod Beside
 pub mod CarriedWords
 pub mod Alone
 pub mod OwingEvents
+pub mod OwingTurns
 pub mod OwedCalls
 pub mod Faithful
 pub mod FaithfulHeap

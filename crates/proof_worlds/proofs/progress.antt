@@ -10,6 +10,7 @@ pub mod Unlocked
 pub mod Asking
 pub mod Reached
 pub mod Stopped
+pub mod FetchedPages
 pub mod Pursued
 pub mod Settling
 pub mod StillWorlds

@@ -2,12 +2,14 @@ pub mod Filtered
 pub mod HeapWays
 pub mod HeapDeliveries
 pub mod HostTurns
+pub mod FetchTurns
 pub mod Led
 pub mod HeapRequestSteps
 pub mod LiftedNets
 pub mod LiftedEvents
 pub mod LiftedRows
 pub mod LiftedServing
+pub mod EndedEntries
 pub mod LiftedMessages
 pub mod LiftedTurns
 pub mod LiftedWorlds

@@ -47,7 +47,8 @@ pub fn deliveries_end()
 /// manager, and whatever is delivered: a message can be delivered next, or nothing is under way.
 /// Then each node has no call in progress, or a call that its next turn answers, or an await of a
 /// count that is below its least value; or an await of a count that has come to it, and its next turn
-/// asks for a copy of page 0, in which the counts lie, where the node has none.
+/// asks for a copy of page 0, in which the counts lie, where the node has none; or a call of a page that the node was
+/// handed to fetch, which its next turn answers, or for which it waits at the page's entry from then on.
 pub fn deliveries_answer()
     ensures { (opened : Opening) → DeliveriesAnswer managed_ops (managed_start opened) }
 {}

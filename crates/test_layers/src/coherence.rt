@@ -63,6 +63,8 @@ enum Step {
     /// The same, refused with 1.
     LoadsInVain(u32, u64),
     StoresInVain(u64),
+    /// A page is fetched, to read or to write, by the call of this number, and whether it is asked for.
+    Fetches(u32, bool, u64, bool),
     /// A message about page 1 comes from a node, and is taken or refused.
     Comes(u8, Letter),
     Refuses(u8, Letter),
@@ -94,6 +96,15 @@ impl<A: Allocator + Copy> Node<A> {
         match self.coherence.need(page, word, call, &mut self.posted) {
             Ok(need) => outcome == Ok(need),
             Err(fault) => outcome == Err(fault),
+        }
+    }
+
+    /// Whether a page is asked for that is to be fetched, or none where that is refused.
+    fn fetches(&mut self, rt: &impl Abort, page: u32, write: bool, call: u64) -> Option<bool> {
+        assert!(rt; page < TRIO.pages && call != 0);
+        match self.coherence.fetch(page, write, call, &mut self.posted) {
+            Ok(begun) => Some(begun),
+            Err(_) => None,
         }
     }
 
@@ -138,6 +149,9 @@ impl<A: Allocator + Copy> Stepped<A> for Node<A> {
                 self.needs(rt, *page, LOAD, *call, Err(Fault::Memory))
             }
             Step::StoresInVain(call) => self.needs(rt, 1, STORE, *call, Err(Fault::Memory)),
+            Step::Fetches(page, write, call, begun) => {
+                self.fetches(rt, *page, *write, *call) == Some(*begun)
+            }
             Step::Comes(from, letter) => self.takes(rt, *from, *letter),
             Step::Refuses(from, letter) => !self.takes(rt, *from, *letter),
             Step::Asks(calls) => self.takes_requests(rt, *calls),
@@ -181,6 +195,53 @@ static READ_FAULT: Scene<'static, Step> = Scene {
         Step::Returns(None),
     ],
     posted: &[(1, (Said::Request, 2, 1))],
+};
+
+/// A page is fetched once; the load of a call joins, asks nothing, and has the answer once the copy came.
+#[test]
+fn a_load_joins(rt: HostRuntime) {
+    check(&rt, &JOINS);
+}
+
+static JOINS: Scene<'static, Step> = Scene {
+    me: 2,
+    steps: &[
+        Step::Fetches(1, false, 1, true),
+        Step::Fetches(1, false, 1, false),
+        Step::Posted(1),
+        Step::Loads(1, 4, Need::Started),
+        Step::Loads(0, 5, Need::Busy),
+        Step::Posted(1),
+        Step::Comes(0, (Said::Copy(Bytes::Ones), 2, 4)),
+        Step::Breaches(1),
+        Step::Comes(0, (Said::Copy(Bytes::Ones), 2, 1)),
+        Step::Returns(Some(Out::Value(u64::MAX))),
+        Step::Loads(1, 5, Need::Have(Out::Value(u64::MAX))),
+        Step::Breaches(1),
+        Step::Posted(1),
+    ],
+    posted: &[(1, (Said::Request, 2, 1))],
+};
+
+/// A page that was fetched comes, and nobody is answered; a word that writes waits at no entry before.
+#[test]
+fn a_store_waits_for_a_fetch(rt: HostRuntime) {
+    check(&rt, &FITS_NOT);
+}
+
+static FITS_NOT: Scene<'static, Step> = Scene {
+    me: 2,
+    steps: &[
+        Step::Fetches(1, false, 3, true),
+        Step::Stores(3, Need::Fetched),
+        Step::Posted(1),
+        Step::Comes(0, (Said::Copy(Bytes::Ones), 2, 3)),
+        Step::Returns(None),
+        Step::Stores(3, Need::Started),
+        Step::Posted(2),
+        Step::Breaches(0),
+    ],
+    posted: &[(1, (Said::Request, 2, 3)), (1, (Said::WriteRequest, 2, 3))],
 };
 
 /// The owner answers with the page's bytes, and reads on without asking.

@@ -72,7 +72,7 @@ fn number_in(out: Out) -> Option<u64> {
 fn given(need: Need) -> Option<Out> {
     match need {
         Need::Have(out) => Some(out),
-        Need::Started | Need::Busy => None,
+        Need::Started | Need::Busy | Need::Fetched => None,
     }
 }
 

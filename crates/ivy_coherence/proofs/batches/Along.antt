@@ -1,5 +1,5 @@
 -- Words that wait along with that of an entry.
-use Rattle.std.proofs.Common.{◌≡◌, ◌⊎◌, ℕ, inl, inr, true, false, List, [], ◌∷◌, length, Option, Some, None, refl, sym, ap, ◌∙◌, subst}
+use Rattle.std.proofs.Common.{◌≡◌, ◌≢◌, ◌⊎◌, ℕ, inl, inr, true, false, List, [], ◌∷◌, length, Option, Some, None, refl, sym, ap, ◌∙◌, subst}
 use Rattle.std.specs.Prelude.{All}
 use Rattle.std.proofs.lemmas.List.Elements.{All-nil, All-head, All-tail, All-weaker}
 use Rattle.ivy_model.specs.declared.Config.{Config}
@@ -90,8 +90,14 @@ module _ {S : Type 0} {ops : Ops S} where
     alone = λ none. absurd cc;
   }
 
+  -- the same words as before, where they wait at another entry, or none waits
+  pub apart_along : (c : Coherent S) (page : ℕ) (e : Entry) → IsSound ops c
+      → c.locked ≢ Some page → AreAlong c page e c.locked c.more
+  apart_along c page e s elsewhere =
+      record { here = λ lock. absurd (elsewhere lock); same = inl refl; alone = s.alone }
+
   -- the words that wait along with one that waits at an entry lie in its page
-  pub more_fits : (c : Coherent S) (page : ℕ) → IsSound ops c
-      → is_locked (entry_at c.table page) ≡ true → All (IsWord c.config.page_size) c.more
-  more_fits c page s lock =
-      words_along c.config (entry_at c.table page) c.more (s.along page (s.others page lock))
+  pub more_fits : (c : Coherent S) (page : ℕ) → IsSound ops c → c.locked ≡ Some page
+      → All (IsWord c.config.page_size) c.more
+  more_fits c page s here =
+      words_along c.config (entry_at c.table page) c.more (s.along page here)

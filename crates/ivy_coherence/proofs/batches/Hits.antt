@@ -14,15 +14,17 @@ use Rattle.ivy_pagetable.specs.declared.Word.{Word}
 use Rattle.ivy_pagetable.specs.stated.States.{IdleState}
 use Rattle.ivy_pagetable.specs.stated.TableState.{Table}
 use Rattle.ivy_pagetable.specs.stated.Tables.{entry_at, page_at, with_page}
-use Rattle.ivy_pagetable.specs.stated.Words.{carried_out}
+use Rattle.ivy_pagetable.specs.stated.Entries.{is_locked}
+use Rattle.ivy_pagetable.specs.stated.Words.{needs_write, carried_out}
 use Rattle.ivy_pagetable.specs.WordRows.{word_in, out_in, AreCarried}
 use Rattle.ivy_pagetable.specs.stated.Manager.{Ops}
 use Rattle.ivy_coherence.specs.declared.need.Need.TheVariants.{Have, Started}
 use Rattle.ivy_coherence.specs.stated.Coherent.{Coherent}
 use Rattle.ivy_pagetable.specs.stated.Accesses.{suffices}
-use Rattle.ivy_coherence.specs.stated.PageFaults.{Begun, hit, faulted, accessed, begun_at, begun}
+use Rattle.ivy_coherence.specs.stated.Fetching.{suits}
+use Rattle.ivy_coherence.specs.stated.PageFaults.{Begun, hit, faulted, taken_up, waits_beside, joined, accessed, begun_at, begun}
 use Rattle.ivy_coherence.specs.PageFaults.{HasToAsk}
-use Rattle.ivy_coherence.specs.Hits.{permits, permits_at, is_at_hand, all_taken, lacks_at, has_to_wait, AreHits}
+use Rattle.ivy_coherence.specs.Hits.{permits, permits_at, is_at_hand, all_taken, stores, lacks_at, has_to_wait, AreHits}
 use Rattle.ivy_coherence.specs.stated.Sound.{IsSound}
 
 is_free : (o : Option ℕ) → is_none o ≡ true → o ≡ None
@@ -49,42 +51,61 @@ refused : (b : Bool) → not b ≡ true → b ≡ false
 refused true h = absurd cc
 refused false h = refl
 
--- What a row lacks that has to wait.
+-- What a row lacks that has to wait: it is asked for, but where its page is fetched.
 pub record Lacks {S : Type 0} (ops : Ops S) (c : Coherent S) (page : ℕ) (w : Word) (call : ℕ) : Type 0
   where
     pub taken : c.done_more ≡ []
-    pub asks : HasToAsk c page w
+    pub asks : is_locked (entry_at c.table page) ≡ false → HasToAsk c page w
     pub starts : (begun ops c page w call).need ≡ Started
+
+pub writes_is : (kind : Row) (offset number : ℕ)
+    → needs_write (word_in kind offset number) ≡ stores kind
+writes_is Loads offset number = refl
+writes_is Stores offset number = refl
 
 module _ {S : Type 0} (ops : Ops S) (c : Coherent S) (page : ℕ) (kind : Row)
     (offset number call : ℕ) where
   abbrev lacking : Word
   lacking = word_in kind offset number
 
-  faults : (e : Entry) → lacks_at e kind ≡ true → (s : IdleState)
+  faults : (e : Entry) → lacks_at e kind ≡ true → is_locked e ≡ false → (s : IdleState)
       × (e ≡ entry.Idle s) × (suffices s.access lacking ≡ false)
-  faults (entry.Idle s) h =
+  faults (entry.Idle s) h idle =
       (s, refl, suffices_is kind s.access offset number ∙ refused (permits s.access kind) h)
-  faults (entry.AwaitRead s) h = absurd cc
-  faults (entry.AwaitWrite s) h = absurd cc
-  faults (entry.AwaitAcks s) h = absurd cc
+  faults (entry.AwaitRead s) h idle = absurd cc
+  faults (entry.AwaitWrite s) h idle = absurd cc
+  faults (entry.AwaitAcks s) h idle = absurd cc
 
-  -- its first word has to be asked for, and begins to wait
+  joins_at : (e : Entry) → suits e (stores kind) ≡ true
+      → (joined ops c page lacking e).need ≡ Started
+  joins_at e h =
+      ap (λ b. (if b then taken_up ops c page lacking e else waits_beside ops c).need)
+      (ap (suits e) (writes_is kind offset number) ∙ h)
+
+  starts_at : (e : Entry) → lacks_at e kind ≡ true
+      → (accessed ops c page lacking call e).need ≡ Started
+  starts_at (entry.Idle s) h =
+      ap (λ b. (if b then hit ops c page lacking else faulted ops c page lacking call s).need)
+      (suffices_is kind s.access offset number ∙ refused (permits s.access kind) h)
+  starts_at (entry.AwaitRead s) h = joins_at (entry.AwaitRead s) h
+  starts_at (entry.AwaitWrite s) h = joins_at (entry.AwaitWrite s) h
+  starts_at (entry.AwaitAcks s) h = joins_at (entry.AwaitAcks s) h
+
+  -- its first word begins to wait
   pub lacks : has_to_wait c page kind ≡ true → Lacks ops c page lacking call
   unfolding begun
   lacks h =
       let free = and_parts (is_none c.locked && all_taken c.done_more)
       (lacks_at (entry_at c.table page) kind) h in
       let taken = and_parts (is_none c.locked) (all_taken c.done_more) free.0 in
-      let at = faults (entry_at c.table page) free.1 in
       record {
         taken = all_are_taken c.done_more taken.1;
-        asks = record { free = is_free c.locked taken.0; idle = at.0; is = at.1; short = at.2 };
+        asks = λ idle.
+            let at = faults (entry_at c.table page) free.1 idle in
+            record { free = is_free c.locked taken.0; idle = at.0; is = at.1; short = at.2 };
         starts =
             ap (λ o. (begun_at ops c page lacking call o).need) (is_free c.locked taken.0)
-            ∙ ap (λ e. (accessed ops c page lacking call e).need) at.1
-            ∙ ap (λ b. (if b then hit ops c page lacking
-            else faulted ops c page lacking call at.0).need) at.2;
+            ∙ starts_at (entry_at c.table page) free.1;
       }
 
 module _ {S : Type 0} (ops : Ops S) (page : ℕ) (kind : Row) where

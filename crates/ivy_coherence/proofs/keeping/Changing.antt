@@ -1,6 +1,8 @@
 -- A change at one page of a node keeps what holds of the node.
-use Rattle.std.proofs.Common.{◌≡◌, ◌≢◌, ℕ, ◌<◌, ◌⊎◌, inl, inr, Bool, true, false, List, [], length, get_or, set, Option, Some, None, refl, sym, ap, ◌∙◌, subst, arith}
+use Rattle.std.proofs.Common.{◌≡◌, ◌≢◌, ℕ, ◌<◌, ◌≤◌, ◌⊎◌, ◌++◌, length-append, inl, inr, Bool, true, false, List, [], ◌∷◌, length, get_or, set, Option, Some, None, refl, sym, ap, ◌∙◌, subst, arith}
 use Rattle.std.proofs.lemmas.Bool.Decides.{eqb_tells}
+use Rattle.std.specs.List.{Contains}
+use Rattle.std.proofs.lemmas.List.Elements.{Contains-push, Contains-push_cases, Contains-append_left}
 use Rattle.std.proofs.lemmas.List.{length-set, get_or-set_same, get_or-set_other}
 use Rattle.ivy_model.specs.declared.Config.{Config}
 use Rattle.ivy_pagetable.specs.declared.Entry.{Entry}
@@ -12,7 +14,9 @@ use Rattle.ivy_pagetable.specs.stated.Tables.{entry_at, page_at, with_entry, wit
 use Rattle.ivy_pagetable.specs.stated.Manager.{Ops}
 use Rattle.ivy_pagetable.specs.Manager.{KeepsElsewhere}
 use Rattle.ivy_coherence.specs.stated.Coherent.{Coherent}
+use Rattle.ivy_coherence.specs.stated.Fetching.{most_fetched, without_page}
 use Rattle.ivy_coherence.specs.stated.Sound.{WaitAlong, IsSoundEntry, IsSound}
+use Rattle.ivy_coherence.proofs.keeping.Fetched.{left_in, stays_in, fewer_without}
 use Rattle.ivy_coherence.proofs.batches.Along.{none_along, AreAlong}
 use Rattle.ivy_coherence.proofs.keeping.NextHop.{IsManaged}
 use Rattle.ivy_coherence.proofs.keeping.IdleServing.{IsPlace}
@@ -50,27 +54,36 @@ pub record ArePages (c : Config) (pages : List (List ℕ)) : Type 0 where
   pub count : length pages ≡ c.pages
   pub sized : (p : ℕ) → p < c.pages → length (get_or pages p []) ≡ c.page_size
 
--- which entry is locked then, where the one of `page` is or is not
-pub record AreLocks (page : ℕ) (locked : Bool) (old new : Option ℕ) : Type 0 where
-  pub here : locked ≡ true → new ≡ Some page
-  pub only : (p : ℕ) → new ≡ Some p → ((p ≡ page) × (locked ≡ true)) ⊎ ((p ≢ page) × (old ≡ Some p))
-  pub others : (p : ℕ) → p ≢ page → old ≡ Some p → new ≡ Some p
+-- which entries are locked then, where the one of `page` is or is not: the one that a word waits at,
+-- and those of pages that are fetched
+pub record AreLocks (page : ℕ) (locked : Bool) (old new : Option ℕ) (olds news : List ℕ) : Type 0
+  where
+    pub here : locked ≡ true → (new ≡ Some page) ⊎ Contains news page
+    pub only : (p : ℕ) → new ≡ Some p
+        → ((p ≡ page) × (locked ≡ true)) ⊎ ((p ≢ page) × (old ≡ Some p))
+    pub among : (p : ℕ) → Contains news p
+        → ((p ≡ page) × (locked ≡ true)) ⊎ ((p ≢ page) × Contains olds p)
+    pub others : (p : ℕ) → p ≢ page → (old ≡ Some p) ⊎ Contains olds p
+        → (new ≡ Some p) ⊎ Contains news p
+    pub apart : new ≡ Some page → Contains news page → ⊥
+    pub few : length news ≤ most_fetched
 
--- the entry of a page, the pages, the manager, the lock and what waits along after a change at the page
+-- the entry of a page, the pages, the manager, the locks and what waits along after a change at the page
 pub record IsChange {S : Type 0} (ops : Ops S) (c : Coherent S) (page : ℕ) (e : Entry)
-    (pages : List (List ℕ)) (m : S) (lock : Option ℕ) (more : List Word) : Type 0 where
-  pub inside : page < c.config.pages
-  pub entry : IsSoundEntry c.config c.me e
-  pub sized : ArePages c.config pages
-  pub keeps : KeepsElsewhere ops c.manager page m
-  pub hop : ops.next_hop m page < c.config.nodes
-  pub away : is_owner e ≡ false → ops.next_hop m page ≢ c.me
-  pub locks : AreLocks page (is_locked e) c.locked lock
-  pub along : AreAlong c page e lock more
+    (pages : List (List ℕ)) (m : S) (lock : Option ℕ) (fetched : List ℕ) (more : List Word) : Type 0
+  where
+    pub inside : page < c.config.pages
+    pub entry : IsSoundEntry c.config c.me e
+    pub sized : ArePages c.config pages
+    pub keeps : KeepsElsewhere ops c.manager page m
+    pub hop : ops.next_hop m page < c.config.nodes
+    pub away : is_owner e ≡ false → ops.next_hop m page ≢ c.me
+    pub locks : AreLocks page (is_locked e) c.locked lock c.fetched fetched
+    pub along : AreAlong c page e lock more
 
 abbrev pub changed_to : {S : Type 0} → Coherent S → ℕ → Entry → List (List ℕ) → S → Option ℕ
-    → List Word → Option Out → List Out → ℕ → Coherent S
-changed_to c page e pages m lock more done done_more breaches = record {
+    → List ℕ → List Word → Option Out → List Out → ℕ → Coherent S
+changed_to c page e pages m lock fetched more done done_more breaches = record {
   config = c.config;
   me = c.me;
   sends_on = c.sends_on;
@@ -81,27 +94,24 @@ changed_to c page e pages m lock more done done_more breaches = record {
   };
   manager = m;
   locked = lock;
+  fetched = fetched;
   more = more;
   done = done;
   done_more = done_more;
   breaches = breaches;
 }
 
--- the entry is locked, where none was
-pub locks : {S : Type 0} (c : Coherent S) (page : ℕ) → c.locked ≡ None
-    → AreLocks page true c.locked (Some page)
-locks c page none = record {
-  here = λ h. refl;
-  only = λ p h. inl (let f : Some page ≡ Some p = h in cc, refl);
-  others = λ p apart h. absurd (let f : None ≡ Some p = sym none ∙ h in cc);
-}
+only_here : (old : Option ℕ) (page p : ℕ) → Some page ≡ Some p
+    → ((p ≡ page) × (true ≡ true)) ⊎ ((p ≢ page) × (old ≡ Some p))
+only_here old page p h = inl (let f : Some page ≡ Some p = h in cc, refl)
 
 module _ {S : Type 0} {ops : Ops S} where
   pub change-sound : (c : Coherent S) (page : ℕ) (e : Entry) (pages : List (List ℕ)) (m : S)
-      (lock : Option ℕ) (more : List Word) (done : Option Out) (done_more : List Out) (breaches : ℕ)
-      → IsSound ops c → IsChange ops c page e pages m lock more
-      → IsSound ops (changed_to c page e pages m lock more done done_more breaches)
-  change-sound c page e pages m lock more answer answers breaches s h =
+      (lock : Option ℕ) (fetched : List ℕ) (more : List Word) (done : Option Out)
+      (done_more : List Out) (breaches : ℕ) → IsSound ops c
+      → IsChange ops c page e pages m lock fetched more
+      → IsSound ops (changed_to c page e pages m lock fetched more done done_more breaches)
+  change-sound c page e pages m lock fetched more answer answers breaches s h =
       let within : page < length c.table.entries =
       (let k = s.entries in let i = h.inside in omega (arith, i, k)) in
       let hops : (p : ℕ) → p ≢ page → ops.next_hop m p ≡ ops.next_hop c.manager p =
@@ -137,10 +147,29 @@ module _ {S : Type 0} {ops : Ops S} where
               ap is_locked x.1
               ∙ elim (h.locks.only p is) [ inl y ↦ absurd (x.0 y.0) | inr y ↦ s.locked p y.1 ]
         ];
+        fetched = λ p is. elim (entry_with c.table page e p within) [
+          | inl x ↦
+              ap is_locked x.1
+              ∙ elim (h.locks.among p is) [ inl y ↦ y.1 | inr y ↦ absurd (y.0 x.0) ]
+          | inr x ↦
+              ap is_locked x.1
+              ∙ elim (h.locks.among p is) [ inl y ↦ absurd (x.0 y.0) | inr y ↦ s.fetched p y.1 ]
+        ];
         others = λ p is. elim (entry_with c.table page e p within) [
-          | inl x ↦ h.locks.here (ap is_locked (sym x.1) ∙ is) ∙ ap Some (sym x.0)
+          | inl x ↦ elim (h.locks.here (ap is_locked (sym x.1) ∙ is)) [
+            | inl y ↦ inl (y ∙ ap Some (sym x.0))
+            | inr y ↦ inr (subst (Contains fetched) (sym x.0) y)
+          ]
           | inr x ↦ h.locks.others p x.0 (s.others p (ap is_locked (sym x.1) ∙ is))
         ];
+        apart = λ p is has. elim (eqb_tells p page) [
+          | inl y ↦ h.locks.apart (is ∙ ap Some y.1) (subst (Contains fetched) y.1 has)
+          | inr y ↦
+              s.apart p
+              (elim (h.locks.only p is) [ inl z ↦ absurd (y.1 z.0) | inr z ↦ z.1 ])
+              (elim (h.locks.among p has) [ inl z ↦ absurd (y.1 z.0) | inr z ↦ z.1 ])
+        ];
+        few = h.locks.few;
         along = λ p is. elim (entry_with c.table page e p within) [
           | inl x ↦
               subst (λ z. WaitAlong c.config z more) (sym x.1)
@@ -176,25 +205,114 @@ module _ {S : Type 0} {ops : Ops S} where
         ];
       }
 
-  -- the entry is locked as it was; it is unlocked
+  -- the entry is locked as it was
   pub same_locks : (c : Coherent S) (page : ℕ) (locked : Bool) → IsSound ops c
-      → locked ≡ is_locked (entry_at c.table page) → AreLocks page locked c.locked c.locked
+      → locked ≡ is_locked (entry_at c.table page)
+      → AreLocks page locked c.locked c.locked c.fetched c.fetched
   same_locks c page locked s is = record {
     here = λ h. s.others page (sym is ∙ h);
     only = λ p h. elim (eqb_tells p page) [
       | inl y ↦ inl (y.1, is ∙ s.locked page (h ∙ ap Some y.1))
       | inr y ↦ inr (y.1, h)
     ];
+    among = λ p h. elim (eqb_tells p page) [
+      | inl y ↦ inl (y.1, is ∙ s.fetched page (subst (Contains c.fetched) y.1 h))
+      | inr y ↦ inr (y.1, h)
+    ];
     others = λ p apart h. h;
+    apart = s.apart page;
+    few = s.few;
   }
 
-  pub unlocks : (c : Coherent S) (page : ℕ) → IsSound ops c
-      → is_locked (entry_at c.table page) ≡ true → AreLocks page false c.locked None
+  -- an entry that is idle is no page's that is fetched, and no word waits there
+  not_fetched : (c : Coherent S) (page p : ℕ) → IsSound ops c
+      → is_locked (entry_at c.table page) ≡ false → Contains c.fetched p → p ≢ page
+  not_fetched c page p s idle h e =
+      absurd (let f : true ≡ false =
+      sym (s.fetched p h) ∙ ap (λ q. is_locked (entry_at c.table q)) e ∙ idle in cc)
+
+  not_awaited : (c : Coherent S) (page p : ℕ) → IsSound ops c
+      → is_locked (entry_at c.table page) ≡ false → c.locked ≡ Some p → p ≢ page
+  not_awaited c page p s idle h e =
+      absurd (let f : true ≡ false =
+      sym (s.locked p h) ∙ ap (λ q. is_locked (entry_at c.table q)) e ∙ idle in cc)
+
+  -- a word waits at it from now on, where none waited at any; it was idle, or the page was fetched
+  pub locks : (c : Coherent S) (page : ℕ) → IsSound ops c → c.locked ≡ None
+      → is_locked (entry_at c.table page) ≡ false
+      → AreLocks page true c.locked (Some page) c.fetched c.fetched
+  locks c page s none idle = record {
+    here = λ h. inl refl;
+    only = only_here c.locked page;
+    among = λ p h. inr (not_fetched c page p s idle h, h);
+    others = λ p apart h. elim h [
+      | inl x ↦ absurd (let f : None ≡ Some p = sym none ∙ x in cc)
+      | inr x ↦ inr x
+    ];
+    apart = λ e h. not_fetched c page page s idle h refl;
+    few = s.few;
+  }
+
+  pub joins : (c : Coherent S) (page : ℕ) → IsSound ops c → c.locked ≡ None
+      → AreLocks page true c.locked (Some page) c.fetched (without_page page c.fetched)
+  joins c page s none = record {
+    here = λ h. inl refl;
+    only = only_here c.locked page;
+    among = λ p h. inr (left_in page c.fetched p h);
+    others = λ p apart h. elim h [
+      | inl x ↦ absurd (let f : None ≡ Some p = sym none ∙ x in cc)
+      | inr x ↦ inr (stays_in page c.fetched p x apart)
+    ];
+    apart = λ e h. (left_in page c.fetched page h).0 refl;
+    few = let k = s.few in let l = fewer_without page c.fetched in omega (arith, k, l);
+  }
+
+  -- its page is fetched from now on
+  pub fetches : (c : Coherent S) (page : ℕ) → IsSound ops c
+      → is_locked (entry_at c.table page) ≡ false → length c.fetched < most_fetched
+      → AreLocks page true c.locked c.locked c.fetched (c.fetched ++ page ∷ [])
+  fetches c page s idle room = record {
+    here = λ h. inr (Contains-push c.fetched page);
+    only = λ p h. inr (not_awaited c page p s idle h, h);
+    among = λ p h. elim (Contains-push_cases c.fetched page p h) [
+      | inl x ↦ inr (not_fetched c page p s idle x, x)
+      | inr x ↦ inl (sym x, refl)
+    ];
+    others = λ p apart h. elim h [
+      | inl x ↦ inl x
+      | inr x ↦ inr (Contains-append_left c.fetched (page ∷ []) p x)
+    ];
+    apart = λ e h. not_awaited c page page s idle e refl;
+    few = omega (arith, room, length-append c.fetched (page ∷ []));
+  }
+
+  -- it is unlocked: a word waited there; the page was fetched
+  pub unlocks : (c : Coherent S) (page : ℕ) → IsSound ops c → c.locked ≡ Some page
+      → AreLocks page false c.locked None c.fetched c.fetched
   unlocks c page s is = record {
     here = λ h. absurd cc;
     only = λ p h. absurd cc;
-    others =
-        λ p apart h. absurd (apart (let f : Some p ≡ Some page = sym h ∙ s.others page is in cc));
+    among = λ p h. inr ((λ e. s.apart page is (subst (Contains c.fetched) e h)), h);
+    others = λ p apart h. elim h [
+      | inl x ↦ absurd (apart (let f : Some p ≡ Some page = sym x ∙ is in cc))
+      | inr x ↦ inr x
+    ];
+    apart = λ e h. absurd cc;
+    few = s.few;
+  }
+
+  pub ends : (c : Coherent S) (page : ℕ) → IsSound ops c → c.locked ≢ Some page
+      → AreLocks page false c.locked c.locked c.fetched (without_page page c.fetched)
+  ends c page s other = record {
+    here = λ h. absurd cc;
+    only = λ p h. inr ((λ e. other (h ∙ ap Some e)), h);
+    among = λ p h. inr (left_in page c.fetched p h);
+    others = λ p apart h. elim h [
+      | inl x ↦ inl x
+      | inr x ↦ inr (stays_in page c.fetched p x apart)
+    ];
+    apart = λ e h. (left_in page c.fetched page h).0 refl;
+    few = let k = s.few in let l = fewer_without page c.fetched in omega (arith, k, l);
   }
 
   pub place : (c : Coherent S) (page : ℕ) (bytes : List ℕ) → IsSound ops c → page < c.config.pages

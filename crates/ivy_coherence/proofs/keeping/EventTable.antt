@@ -1,6 +1,6 @@
 -- The table of events at one node, a row each: what holds of the node in that row, and what the
 -- event comes to there. What holds in each row holds of each message, and of each access.
-use Rattle.std.proofs.Common.{◌≡◌, ◌≢◌, ℕ, ◌<◌, ◌≤◌, Bool, true, false, not, ◌&&◌, List, [], ◌∷◌, length, slice_set, Option, Some, None, refl, sym, ap, ◌∙◌, subst, if◌then◌else◌, ◌==◌}
+use Rattle.std.proofs.Common.{◌≡◌, ◌≢◌, ℕ, ◌<◌, ◌≤◌, Bool, true, false, not, ◌&&◌, ◌||◌, List, [], ◌∷◌, length, slice_set, Option, Some, None, refl, sym, ap, ◌∙◌, subst, if◌then◌else◌, ◌==◌}
 use Rattle.std.specs.FinSet as set
 use Rattle.std.specs.Ordering.{nat_cmp}
 use Rattle.std.proofs.lemmas.Bool.{and_parts, eqb-true, eqb-false, eq-eqb, ltb-false}
@@ -22,15 +22,19 @@ use Rattle.ivy_pagetable.specs.stated.States.{IdleState, WaitingState, AwaitWrit
 use Rattle.ivy_pagetable.specs.stated.TableState.{Table}
 use Rattle.ivy_pagetable.specs.stated.Entries.{nothing, is_owner, is_locked, put_offs, can_put_off, copying, owning}
 use Rattle.ivy_pagetable.specs.stated.Tables.{entry_at, page_at, with_entry}
-use Rattle.ivy_pagetable.specs.stated.Words.{needs_write}
+use Rattle.ivy_pagetable.specs.stated.Words.{needs_write, fetch_word}
 use Rattle.ivy_pagetable.specs.stated.Manager.{Ops}
+use Rattle.ivy_coherence.specs.PageFaults.{IsFetchable}
 use Rattle.ivy_coherence.specs.stated.Coherent.{Coherent}
 use Rattle.ivy_coherence.specs.stated.Serving.{serving, put_off_served, counted, served_by_owner, served_by_other, invalidations}
 use Rattle.ivy_coherence.specs.stated.MessageSteps.{CoherenceEffect, collected, still_collecting, is_none}
 use Rattle.ivy_coherence.specs.stated.MessageSteps.{is_order, copy_reply, breach, after_serving, unlocked, put_aside, put_by}
 use Rattle.ivy_coherence.specs.stated.MessageSteps.{sent_on, given_up, asked, asked_reader, copy_came, page_came, acknowledged, handled}
 use Rattle.ivy_coherence.specs.stated.MessageSteps.{handled_as}
-use Rattle.ivy_coherence.specs.stated.PageFaults.{Begun, busy, hit, started, waiting_from, faulted, accessed, begun, begun_at}
+use Rattle.ivy_coherence.specs.stated.Fetching.{suits}
+use Rattle.ivy_coherence.specs.stated.PageFaults.{Begun, busy, hit, started, waiting_from, faulted, taken_up, waits_beside, joined}
+use Rattle.ivy_coherence.specs.stated.PageFaults.{accessed, begun, begun_at}
+use Rattle.ivy_coherence.specs.stated.PageFaults.{Fetch, is_full, fetchable_at, fetchable, not_fetched, fetch_started, fetch_begun, fetched_as, fetch}
 
 -- a request for a copy or for the page, or the order to give a copy up
 abbrev pub asking : Request → ℕ → Content
@@ -172,6 +176,34 @@ pub record AccessRows {S : Type 0} (ops : Ops S) (c : Coherent S) (page : ℕ) (
       → suffices i.access w ≡ false → needs_write w ≡ true → i.owner ≡ true
       → P (started ops c page
       (entry.AwaitAcks (record { left = i.copies; waiting = waiting_from w call }))
+      (invalidations c.me page call i.copies))
+  -- the page is fetched: for a word of that kind, or otherwise
+  pub joins : (e : Entry) → c.locked ≡ None → entry_at c.table page ≡ e
+      → suits e (needs_write w) ≡ true → P (taken_up ops c page w e)
+  pub beside : (e : Entry) → c.locked ≡ None → entry_at c.table page ≡ e → is_locked e ≡ true
+      → suits e (needs_write w) ≡ false → P (waits_beside ops c)
+
+-- `P f`: what is to hold where a fetch to read, or to write, comes to `f`
+pub record FetchRows {S : Type 0} (ops : Ops S) (c : Coherent S) (page : ℕ) (writes : Bool)
+    (call : ℕ) (P : Fetch S → Type 0) : Type 0 where
+  pub none : P (not_fetched ops c)
+  pub read : (i : IdleState) → entry_at c.table page ≡ entry.Idle i
+      → is_full c ≡ false → suffices i.access (fetch_word writes) ≡ false
+      → needs_write (fetch_word writes) ≡ false
+      → P (fetch_started ops c page (entry.AwaitRead (waiting_from (fetch_word writes) call))
+      (parcel_to c.me (ops.next_hop c.manager page) c.me call (content.ReadReq page) ∷ []))
+  pub write : (i : IdleState) → entry_at c.table page ≡ entry.Idle i
+      → is_full c ≡ false → suffices i.access (fetch_word writes) ≡ false
+      → needs_write (fetch_word writes) ≡ true → i.owner ≡ false
+      → P (fetch_started ops c page
+      (entry.AwaitWrite
+      (record { had_copy = reads i.access; waiting = waiting_from (fetch_word writes) call }))
+      (parcel_to c.me (ops.next_hop c.manager page) c.me call (content.WriteReq page) ∷ []))
+  pub owner : (i : IdleState) → entry_at c.table page ≡ entry.Idle i
+      → is_full c ≡ false → suffices i.access (fetch_word writes) ≡ false
+      → needs_write (fetch_word writes) ≡ true → i.owner ≡ true
+      → P (fetch_started ops c page
+      (entry.AwaitAcks (record { left = i.copies; waiting = waiting_from (fetch_word writes) call }))
       (invalidations c.me page call i.copies))
 
 -- an entry that stays as it is
@@ -439,12 +471,20 @@ module _ {S : Type 0} {ops : Ops S} {c : Coherent S} {page : ℕ} {w : Word} {ca
       → suffices i.access w ≡ false → P (faulted ops c page w call i)
   fault-by_rows i none is short = fault-row i (needs_write w) i.owner none is short refl refl
 
+  join-row : (e : Entry) → c.locked ≡ None → entry_at c.table page ≡ e → is_locked e ≡ true
+      → P (joined ops c page w e)
+  join-row e none is lock =
+      begun-either (suits e (needs_write w)) _ _ (λ h. rows.joins e none is h)
+      (λ h. rows.beside e none is lock h)
+
   accessed-row : (e : Entry) → c.locked ≡ None → entry_at c.table page ≡ e
       → P (accessed ops c page w call e)
   accessed-row (entry.Idle i) none is =
       begun-either (suffices i.access w) _ _ (λ h. rows.hit i none is h)
       (λ h. fault-by_rows i none is h)
-  accessed-row e none is = rows.busy
+  accessed-row (entry.AwaitRead s) none is = join-row (entry.AwaitRead s) none is refl
+  accessed-row (entry.AwaitWrite s) none is = join-row (entry.AwaitWrite s) none is refl
+  accessed-row (entry.AwaitAcks s) none is = join-row (entry.AwaitAcks s) none is refl
 
   at-row : (o : Option ℕ) → c.locked ≡ o → P (begun_at ops c page w call o)
   at-row None none = accessed-row _ none refl
@@ -454,3 +494,59 @@ module _ {S : Type 0} {ops : Ops S} {c : Coherent S} {page : ℕ} {w : Word} {ca
   pub begun-by_rows : P (begun ops c page w call)
   unfolding begun
   begun-by_rows = at-row c.locked refl
+
+-- a page that may be fetched
+module _ {S : Type 0} (c : Coherent S) (page : ℕ) (writes : Bool) where
+  by_tests : (s i : IdleState) (full enough : Bool) → is_full c ≡ full
+      → suffices s.access (fetch_word writes) ≡ enough → entry_at c.table page ≡ entry.Idle s
+      → (if full || enough then None else Some s) ≡ Some i → IsFetchable c page writes i
+  by_tests s i true enough full short is h = absurd (let f : None ≡ Some i = h in cc)
+  by_tests s i false true full short is h = absurd (let f : None ≡ Some i = h in cc)
+  by_tests s i false false full short is h =
+      let same : s ≡ i = (let f : Some s ≡ Some i = h in cc) in
+      record {
+        is = is ∙ ap entry.Idle same;
+        room = full;
+        short = subst (λ (x : IdleState). suffices x.access (fetch_word writes) ≡ false) same short;
+      }
+
+  by_entry : (e : Entry) (i : IdleState) → entry_at c.table page ≡ e
+      → fetchable_at (is_full c) writes e ≡ Some i → IsFetchable c page writes i
+  by_entry (entry.Idle s) i is h =
+      by_tests s i (is_full c) (suffices s.access (fetch_word writes)) refl refl is h
+  by_entry (entry.AwaitRead s) i is h = absurd (let f : None ≡ Some i = h in cc)
+  by_entry (entry.AwaitWrite s) i is h = absurd (let f : None ≡ Some i = h in cc)
+  by_entry (entry.AwaitAcks s) i is h = absurd (let f : None ≡ Some i = h in cc)
+
+  pub fetchable_is : (i : IdleState) → fetchable c page writes ≡ Some i
+      → IsFetchable c page writes i
+  fetchable_is i h = by_entry (entry_at c.table page) i refl h
+
+module _ {S : Type 0} {ops : Ops S} {c : Coherent S} {page : ℕ} {writes : Bool} {call : ℕ}
+    {P : Fetch S → Type 0} (rows : FetchRows ops c page writes call P) where
+  fetch_begun-row : (i : IdleState) (write own : Bool) → entry_at c.table page ≡ entry.Idle i
+      → is_full c ≡ false → suffices i.access (fetch_word writes) ≡ false
+      → needs_write (fetch_word writes) ≡ write → i.owner ≡ own
+      → P (fetch_begun ops c page writes call i)
+  fetch_begun-row i true true is room short write own =
+      rw (write, own) (rows.owner i is room short write own)
+  fetch_begun-row i true false is room short write own =
+      rw (write, own) (rows.write i is room short write own)
+  fetch_begun-row i false own is room short write owns = rw write (rows.read i is room short write)
+
+  pub fetch_begun-by_rows : (i : IdleState) → entry_at c.table page ≡ entry.Idle i
+      → is_full c ≡ false → suffices i.access (fetch_word writes) ≡ false
+      → P (fetch_begun ops c page writes call i)
+  fetch_begun-by_rows i is room short =
+      fetch_begun-row i (needs_write (fetch_word writes)) i.owner is room short refl refl
+
+  fetched-row : (o : Option IdleState) → fetchable c page writes ≡ o
+      → P (fetched_as ops c page writes call o)
+  fetched-row None is = rows.none
+  fetched-row (Some i) is =
+      let h = fetchable_is c page writes i is in fetch_begun-by_rows i h.is h.room h.short
+
+  -- what holds in each row holds of the fetch
+  pub fetch-by_rows : P (fetch ops c page writes call)
+  unfolding fetch
+  fetch-by_rows = fetched-row (fetchable c page writes) refl

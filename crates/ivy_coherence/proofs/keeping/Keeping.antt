@@ -1,6 +1,6 @@
 -- Each event keeps what holds of a node's coherence, and posts only what can be sent. For every
 -- manager that keeps the laws.
-use Rattle.std.proofs.Common.{◌≡◌, ◌≢◌, ℕ, ◌<◌, ◌≤◌, ◌^◌, inl, inr, Bool, true, false, List, [], ◌∷◌, length, map, cond, set, Option, Some, None, refl, sym, ap, ◌∙◌, subst, arith, if◌then◌else◌}
+use Rattle.std.proofs.Common.{◌≡◌, ◌≢◌, ℕ, ◌<◌, ◌≤◌, ◌^◌, inl, inr, Bool, true, false, List, [], ◌∷◌, length, map, cond, set, Option, Some, None, refl, sym, ap, ◌∙◌, subst, if◌then◌else◌}
 use Rattle.std.specs.Prelude.{All}
 use Rattle.std.specs.List.{filter, range_with_len}
 use Rattle.std.specs.FinSet as nodes
@@ -18,7 +18,6 @@ use Rattle.ivy_pagetable.specs.declared.PutOff.{PutOff}
 use Rattle.ivy_pagetable.specs.declared.Request.{Request}
 use Rattle.ivy_pagetable.specs.declared.Request.TheVariants as request
 use Rattle.ivy_pagetable.specs.declared.Word.{Word}
-use Rattle.ivy_pagetable.specs.stated.Accesses.{reads, suffices}
 use Rattle.ivy_model.specs.stated.Limits.{most_nodes}
 use Rattle.ivy_pagetable.specs.stated.NodeSets.{Nodes, nodes_of, nodes_with}
 use Rattle.ivy_pagetable.specs.stated.States.{IdleState, WaitingState, AwaitWriteState, AwaitAcksState}
@@ -31,17 +30,18 @@ use Rattle.ivy_pagetable.proofs.Bits.{with_below}
 use Rattle.ivy_pagetable.proofs.Words.{length-carried_out}
 use Rattle.ivy_coherence.specs.stated.Coherent.{Coherent}
 use Rattle.ivy_coherence.specs.stated.Serving.{Serving, serving, told, served_by_other, put_off_served, invalidations}
-use Rattle.ivy_coherence.specs.stated.MessageSteps.{CoherenceEffect, collected, still_collecting, breach, after_serving, copy_reply, sending, unlocked, put_by, sent_on, given_up, asked, handled}
+use Rattle.ivy_coherence.specs.stated.MessageSteps.{CoherenceEffect, collected, still_collecting, breach, after_serving, copy_reply, sending, word_unlocked, fetch_unlocked, unlocked, put_by, sent_on, given_up, asked, handled}
 use Rattle.ivy_coherence.specs.MessageSteps.{IsWaiting, IsCollecting}
 use Rattle.ivy_coherence.specs.stated.MessageSteps.{unlocked_as, reply_as}
-use Rattle.ivy_coherence.specs.stated.PageFaults.{Begun, hit, faulted, waiting_from, begun}
-use Rattle.ivy_coherence.specs.stated.IdleSound.{CanBeServed, AreOthers, IsSoundIdle}
+use Rattle.ivy_coherence.specs.stated.Fetching.{without_page}
+use Rattle.ivy_coherence.specs.stated.IdleSound.{CanBeServed, AreOthers}
 use Rattle.ivy_coherence.specs.stated.Several.{all_carried}
 use Rattle.ivy_coherence.specs.stated.Sound.{WaitAlong, IsSoundEntry, IsSound}
-use Rattle.ivy_coherence.proofs.batches.Along.{put_along, length-all_carried, kept_along, idle_along, freed_along, locked_along, more_fits}
+use Rattle.ivy_coherence.proofs.batches.Along.{AreAlong, put_along, length-all_carried, kept_along, idle_along, apart_along, freed_along, more_fits}
 use Rattle.ivy_coherence.proofs.keeping.IdleServing.{IsServing, all_none, all_one, parcel_fits, fewer_others, without-sound, copying-sound, owning-sound, keeps_all, all_served-keeps}
-use Rattle.ivy_coherence.proofs.keeping.EventTable.{Rows, AccessRows, MayAsk, asking-fits, asker_foreign, handled-by_rows, fault-by_rows, begun-by_rows}
-use Rattle.ivy_coherence.proofs.keeping.Changing.{AreLocks, change-sound, same_pages, other_page, same_locks, unlocks, locks, place, managed}
+use Rattle.ivy_coherence.proofs.keeping.EventTable.{Rows, MayAsk, asking-fits, asker_foreign, handled-by_rows}
+use Rattle.ivy_coherence.proofs.keeping.Changing.{AreLocks, change-sound, same_pages, other_page, same_locks, unlocks, ends, place, managed}
+use Rattle.ivy_coherence.proofs.keeping.Fetched.{unlocked_by}
 use Rattle.ivy_coherence.proofs.keeping.SoundEntries.{idle-sound, reading-sound, writing-sound, collecting-sound, owner_put, locked_put, put_entry-sound, entry_is, entry-sound}
 use Rattle.ivy_coherence.proofs.keeping.NextHop.{IsManaged, replied-node, invalidated-node, read-away, invalidated-away}
 
@@ -49,23 +49,19 @@ use Rattle.ivy_coherence.proofs.keeping.NextHop.{IsManaged, replied-node, invali
 abbrev pub Keeps : {S : Type 0} → Ops S → Coherent S → CoherenceEffect S → Type 0
 Keeps ops c e = IsSound ops e.after × All (FitsParcel c.config c.me) e.posted
 
--- what an access has to keep
-abbrev pub KeepsBegun : {S : Type 0} → Ops S → Coherent S → Begun S → Type 0
-KeepsBegun ops c b = IsSound ops b.after × All (FitsParcel c.config c.me) b.posted
-
--- what was put off is served with these bytes, the bytes of the page are `now`, and no word waits
--- at this node
-abbrev pub settled_with : {S : Type 0} → Ops S → Coherent S → ℕ → ℕ → IdleState → Option Request
-    → List ℕ → List ℕ → Option Out → List Out → List PutOff → CoherenceEffect S
-settled_with ops c from page i reply bytes now done outs qs =
+-- what was put off was served to this, the bytes of the page are `now`, and these locks are left
+abbrev pub settled_with : {S : Type 0} → Ops S → Coherent S → ℕ → List ℕ → Option ℕ → List ℕ
+    → List Word → Option Out → List Out → Serving S → CoherenceEffect S
+settled_with ops c page now lock fetched more done outs v =
     after_serving ops
     (record c {
       table = with_page c.table page now;
-      locked = None;
-      more = [];
+      locked = lock;
+      fetched = fetched;
+      more = more;
       done = done;
       done_more = outs;
-    }) page (put_off_served ops c.me from page bytes i c.manager c.breaches reply qs)
+    }) page v
 
 -- those that are told to give a copy up
 each_told : (P : Parcel → Type 0) (f : ℕ → Parcel) (p : ℕ → Bool) (xs : List ℕ)
@@ -109,7 +105,10 @@ module _ {S : Type 0} {ops : Ops S} where
       hop = s.hop;
       away = s.away;
       locked = s.locked;
+      fetched = s.fetched;
       others = s.others;
+      apart = s.apart;
+      few = s.few;
       along = s.along;
       alone = s.alone;
     },
@@ -120,7 +119,7 @@ module _ {S : Type 0} {ops : Ops S} where
       → page < c.config.pages → entry_at c.table page ≡ e → CanBeServed c.config c.me q
       → can_put_off e ≡ true → Keeps ops c (put_by ops c page e q)
   put_by-keeps c page e q s inside is can room = (
-    change-sound c page (with_put_off e q) c.table.pages c.manager c.locked c.more c.done
+    change-sound c page (with_put_off e q) c.table.pages c.manager c.locked c.fetched c.more c.done
         c.done_more c.breaches s
         (entry-sound c page e (with_put_off e q) s inside is
         (put_entry-sound c.config c.me e q (entry_is c page e s is) can room) (owner_put e q)
@@ -162,7 +161,7 @@ module _ {S : Type 0} {ops : Ops S} (laws : Laws ops) where
       (place c page (page_at c.table page) s inside (s.sized page inside))
       (serving i c.manager c.breaches []) (q ∷ []) (idle-start c page i s inside is)
       (all_one (CanBeServed c.config c.me) q can) in (
-        change-sound c page (entry.Idle v.idle) c.table.pages v.manager c.locked c.more c.done
+        change-sound c page (entry.Idle v.idle) c.table.pages v.manager c.locked c.fetched c.more c.done
             c.done_more v.breaches s
             (record {
               inside = inside;
@@ -201,7 +200,7 @@ module _ {S : Type 0} {ops : Ops S} (laws : Laws ops) where
       (all_one (CanBeServed c.config c.me) q can) in
       let v : Serving S =
       put_off_served ops c.me q.origin page bytes without c.manager c.breaches None (q ∷ []) in (
-        change-sound c page (entry.AwaitRead (sending w)) c.table.pages v.manager c.locked c.more
+        change-sound c page (entry.AwaitRead (sending w)) c.table.pages v.manager c.locked c.fetched c.more
             c.done c.done_more v.breaches s
             (record {
               inside = inside;
@@ -228,7 +227,7 @@ module _ {S : Type 0} {ops : Ops S} (laws : Laws ops) where
       let free : is_owner (entry_at c.table page) ≡ false = ap is_owner is in
       let at : IsManaged ops c.config c.me page c.manager = managed c page s inside in (
         change-sound c page (entry.AwaitWrite (record { had_copy = false; waiting = w.waiting }))
-            c.table.pages m c.locked c.more c.done c.done_more c.breaches s
+            c.table.pages m c.locked c.fetched c.more c.done c.done_more c.breaches s
             (record {
               inside = inside;
               entry = writing-sound c.config c.me (record { had_copy = false; waiting = w.waiting })
@@ -303,52 +302,106 @@ module _ {S : Type 0} {ops : Ops S} (laws : Laws ops) where
     fits = all_none (FitsParcel c.config c.me);
   }
 
-  -- what was put off is served with these bytes, and no word waits then; the page's own bytes may
-  -- be others
-  put_off_served-keeps : (c : Coherent S) (from page : ℕ) (i : IdleState) (reply : Option Request)
-      (bytes now : List ℕ) (done : Option Out) (outs : List Out) (qs : List PutOff) → IsSound ops c
-      → page < c.config.pages → length bytes ≡ c.config.page_size → length now ≡ c.config.page_size
-      → is_locked (entry_at c.table page) ≡ true → All (CanBeServed c.config c.me) qs
+  -- what was put off was served, and the entry is idle then; the bytes of the page may be others
+  -- than those that it was served with
+  pub settled-keeps : (c : Coherent S) (page : ℕ) (now : List ℕ) (lock : Option ℕ)
+      (fetched : List ℕ) (more : List Word) (done : Option Out) (outs : List Out) (v : Serving S)
+      → IsSound ops c → page < c.config.pages → length now ≡ c.config.page_size
+      → AreLocks page false c.locked lock c.fetched fetched
+      → ((e : Entry) → AreAlong c page e lock more)
+      → IsServing ops c.config c.me page c.manager v
+      → Keeps ops c (settled_with ops c page now lock fetched more done outs v)
+  settled-keeps c page now lock fetched more done outs v s inside long locks along h = (
+    change-sound c page (entry.Idle v.idle) (set c.table.pages page now) v.manager lock fetched more
+        done outs v.breaches s
+        (record {
+          inside = inside;
+          entry = idle-sound c.config c.me v.idle h.idle;
+          sized = other_page c page now s inside long;
+          keeps = h.keeps;
+          hop = h.hop;
+          away = h.away;
+          locks = locks;
+          along = along (entry.Idle v.idle);
+        }),
+    h.fits,
+  )
+
+  -- the word that waited there was carried out, and those that waited along; or the page was fetched
+  pub word-keeps : (c : Coherent S) (page : ℕ) (now : List ℕ) (done : Option Out)
+      (outs : List Out) (v : Serving S) → IsSound ops c → page < c.config.pages
+      → length now ≡ c.config.page_size → c.locked ≡ Some page
+      → IsServing ops c.config c.me page c.manager v
+      → Keeps ops c (settled_with ops c page now None c.fetched [] done outs v)
+  word-keeps c page now done outs v s inside long here h =
+      settled-keeps c page now None c.fetched [] done outs v s inside long (unlocks c page s here)
+      (freed_along c page) h
+
+  pub fetched-keeps : (c : Coherent S) (page : ℕ) (now : List ℕ) (v : Serving S) → IsSound ops c
+      → page < c.config.pages → length now ≡ c.config.page_size → c.locked ≢ Some page
+      → IsServing ops c.config c.me page c.manager v
+      → Keeps ops c
+      (settled_with ops c page now c.locked (without_page page c.fetched) c.more c.done c.done_more v)
+  fetched-keeps c page now v s inside long elsewhere h =
+      settled-keeps c page now c.locked (without_page page c.fetched) c.more c.done c.done_more v s
+      inside long (ends c page s elsewhere) (λ e. apart_along c page e s elsewhere) h
+
+  -- what was put off is served with these bytes
+  put_off_served-serves : (c : Coherent S) (from page : ℕ) (i : IdleState) (reply : Option Request)
+      (bytes : List ℕ) (qs : List PutOff) → IsSound ops c → page < c.config.pages
+      → length bytes ≡ c.config.page_size → All (CanBeServed c.config c.me) qs
       → IsServing ops c.config c.me page c.manager
       (serving i (told ops from page c.manager reply) c.breaches [])
-      → Keeps ops c (settled_with ops c from page i reply bytes now done outs qs)
-  put_off_served-keeps c from page i reply bytes now done outs qs s inside sized long lock can start =
-      let v : Serving S = put_off_served ops c.me from page bytes i c.manager c.breaches reply qs in
-      let h : IsServing ops c.config c.me page c.manager v
-      = all_served-keeps laws c.config c.me page bytes c.manager (place c page bytes s inside sized)
-      (serving i (told ops from page c.manager reply) c.breaches []) qs start can in (
-        change-sound c page (entry.Idle v.idle) (set c.table.pages page now) v.manager None [] done outs
-            v.breaches s
-            (record {
-              inside = inside;
-              entry = idle-sound c.config c.me v.idle h.idle;
-              sized = other_page c page now s inside long;
-              keeps = h.keeps;
-              hop = h.hop;
-              away = h.away;
-              locks = unlocks c page s lock;
-              along = freed_along c page (entry.Idle v.idle);
-            }),
-        h.fits,
-      )
+      → IsServing ops c.config c.me page c.manager
+      (put_off_served ops c.me from page bytes i c.manager c.breaches reply qs)
+  put_off_served-serves c from page i reply bytes qs s inside sized can start =
+      all_served-keeps laws c.config c.me page bytes c.manager (place c page bytes s inside sized)
+      (serving i (told ops from page c.manager reply) c.breaches []) qs start can
 
-  unlocked-keeps : (c : Coherent S) (from page : ℕ) (i : IdleState) (reply : Option Request)
+  word_unlocked-keeps : (c : Coherent S) (from page : ℕ) (i : IdleState) (reply : Option Request)
       (bytes : List ℕ) (w : WaitingState) → IsSound ops c → page < c.config.pages
-      → length bytes ≡ c.config.page_size
-      → is_locked (entry_at c.table page) ≡ true → IsWord c.config.page_size w.word
+      → length bytes ≡ c.config.page_size → c.locked ≡ Some page → IsWord c.config.page_size w.word
       → All (CanBeServed c.config c.me) w.put_off
       → IsServing ops c.config c.me page c.manager
       (serving i (told ops from page c.manager reply) c.breaches [])
-      → Keeps ops c (unlocked ops c from page i reply bytes w)
-  unlocked-keeps c from page i reply bytes w s inside sized lock word can start =
+      → Keeps ops c (word_unlocked ops c from page i reply bytes w)
+  word_unlocked-keeps c from page i reply bytes w s inside sized here word can start =
       let long : length (carried_out w.word bytes).bytes ≡ c.config.page_size =
       length-carried_out w.word bytes (subst (λ n. IsWord n w.word) (sym sized) word) ∙ sized in
       let all : length (all_carried c.more (carried_out w.word bytes).bytes).bytes ≡ c.config.page_size =
       length-all_carried c.more (carried_out w.word bytes).bytes c.config.page_size long
-      (more_fits c page s lock) in
-      put_off_served-keeps c from page i reply _ _ (Some (carried_out w.word bytes).out)
-      (all_carried c.more (carried_out w.word bytes).bytes).outs w.put_off s inside
-      all all lock can start
+      (more_fits c page s here) in
+      let now : List ℕ = (all_carried c.more (carried_out w.word bytes).bytes).bytes in
+      word-keeps c page now (Some (carried_out w.word bytes).out)
+      (all_carried c.more (carried_out w.word bytes).bytes).outs
+      (put_off_served ops c.me from page now i c.manager c.breaches reply w.put_off) s inside all here
+      (put_off_served-serves c from page i reply now w.put_off s inside all can start)
+
+  fetch_unlocked-keeps : (c : Coherent S) (from page : ℕ) (i : IdleState) (reply : Option Request)
+      (bytes : List ℕ) (w : WaitingState) → IsSound ops c → page < c.config.pages
+      → length bytes ≡ c.config.page_size → c.locked ≢ Some page
+      → All (CanBeServed c.config c.me) w.put_off
+      → IsServing ops c.config c.me page c.manager
+      (serving i (told ops from page c.manager reply) c.breaches [])
+      → Keeps ops c (fetch_unlocked ops c from page i reply bytes w)
+  fetch_unlocked-keeps c from page i reply bytes w s inside sized elsewhere can start =
+      fetched-keeps c page bytes
+      (put_off_served ops c.me from page bytes i c.manager c.breaches reply w.put_off) s inside sized
+      elsewhere
+      (put_off_served-serves c from page i reply bytes w.put_off s inside sized can start)
+
+  unlocked-keeps : (c : Coherent S) (from page : ℕ) (i : IdleState) (reply : Option Request)
+      (bytes : List ℕ) (w : WaitingState) → IsSound ops c → page < c.config.pages
+      → length bytes ≡ c.config.page_size → IsWord c.config.page_size w.word
+      → All (CanBeServed c.config c.me) w.put_off
+      → IsServing ops c.config c.me page c.manager
+      (serving i (told ops from page c.manager reply) c.breaches [])
+      → Keeps ops c (unlocked ops c from page i reply bytes w)
+  unlocked-keeps c from page i reply bytes w s inside sized word can start =
+      unlocked_by ops (Keeps ops c) c from page i reply bytes w
+      (λ here. word_unlocked-keeps c from page i reply bytes w s inside sized here word can start)
+      (λ elsewhere. fetch_unlocked-keeps c from page i reply bytes w s inside sized elsewhere can
+      start)
 
   -- a copy comes for the word that waits to read; the page comes alone for one that waits to write;
   -- the last copy was given up
@@ -361,7 +414,6 @@ module _ {S : Type 0} {ops : Ops S} (laws : Laws ops) where
       let good : IsSoundEntry c.config c.me (entry.AwaitRead w) =
       entry_is c page (entry.AwaitRead w) s is in
       unlocked-keeps c from page copying (copy_reply w) bytes w s inside sized
-      (ap is_locked is)
       (good.reading w refl).0 good.put_off
       (copy-start c page from w.sent_on s inside (ap is_owner is) below foreign)
 
@@ -374,7 +426,6 @@ module _ {S : Type 0} {ops : Ops S} (laws : Laws ops) where
       let good : IsSoundEntry c.config c.me (entry.AwaitWrite w) =
       entry_is c page (entry.AwaitWrite w) s is in
       unlocked-keeps c from page owning (Some request.Write) bytes w.waiting s inside sized
-      (ap is_locked is)
       (good.writing w refl).0 good.put_off (page-start c page from s inside below)
 
   last_copy-keeps : (c : Coherent S) (from page : ℕ) (w : AwaitAcksState) → IsSound ops c
@@ -384,7 +435,7 @@ module _ {S : Type 0} {ops : Ops S} (laws : Laws ops) where
       let good : IsSoundEntry c.config c.me (entry.AwaitAcks w) =
       entry_is c page (entry.AwaitAcks w) s is in
       unlocked-keeps c from page owning None (page_at c.table page) w.waiting s inside
-      (s.sized page inside) (ap is_locked is) (good.collecting w refl).0.0 good.put_off
+      (s.sized page inside) (good.collecting w refl).0.0 good.put_off
       (last-start c page from s inside)
 
   -- the page came, and other nodes have a copy of it
@@ -398,7 +449,7 @@ module _ {S : Type 0} {ops : Ops S} (laws : Laws ops) where
       entry_is c page (entry.AwaitWrite w) s is in
       let word = good.writing w refl in
       change-sound c page (entry.AwaitAcks (record { left = copies; waiting = w.waiting }))
-      (set c.table.pages page bytes) (ops.on_replied c.manager page true from) c.locked c.more c.done
+      (set c.table.pages page bytes) (ops.on_replied c.manager page true from) c.locked c.fetched c.more c.done
       c.done_more c.breaches s
       (record {
         inside = inside;
@@ -423,7 +474,7 @@ module _ {S : Type 0} {ops : Ops S} (laws : Laws ops) where
       entry_is c page (entry.AwaitAcks w) s is in
       let word = (good.collecting w refl).0 in
       let e : Entry = entry.AwaitAcks (record { left = left; waiting = w.waiting }) in
-      change-sound c page e c.table.pages c.manager c.locked c.more c.done
+      change-sound c page e c.table.pages c.manager c.locked c.fetched c.more c.done
       c.done_more c.breaches s
       (entry-sound c page (entry.AwaitAcks w) e s inside is
       (collecting-sound c.config c.me (record { left = left; waiting = w.waiting }) word.0
@@ -475,43 +526,44 @@ module _ {S : Type 0} {ops : Ops S} (laws : Laws ops) where
       subst (λ (x : WaitingState). IsWord c.config.page_size x.word) (sym h.1.1)
       ((entry_is c page (entry.AwaitAcks h.0) s h.1.0).collecting h.0 refl).0.0
 
-  pub unlocking-keeps : (c : Coherent S) (from page : ℕ) (kind : Request) (bytes now : List ℕ)
-      (done : Option Out) (outs : List Out) (w : WaitingState) → IsSound ops c
-      → from < c.config.nodes → from ≢ c.me → page < c.config.pages → length bytes ≡ c.config.page_size → length now ≡ c.config.page_size
+  -- what was put off there is served with these bytes, once the page, or a copy, came; or the last
+  -- acknowledgement
+  pub unlocking-serves : (c : Coherent S) (from page : ℕ) (kind : Request) (bytes : List ℕ)
+      (w : WaitingState) → IsSound ops c → from < c.config.nodes → from ≢ c.me
+      → page < c.config.pages → length bytes ≡ c.config.page_size
       → IsWaiting (entry_at c.table page) kind w
-      → Keeps ops c
-      (settled_with ops c from page (unlocked_as kind) (reply_as kind w) bytes now done outs
-      w.put_off)
+      → IsServing ops c.config c.me page c.manager
+      (put_off_served ops c.me from page bytes (unlocked_as kind) c.manager c.breaches
+      (reply_as kind w) w.put_off)
   unfolding reply_as
-  unlocking-keeps c from page request.Write bytes now done outs w s below foreign inside sized long
-      waits =
+  unlocking-serves c from page request.Write bytes w s below foreign inside sized waits =
       let h = writes-at (entry_at c.table page) w waits in
       let good : IsSoundEntry c.config c.me (entry.AwaitWrite h.0) =
       entry_is c page (entry.AwaitWrite h.0) s h.1.0 in
-      put_off_served-keeps c from page owning (Some request.Write) bytes now done outs w.put_off s inside sized
-      long
-      (ap is_locked h.1.0)
+      put_off_served-serves c from page owning (Some request.Write) bytes w.put_off s inside sized
       (subst (λ (x : WaitingState). All (CanBeServed c.config c.me) x.put_off) (sym h.1.1)
       good.put_off) (page-start c page from s inside below)
-  unlocking-keeps c from page request.Read bytes now done outs w s below foreign inside sized long
-      waits =
+  unlocking-serves c from page request.Read bytes w s below foreign inside sized waits =
       let is : entry_at c.table page ≡ entry.AwaitRead w =
       reads-at (entry_at c.table page) w waits in
-      put_off_served-keeps c from page copying (copy_reply w) bytes now done outs w.put_off s inside
-      sized long
-      (ap is_locked is)
+      put_off_served-serves c from page copying (copy_reply w) bytes w.put_off s inside sized
       (entry_is c page (entry.AwaitRead w) s is).put_off
       (copy-start c page from w.sent_on s inside (ap is_owner is) below foreign)
-  unlocking-keeps c from page request.Invalidate _ _ _ _ w s below foreign inside sized long waits =
+  unlocking-serves c from page request.Invalidate _ w s below foreign inside sized waits =
       absurd (never-waits (entry_at c.table page) w waits)
 
-  pub last-keeps : (c : Coherent S) (from page : ℕ) (w : WaitingState) → IsSound ops c
-      → page < c.config.pages → IsCollecting (entry_at c.table page) w
-      → Keeps ops c (unlocked ops c from page owning None (page_at c.table page) w)
-  last-keeps c from page w s inside waits =
+  pub last-serves : (c : Coherent S) (from page : ℕ) (bytes : List ℕ) (w : WaitingState)
+      → IsSound ops c → page < c.config.pages → length bytes ≡ c.config.page_size
+      → IsCollecting (entry_at c.table page) w
+      → IsServing ops c.config c.me page c.manager
+      (put_off_served ops c.me from page bytes owning c.manager c.breaches None w.put_off)
+  last-serves c from page bytes w s inside sized waits =
       let h = collects-at (entry_at c.table page) w waits in
-      subst (λ x. Keeps ops c (unlocked ops c from page owning None (page_at c.table page) x))
-      (sym h.1.1) (last_copy-keeps c from page h.0 s inside h.1.0)
+      let good : IsSoundEntry c.config c.me (entry.AwaitAcks h.0) =
+      entry_is c page (entry.AwaitAcks h.0) s h.1.0 in
+      put_off_served-serves c from page owning None bytes w.put_off s inside sized
+      (subst (λ (x : WaitingState). All (CanBeServed c.config c.me) x.put_off) (sym h.1.1)
+      good.put_off) (last-start c page from s inside)
 
   pub sending-keeps : (c : Coherent S) (page : ℕ) (w : WaitingState) (q : PutOff) → IsSound ops c
       → page < c.config.pages → IsWaiting (entry_at c.table page) request.Read w
@@ -607,127 +659,3 @@ module _ {S : Type 0} {ops : Ops S} (laws : Laws ops) where
       handled-by_rows m
       (message-rows c from m.origin m.call s below foreign fits.origin fits.call_from fits.call_to)
       fits.content
-
-  pub hit-keeps : (c : Coherent S) (page : ℕ) (w : Word) → IsSound ops c → page < c.config.pages
-      → IsWord c.config.page_size w → KeepsBegun ops c (hit ops c page w)
-  hit-keeps c page w s inside word =
-      let now : List ℕ = (carried_out w (page_at c.table page)).bytes in
-      let old : length (page_at c.table page) ≡ c.config.page_size = s.sized page inside in
-      let pages =
-      other_page c page now s inside
-      (length-carried_out w (page_at c.table page) (subst (λ n. IsWord n w) (sym old) word)
-      ∙ old) in (
-        record {
-          limits = s.limits;
-          here = s.here;
-          mine = s.mine;
-          managed = s.managed;
-          nodes = s.nodes;
-          size = s.size;
-          entries = s.entries;
-          pages = pages.count;
-          sized = pages.sized;
-          each = s.each;
-          hop = s.hop;
-          away = s.away;
-          locked = s.locked;
-          others = s.others;
-          along = s.along;
-          alone = s.alone;
-        },
-        all_none (FitsParcel c.config c.me),
-      )
-
-  -- a word waits at an entry that no word waited at
-  locking : (c : Coherent S) (page : ℕ) (e : Entry) → IsSound ops c → page < c.config.pages
-      → c.locked ≡ None → IsSoundEntry c.config c.me e → is_locked e ≡ true
-      → (is_owner e ≡ false → is_owner (entry_at c.table page) ≡ false)
-      → IsSound ops
-      (record c {
-        table =
-            record {
-              page_size = c.table.page_size;
-              entries = set c.table.entries page e;
-              pages = c.table.pages;
-            };
-        locked = Some page;
-      })
-  locking c page e s inside none good lock owner =
-      change-sound c page e c.table.pages c.manager (Some page) c.more c.done c.done_more c.breaches s
-      (record {
-        inside = inside;
-        entry = good;
-        sized = same_pages c s;
-        keeps = keeps_all c.manager page;
-        hop = s.hop page inside;
-        away = λ free. s.away page inside (owner free);
-        locks = subst (λ b. AreLocks page b c.locked (Some page)) (sym lock) (locks c page none);
-        along = locked_along c page e s none;
-      })
-
-  pub not_owner : (owner readable : Bool) → (owner ≡ true → readable ≡ true) → readable ≡ false
-      → owner ≡ false
-  not_owner true readable h r = absurd (let e : true ≡ false = sym (h refl) ∙ r in cc)
-  not_owner false readable h r = refl
-
-  access-rows : (c : Coherent S) (page : ℕ) (w : Word) (call : ℕ) → IsSound ops c
-      → page < c.config.pages → IsWord c.config.page_size w → 1 ≤ call → call < 2 ^ 64
-      → AccessRows ops c page w call (KeepsBegun ops c)
-  access-rows c page w call s inside word least most = record {
-    busy = (s, all_none (FitsParcel c.config c.me));
-    hit = λ i none is enough. hit-keeps c page w s inside word;
-    read = λ i none is short reading.
-        let good : IsSoundIdle c.config c.me i =
-        (entry_is c page (entry.Idle i) s is).idle i refl in
-        let unread : reads i.access ≡ false = rw reading at short in
-        let free : is_owner (entry_at c.table page) ≡ false =
-        ap is_owner is ∙ not_owner i.owner (reads i.access) good.owned unread in (
-          locking c page (entry.AwaitRead (waiting_from w call)) s inside none
-              (reading-sound c.config c.me (waiting_from w call) word reading
-              (all_none (CanBeServed c.config c.me)) (omega arith)) refl (λ h. free),
-          all_one (FitsParcel c.config c.me) _
-              (parcel_fits c.config c.me (ops.next_hop c.manager page) c.me call
-              (content.ReadReq page) s.here (s.hop page inside) (s.away page inside free) s.here
-              least most inside),
-        );
-    write = λ i none is short writing other.
-        let free : is_owner (entry_at c.table page) ≡ false = ap is_owner is ∙ other in (
-          locking c page
-              (entry.AwaitWrite
-              (record { had_copy = reads i.access; waiting = waiting_from w call })) s inside none
-              (writing-sound c.config c.me
-              (record { had_copy = reads i.access; waiting = waiting_from w call }) word writing
-              (all_none (CanBeServed c.config c.me)) (omega arith)) refl (λ h. free),
-          all_one (FitsParcel c.config c.me) _
-              (parcel_fits c.config c.me (ops.next_hop c.manager page) c.me call
-              (content.WriteReq page) s.here (s.hop page inside) (s.away page inside free) s.here
-              least most inside),
-        );
-    owner = λ i none is short writing own.
-        let good : IsSoundIdle c.config c.me i =
-        (entry_is c page (entry.Idle i) s is).idle i refl in (
-          locking c page
-              (entry.AwaitAcks (record { left = i.copies; waiting = waiting_from w call })) s inside
-              none
-              (collecting-sound c.config c.me
-              (record { left = i.copies; waiting = waiting_from w call }) word writing
-              good.copies (all_none (CanBeServed c.config c.me)) (omega arith)) refl
-              (λ h. absurd cc),
-          invalidations-fit c.config c.me page call i.copies s.here inside least most good.copies,
-        );
-  }
-
-  pub fault-keeps : (c : Coherent S) (page : ℕ) (w : Word) (call : ℕ) (i : IdleState)
-      → IsSound ops c → page < c.config.pages → IsWord c.config.page_size w → 1 ≤ call
-      → call < 2 ^ 64
-      → entry_at c.table page ≡ entry.Idle i → c.locked ≡ None → suffices i.access w ≡ false
-      → KeepsBegun ops c (faulted ops c page w call i)
-  fault-keeps c page w call i s inside word least most is none short =
-      fault-by_rows (access-rows c page w call s inside word least most) i none is short
-
-  -- an access of this node's program
-  pub begun-keeps : (c : Coherent S) (page : ℕ) (w : Word) (call : ℕ) → IsSound ops c
-      → page < c.config.pages → IsWord c.config.page_size w → 1 ≤ call → call < 2 ^ 64
-      → KeepsBegun ops c (begun ops c page w call)
-  begun-keeps c page w call s inside word least most =
-      begun-by_rows (access-rows c page w call s inside word least most)

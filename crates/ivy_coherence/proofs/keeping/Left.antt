@@ -11,17 +11,17 @@ use Rattle.ivy_pagetable.specs.declared.Entry.{Entry}
 use Rattle.ivy_pagetable.specs.declared.Entry.TheVariants as entry
 use Rattle.ivy_pagetable.specs.declared.Request.{Request}
 use Rattle.ivy_pagetable.specs.declared.Request.TheVariants as request
-use Rattle.ivy_pagetable.specs.stated.States.{IdleState}
+use Rattle.ivy_pagetable.specs.stated.States.{IdleState, WaitingState}
 use Rattle.ivy_pagetable.specs.stated.TableState.{Table}
-use Rattle.ivy_pagetable.specs.stated.Entries.{nothing, is_owner, is_locked}
+use Rattle.ivy_pagetable.specs.stated.Entries.{nothing, is_owner, is_locked, copying, owning}
 use Rattle.ivy_pagetable.specs.stated.Tables.{entry_at, page_at, with_entry, with_page}
 use Rattle.ivy_pagetable.specs.stated.Manager.{Ops}
 use Rattle.ivy_coherence.specs.declared.leaving.Leaving.{Leaving}
-use Rattle.ivy_coherence.specs.declared.leaving.Wish.{Wish}
 use Rattle.ivy_coherence.specs.Leavings.{left_by, left_at, leaving_by, wish_as, leaves}
 use Rattle.ivy_coherence.specs.stated.Coherent.{Coherent}
-use Rattle.ivy_coherence.specs.stated.Serving.{Serving, serving, served_by_owner, served_by_other, put_off_served}
-use Rattle.ivy_coherence.specs.stated.MessageSteps.{CoherenceEffect, is_order, handled}
+use Rattle.ivy_coherence.specs.stated.Serving.{put_off_served}
+use Rattle.ivy_coherence.specs.stated.MessageSteps.{CoherenceEffect, is_order, copy_reply, unlocked, handled}
+use Rattle.ivy_coherence.proofs.keeping.Fetched.{unlocked_by}
 use Rattle.ivy_coherence.proofs.keeping.EventTable.{Rows, Misfits, MayAsk, IsReply, IsOfAllocator, asking, handled-by_rows}
 use Rattle.ivy_coherence.proofs.keeping.EventTable.Misfits.{OwnRequest, OrderOfAnother, OrderAtOwner, FullList, ReplyToAnother, NotAwaited, CopyOfItsOwn, NotMissing, OfAllocator}
 
@@ -212,6 +212,16 @@ module _ {S : Type 0} (ops : Ops S) (c : Coherent S) (from : ℕ) (p : ℕ) (s :
       (get_or-set_other c.table.entries q p e nothing other)
       (get_or-set_other c.table.pages q p bytes [] other)
 
+  -- another page is unlocked
+  other_unlocked : (q : ℕ) (i : IdleState) (reply : Option Request) (bytes : List ℕ)
+      (w : WaitingState) (l : Option Leaving) → p ≢ q → l ≡ None
+      → IsLeft c.table p (access_left p s.access l)
+      (unlocked ops c from q i reply bytes w).after.table
+  other_unlocked q i reply bytes w l other none =
+      unlocked_by ops (λ e. IsLeft c.table p (access_left p s.access l) e.after.table) c from q i
+      reply bytes w (λ here. other_page q _ _ l other none)
+      (λ elsewhere. other_page q _ _ l other none)
+
   wished : (origin q : ℕ) (kind : Request) (e : Entry) → MayAsk c from origin kind
       → entry_at c.table q ≡ e → is_locked e ≡ true
       → leaving_by c (wish_as c.me from origin (asking kind q)) ≡ None
@@ -233,15 +243,18 @@ module _ {S : Type 0} (ops : Ops S) (c : Coherent S) (from : ℕ) (p : ℕ) (s :
     given_up = λ page w by at.
         other_entry page _ _ (elsewhere page _ at refl)
         (wished origin page request.Invalidate _ by at refl);
-    copy = λ page bytes w mine at this. other_page page _ _ _ (elsewhere page _ at refl) refl;
+    copy = λ page bytes w mine at this.
+        other_unlocked page copying (copy_reply w) bytes w _ (elsewhere page _ at refl) refl;
     alone = λ page copies bytes w mine at this none.
-        other_page page _ _ _ (elsewhere page _ at refl) refl;
+        other_unlocked page owning (Some request.Write) bytes w.waiting _ (elsewhere page _ at refl)
+        refl;
     shared = λ page copies bytes w mine at this some apart.
         other_page page _ _ _ (elsewhere page _ at refl) refl;
     acknowledged = λ page w mine at this missing others.
         other_entry page _ _ (elsewhere page _ at refl) refl;
     last = λ page w mine at this missing none.
-        other_page page _ _ _ (elsewhere page _ at refl) refl;
+        other_unlocked page owning None (page_at c.table page) w.waiting _ (elsewhere page _ at refl)
+        refl;
   }
 
 -- a message leaves of an entry at which no word waits what it says beforehand

@@ -1,11 +1,14 @@
 -- The same for a value whose fields the code works on: `v` is what the fields are seen as, `n` the
 -- value.
-use Rattle.std.proofs.Common.{◌≡◌, ◌≢◌, ℕ, ◌<◌, ◌≤◌, ◌^◌, Bool, true, false, List, [], ◌∷◌, length}
+use Rattle.std.proofs.Common.{◌≡◌, ◌≢◌, ℕ, suc, ◌+◌, ◌<◌, ◌≤◌, ◌^◌, Bool, true, false, List, [], ◌∷◌, length}
 use Rattle.std.proofs.Common.{Option, Some, None, is_some, Result, Ok, Err, OnErr, refl, sym, ap}
 use Rattle.std.proofs.Common.{◌∙◌, subst, arith, set-set, eq-eqb, inl, inr, ◌⊎◌}
 use Rattle.std.specs.Prelude.{All, if◌then◌else◌, IsTrue}
 use Rattle.std.specs.FinSet as set
 use Rattle.std.specs.Ordering.{nat_cmp}
+use Rattle.std.specs.List.{Contains}
+use Rattle.std.proofs.lemmas.List.Elements.{All-nil}
+use Rattle.std.proofs.lemmas.Bool.{eqb-false}
 use Rattle.std.proofs.lemmas.Bool.Decides.{eqb_tells}
 use Rattle.std.proofs.lemmas.List.{get_or-set_same, set-get_or, length-set}
 use Rattle.std.proofs.lemmas.Option.{none-some}
@@ -26,28 +29,33 @@ use Rattle.ivy_pagetable.specs.stated.TableState.{Table}
 use Rattle.ivy_pagetable.specs.stated.Tables.{entry_at, page_at, with_entry, with_page}
 use Rattle.ivy_pagetable.specs.declared.Word.TheVariants.{Store}
 use Rattle.ivy_pagetable.specs.stated.Words.{IsWord, width_of, offset_of, number_at, carried_out}
-use Rattle.ivy_pagetable.proofs.Words.{taken_back}
+use Rattle.ivy_pagetable.specs.LockedEntries.{most_locked, locked_beside}
+use Rattle.ivy_pagetable.proofs.LockedEntries.{room_beside, room_again}
+use Rattle.ivy_pagetable.proofs.Words.{taken_back, length-carried_out}
 use Rattle.ivy_pagetable.specs.stated.Manager.{Ops}
 use Rattle.ivy_pagetable.specs.Manager.{Laws}
 use Rattle.ivy_coherence.specs.stated.Coherent.{Coherent}
 use Rattle.ivy_coherence.specs.EventLimits.{most_posted}
 use Rattle.ivy_coherence.specs.stated.Several.{all_carried}
 use Rattle.ivy_coherence.specs.stated.Serving.{put_off_served, invalidations}
-use Rattle.ivy_coherence.specs.stated.MessageSteps.{unlocked, sending, sent_on, asked, asked_at, is_none}
+use Rattle.ivy_coherence.specs.stated.Fetching.{most_fetched}
+use Rattle.ivy_coherence.specs.stated.MessageSteps.{sending, sent_on, asked, asked_at, is_none}
 use Rattle.ivy_coherence.specs.MessageSteps.{IsWaiting, IsCollecting}
 use Rattle.ivy_coherence.specs.stated.MessageSteps.{unlocked_as, reply_as}
 use Rattle.ivy_pagetable.specs.stated.Accesses.{suffices}
 use Rattle.ivy_coherence.specs.PageFaults.{IsIdleAt, HasToAsk, MayMakePage}
-use Rattle.ivy_coherence.specs.stated.PageFaults.{fault_entry, hit, faulted, accessed, begun_at, begun}
+use Rattle.ivy_coherence.specs.stated.PageFaults.{fault_entry, hit, faulted, accessed, begun_at, begun, is_full}
 use Rattle.ivy_coherence.specs.stated.IdleSound.{CanBeServed, AreOthers, IsSoundIdle}
 use Rattle.ivy_coherence.specs.stated.Sound.{IsSound}
 use Rattle.ivy_pagetable.specs.stated.Entries.{can_put_off, with_put_off, without, owning, is_locked}
-use Rattle.ivy_coherence.proofs.keeping.IdleServing.{fewer_others}
-use Rattle.ivy_coherence.proofs.batches.Along.{put_along}
+use Rattle.ivy_coherence.proofs.keeping.IdleServing.{IsServing, fewer_others}
+use Rattle.ivy_coherence.proofs.batches.Along.{put_along, length-all_carried, more_fits}
 use Rattle.ivy_coherence.proofs.keeping.Changing.{change-sound}
 use Rattle.ivy_coherence.proofs.posting.FewServed.{nodes_few}
 use Rattle.ivy_coherence.proofs.keeping.SoundEntries.{entry_is, entry-sound, put_entry-sound, owner_put, locked_put}
-use Rattle.ivy_coherence.proofs.keeping.Keeping.{Keeps, idle_asked-keeps, hit-keeps, fault-keeps, invalidations-fit, waiting_word, collecting_word, unlocking-keeps, last-keeps, giving-keeps, collecting-keeps}
+use Rattle.ivy_coherence.proofs.keeping.Accesses.{hit-keeps, fault-keeps}
+use Rattle.ivy_coherence.proofs.keeping.Keeping.{Keeps, idle_asked-keeps, invalidations-fit, waiting_word, collecting_word}
+use Rattle.ivy_coherence.proofs.keeping.Keeping.{word-keeps, unlocking-serves, last-serves, giving-keeps, collecting-keeps}
 use Rattle.ivy_coherence.proofs.keeping.Keeping.{left-keeps, sending-keeps}
 
 pub none_of : (o : Option ℕ) → is_some o ≡ false → o ≡ None
@@ -56,7 +64,7 @@ none_of (Some x) h = absurd cc
 
 -- what fits this node fits the post
 module _ {S : Type 0} (n v : Coherent S) (same : v ≡ n) where
-  fits_at : (k : Config) (node : ℕ) → k ≡ n.config → node ≡ n.me → (ps : List Parcel)
+  pub fits_at : (k : Config) (node : ℕ) → k ≡ n.config → node ≡ n.me → (ps : List Parcel)
       → All (FitsParcel v.config v.me) ps → All (FitsParcel k node) ps
   fits_at k node config me ps fits =
       let k_is : v.config ≡ k = ap (λ (x : Coherent S). x.config) same ∙ sym config in
@@ -116,10 +124,23 @@ asks n v same page w i (Err e) free is short =
     inl (subst (λ (x : Coherent _). HasToAsk x page w) same
     (record { free = free; idle = i; is = is; short = short }))
 
--- the page of a locked entry
-abbrev page_of : Option ℕ → ℕ
-page_of None = 0
-page_of (Some p) = p
+-- the pages whose entries are locked, each by its name
+abbrev named : Option ℕ → List ℕ → List ℕ
+named None pages = pages
+named (Some page) pages = page ∷ pages
+
+named_waits : (o : Option ℕ) (pages : List ℕ) (p : ℕ) → o ≡ Some p → Contains (named o pages) p
+named_waits None pages p is = absurd cc
+named_waits (Some q) pages p is = (0, omega arith, let f : Some q ≡ Some p = is in cc)
+
+named_fetched : (o : Option ℕ) (pages : List ℕ) (p : ℕ) → Contains pages p
+    → Contains (named o pages) p
+named_fetched None pages p h = h
+named_fetched (Some q) pages p h = (suc h.0, omega (arith, h.1), h.2)
+
+named_few : (o : Option ℕ) (pages : List ℕ) → length (named o pages) ≤ length pages + 1
+named_few None pages = omega arith
+named_few (Some q) pages = omega arith
 
 -- a word waits at the entry
 waiting_locked : (e : Entry) (kind : Request) (w : WaitingState) → IsWaiting e kind w
@@ -146,30 +167,59 @@ module _ {S : Type 0} {ops : Ops S} (n v : Coherent S) (same : v ≡ n) (s : IsS
   here : (P : Coherent S → Type 0) → P n → P v
   here P h = subst P (sym same) h
 
-  -- a word waits at no other entry than at this one
-  alone_at : (page : ℕ) → is_locked (entry_at v.table page) ≡ true
-      → (p : ℕ) → is_locked (entry_at v.table p) ≡ true → p ≡ page
-  alone_at page waits p there = ap page_of (sym (s.others p there) ∙ s.others page waits)
+  -- each locked entry is named
+  is_named : (p : ℕ) → is_locked (entry_at v.table p) ≡ true
+      → Contains (named v.locked v.fetched) p
+  is_named p there = elim (s.others p there) [
+    | inl x ↦ named_waits v.locked v.fetched p x
+    | inr x ↦ named_fetched v.locked v.fetched p x
+  ]
 
-  pub alone_waiting : (page : ℕ) (kind : Request) (w : WaitingState)
-      → IsWaiting (entry_at n.table page) kind w
-      → (p : ℕ) → is_locked (entry_at v.table p) ≡ true → p ≡ page
-  alone_waiting page kind w waits =
-      alone_at page
+  -- so there is room for an entry that was locked before
+  room_here : (page : ℕ) → is_locked (entry_at v.table page) ≡ true
+      → locked_beside v.table page < most_locked
+  room_here page there =
+      let many = named_few v.locked v.fetched in
+      let most = s.few in
+      room_again v.table page (named v.locked v.fetched) (omega (arith, many, most)) is_named there
+
+  pub room_waiting : (page : ℕ) (kind : Request) (w : WaitingState)
+      → IsWaiting (entry_at n.table page) kind w → locked_beside v.table page < most_locked
+  room_waiting page kind w waits =
+      room_here page
       (waiting_locked (entry_at v.table page) kind w
       (here (λ x. IsWaiting (entry_at x.table page) kind w) waits))
 
-  pub alone_collecting : (page : ℕ) (w : WaitingState) → IsCollecting (entry_at n.table page) w
-      → (p : ℕ) → is_locked (entry_at v.table p) ≡ true → p ≡ page
-  alone_collecting page w waits =
-      alone_at page
+  pub room_collecting : (page : ℕ) (w : WaitingState) → IsCollecting (entry_at n.table page) w
+      → locked_beside v.table page < most_locked
+  room_collecting page w waits =
+      room_here page
       (collecting_locked (entry_at v.table page) w
       (here (λ x. IsCollecting (entry_at x.table page) w) waits))
 
-  -- nor at any, where none is locked
-  pub alone_free : v.locked ≡ None
-      → (page p : ℕ) → is_locked (entry_at v.table p) ≡ true → p ≡ page
-  alone_free free page p there = absurd (none-some p (sym free ∙ s.others p there))
+  pub room_locked : (page : ℕ) → is_locked (entry_at n.table page) ≡ true
+      → locked_beside v.table page < most_locked
+  room_locked page there = room_here page (here (λ x. is_locked (entry_at x.table page) ≡ true) there)
+
+  -- and for one more, where fewer than so many pages are fetched
+  pub room_more : (page : ℕ) → is_full n ≡ false → locked_beside v.table page < most_locked
+  room_more page room =
+      let many = named_few v.locked v.fetched in
+      let few = s.few in
+      let other : length v.fetched ≢ most_fetched =
+      eqb-false (length v.fetched) most_fetched (here (λ x. is_full x ≡ false) room) in
+      room_beside v.table page (named v.locked v.fetched) (omega (arith, many, few, other))
+      (λ p there other. is_named p there)
+
+  -- or where no word waits
+  pub room_free : v.locked ≡ None → (page : ℕ) → locked_beside v.table page < most_locked
+  room_free free page =
+      let most = s.few in
+      room_beside v.table page v.fetched (omega (arith, most))
+      (λ p there other. elim (s.others p there) [
+        | inl x ↦ absurd (none-some p (sym free ∙ x))
+        | inr x ↦ x
+      ])
 
   -- the spare page has the bytes of a page, once a table of as many entries had it
   pub spare_after : (t : Table) (old new : List ℕ) → length t.entries ≡ length v.table.entries
@@ -243,7 +293,7 @@ module _ {S : Type 0} {ops : Ops S} (n v : Coherent S) (same : v ≡ n) (s : IsS
       let now : t ≡ with_entry v.table page (with_put_off e q) =
       is ∙ ap (λ b. if b then with_entry v.table page (with_put_off e q) else v.table) room in
       subst (λ x. IsSound ops (record v { table = x })) (sym now)
-      (change-sound v page (with_put_off e q) v.table.pages v.manager v.locked v.more v.done
+      (change-sound v page (with_put_off e q) v.table.pages v.manager v.locked v.fetched v.more v.done
       v.done_more v.breaches s
       (entry-sound v page e (with_put_off e q) s (here (λ x. page < x.config.pages) inside) refl
       (put_entry-sound v.config v.me e q (s.each page)
@@ -286,14 +336,29 @@ module _ {S : Type 0} {ops : Ops S} (laws : Laws ops) (n v : Coherent S) (same :
       (put_off_served ops v.me from page bytes i v.manager v.breaches reply qs).posted
   unlock_fits from page kind bytes w i reply qs k node comes waits idle told list config me =
       let at : Comes v from page bytes = came from page bytes comes in
-      let keeps =
-      unlocking-keeps laws v from page kind bytes bytes None [] w s at.below at.foreign at.inside
-      at.sized at.sized (waits_there page kind w waits) in
-      rw (idle, told, list) (fits_at n v same k node config me _ keeps.1)
+      let h =
+      unlocking-serves laws v from page kind bytes w s at.below at.foreign at.inside at.sized
+      (waits_there page kind w waits) in
+      rw (idle, told, list) (fits_at n v same k node config me _ h.fits)
+
+  -- what is left once what was put off was served with these bytes
+  pub came_sound : (from page : ℕ) (kind : Request) (bytes now : List ℕ) (w : WaitingState)
+      → Comes n from page bytes → length now ≡ n.config.page_size
+      → IsWaiting (entry_at n.table page) kind w
+      → IsServing ops v.config v.me page v.manager
+      (put_off_served ops v.me from page bytes (unlocked_as kind) v.manager v.breaches
+      (reply_as kind w) w.put_off) × (page < v.config.pages) × (length now ≡ v.config.page_size)
+  came_sound from page kind bytes now w comes long waits =
+      let at : Comes v from page bytes = came from page bytes comes in (
+        unlocking-serves laws v from page kind bytes w s at.below at.foreign at.inside at.sized
+            (waits_there page kind w waits),
+        at.inside,
+        long ∙ sym (ap (λ (x : Coherent S). x.config.page_size) same),
+      )
 
   pub unlock_sound : (from page : ℕ) (kind : Request) (bytes now : List ℕ) (w : WaitingState)
       (i after : IdleState) (reply : Option Request) (qs : List PutOff) (t : Table) (m : S)
-      (o : Option Out) (os : List Out) (b : ℕ)
+      (o : Option Out) (os : List Out) (b : ℕ) → n.locked ≡ Some page
       → Comes n from page bytes → length now ≡ n.config.page_size
       → IsWaiting (entry_at n.table page) kind w
       → i ≡ unlocked_as kind → reply ≡ reply_as kind w → qs ≡ w.put_off
@@ -309,25 +374,19 @@ module _ {S : Type 0} {ops : Ops S} (laws : Laws ops) (n v : Coherent S) (same :
         table = t;
         manager = m;
         locked = None;
+        fetched = v.fetched;
         more = [];
         done = o;
         done_more = os;
         breaches = b;
       })
-  unlock_sound from page kind bytes now w i after reply qs t m o os b comes long waits idle told list
-      idle_is table manager breaches =
-      let at : Comes v from page bytes = came from page bytes comes in
-      let sized : length now ≡ v.config.page_size =
-      (came from page now
-      (record {
-        below = comes.below;
-        foreign = comes.foreign;
-        inside = comes.inside;
-        sized = long;
-      })).sized in
-      let keeps =
-      unlocking-keeps laws v from page kind bytes now o os w s at.below at.foreign at.inside
-      at.sized sized (waits_there page kind w waits) in
+  unlock_sound from page kind bytes now w i after reply qs t m o os b lock comes long waits idle told
+      list idle_is table manager breaches =
+      let h = came_sound from page kind bytes now w comes long waits in
+      let keeps = word-keeps laws v page now o os
+      (put_off_served ops v.me from page bytes (unlocked_as kind) v.manager v.breaches
+      (reply_as kind w) w.put_off) s h.1 h.2
+      (ap (λ (x : Coherent S). x.locked) same ∙ lock) h.0 in
       rw (table, manager, breaches, idle_is, idle, told, list) keeps.0
 
   -- the last acknowledgement comes
@@ -335,32 +394,49 @@ module _ {S : Type 0} {ops : Ops S} (laws : Laws ops) (n v : Coherent S) (same :
       → IsWord v.config.page_size w.word
   last_word page w waits = collecting_word laws v page w s (collects_there page w waits)
 
-  -- where nothing waits along
-  last_alone : (from page : ℕ) (w : WaitingState) → v.more ≡ [] → page < n.config.pages
-      → IsCollecting (entry_at n.table page) w
-      → Keeps ops v
-      (unlocked ops (record v { more = [] }) from page owning None (page_at v.table page) w)
-  last_alone from page w alone inside waits =
-      subst (λ ws. Keeps ops v
-      (unlocked ops (record v { more = ws }) from page owning None (page_at v.table page) w)) alone
-      (last-keeps laws v from page w s
-      (subst (λ (x : Coherent S). page < x.config.pages) (sym same) inside)
-      (collects_there page w waits))
+  pub last_inside : (page : ℕ) → page < n.config.pages → page < v.config.pages
+  last_inside page inside = subst (λ (x : Coherent S). page < x.config.pages) (sym same) inside
 
+  last_here : (page : ℕ) → n.locked ≡ Some page → v.locked ≡ Some page
+  last_here page lock = ap (λ (x : Coherent S). x.locked) same ∙ lock
+
+  -- the bytes then, with those words that wait along
+  last_long : (page : ℕ) (w : WaitingState) (words : List Word) → page < n.config.pages
+      → IsCollecting (entry_at n.table page) w → All (IsWord v.config.page_size) words
+      → length (all_carried words (carried_out w.word (page_at v.table page)).bytes).bytes
+      ≡ v.config.page_size
+  last_long page w words inside waits fit =
+      let old : length (page_at v.table page) ≡ v.config.page_size =
+      s.sized page (last_inside page inside) in
+      length-all_carried words (carried_out w.word (page_at v.table page)).bytes v.config.page_size
+      (length-carried_out w.word (page_at v.table page)
+      (subst (λ z. IsWord z w.word) (sym old) (last_word page w waits)) ∙ old) fit
+
+  -- what was put off is served with bytes of the page's length
+  pub last_served : (from page : ℕ) (bytes : List ℕ) (w : WaitingState) → page < n.config.pages
+      → IsCollecting (entry_at n.table page) w → length bytes ≡ v.config.page_size
+      → IsServing ops v.config v.me page v.manager
+      (put_off_served ops v.me from page bytes owning v.manager v.breaches None w.put_off)
+  last_served from page bytes w inside waits long =
+      last-serves laws v from page bytes w s (last_inside page inside) long
+      (collects_there page w waits)
+
+  -- where nothing waits along
   pub last_fits : (from page : ℕ) (now : List ℕ) (w : WaitingState) (i : IdleState)
-      (qs : List PutOff) (k : Config) (node : ℕ) → v.more ≡ [] → page < n.config.pages
+      (qs : List PutOff) (k : Config) (node : ℕ) → page < n.config.pages
       → IsCollecting (entry_at n.table page) w
       → now ≡ (carried_out w.word (page_at v.table page)).bytes → i ≡ owning → qs ≡ w.put_off
       → k ≡ n.config → node ≡ n.me
       → All (FitsParcel k node)
       (put_off_served ops v.me from page now i v.manager v.breaches None qs).posted
-  last_fits from page now w i qs k node alone inside waits bytes_are idle list config me =
-      let keeps = last_alone from page w alone inside waits in
-      rw (bytes_are, idle, list) (fits_at n v same k node config me _ keeps.1)
+  last_fits from page now w i qs k node inside waits bytes_are idle list config me =
+      let h = last_served from page (carried_out w.word (page_at v.table page)).bytes w inside waits
+      (last_long page w [] inside waits (All-nil (IsWord v.config.page_size))) in
+      rw (bytes_are, idle, list) (fits_at n v same k node config me _ h.fits)
 
   pub last_sound : (from page : ℕ) (now : List ℕ) (w : WaitingState) (i after : IdleState)
-      (qs : List PutOff) (t : Table) (m : S) (o : Out) (b : ℕ) → v.more ≡ [] → page < n.config.pages
-      → IsCollecting (entry_at n.table page) w
+      (qs : List PutOff) (t : Table) (m : S) (o : Out) (b : ℕ) → n.locked ≡ Some page
+      → page < n.config.pages → IsCollecting (entry_at n.table page) w
       → now ≡ (carried_out w.word (page_at v.table page)).bytes → i ≡ owning → qs ≡ w.put_off
       → after ≡ (put_off_served ops v.me from page now i v.manager v.breaches None qs).idle
       → t ≡ with_entry (with_page v.table page now) page (entry.Idle after)
@@ -375,39 +451,41 @@ module _ {S : Type 0} {ops : Ops S} (laws : Laws ops) (n v : Coherent S) (same :
         table = t;
         manager = m;
         locked = None;
+        fetched = v.fetched;
         more = [];
         done = Some o;
         done_more = [];
         breaches = b;
       })
-  last_sound from page now w i after qs t m o b alone inside waits bytes_are idle list idle_is table
+  last_sound from page now w i after qs t m o b lock inside waits bytes_are idle list idle_is table
       manager out breaches =
-      let keeps = last_alone from page w alone inside waits in
+      let bytes : List ℕ = (carried_out w.word (page_at v.table page)).bytes in
+      let long : length bytes ≡ v.config.page_size =
+      last_long page w [] inside waits (All-nil (IsWord v.config.page_size)) in
+      let keeps = word-keeps laws v page bytes
+      (Some (carried_out w.word (page_at v.table page)).out) []
+      (put_off_served ops v.me from page bytes owning v.manager v.breaches None w.put_off)
+      s (last_inside page inside) long (last_here page lock)
+      (last_served from page bytes w inside waits long) in
       rw (table, manager, out, breaches, idle_is, bytes_are, idle, list) keeps.0
 
   -- with the words that wait along
-  last_along : (from page : ℕ) (w : WaitingState) → page < n.config.pages
-      → IsCollecting (entry_at n.table page) w
-      → Keeps ops v (unlocked ops v from page owning None (page_at v.table page) w)
-  last_along from page w inside waits =
-      last-keeps laws v from page w s
-      (subst (λ (x : Coherent S). page < x.config.pages) (sym same) inside)
-      (collects_there page w waits)
-
   pub all_fits : (from page : ℕ) (now : List ℕ) (w : WaitingState) (i : IdleState)
-      (qs : List PutOff) (k : Config) (node : ℕ) → page < n.config.pages
+      (qs : List PutOff) (k : Config) (node : ℕ) → n.locked ≡ Some page → page < n.config.pages
       → IsCollecting (entry_at n.table page) w
       → now ≡ (all_carried v.more (carried_out w.word (page_at v.table page)).bytes).bytes
       → i ≡ owning → qs ≡ w.put_off → k ≡ n.config → node ≡ n.me
       → All (FitsParcel k node)
       (put_off_served ops v.me from page now i v.manager v.breaches None qs).posted
-  all_fits from page now w i qs k node inside waits bytes_are idle list config me =
-      let keeps = last_along from page w inside waits in
-      rw (bytes_are, idle, list) (fits_at n v same k node config me _ keeps.1)
+  all_fits from page now w i qs k node lock inside waits bytes_are idle list config me =
+      let h = last_served from page
+      (all_carried v.more (carried_out w.word (page_at v.table page)).bytes).bytes w inside waits
+      (last_long page w v.more inside waits (more_fits v page s (last_here page lock))) in
+      rw (bytes_are, idle, list) (fits_at n v same k node config me _ h.fits)
 
   pub all_sound : (from page : ℕ) (now : List ℕ) (w : WaitingState) (i after : IdleState)
       (qs : List PutOff) (t : Table) (m : S) (o : Out) (os : List Out) (b : ℕ)
-      → page < n.config.pages → IsCollecting (entry_at n.table page) w
+      → n.locked ≡ Some page → page < n.config.pages → IsCollecting (entry_at n.table page) w
       → now ≡ (all_carried v.more (carried_out w.word (page_at v.table page)).bytes).bytes
       → i ≡ owning → qs ≡ w.put_off
       → after ≡ (put_off_served ops v.me from page now i v.manager v.breaches None qs).idle
@@ -424,14 +502,23 @@ module _ {S : Type 0} {ops : Ops S} (laws : Laws ops) (n v : Coherent S) (same :
         table = t;
         manager = m;
         locked = None;
+        fetched = v.fetched;
         more = [];
         done = Some o;
         done_more = os;
         breaches = b;
       })
-  all_sound from page now w i after qs t m o os b inside waits bytes_are idle list idle_is table
+  all_sound from page now w i after qs t m o os b lock inside waits bytes_are idle list idle_is table
       manager out outs breaches =
-      let keeps = last_along from page w inside waits in
+      let bytes : List ℕ = (all_carried v.more (carried_out w.word (page_at v.table page)).bytes).bytes in
+      let long : length bytes ≡ v.config.page_size =
+      last_long page w v.more inside waits (more_fits v page s (last_here page lock)) in
+      let keeps = word-keeps laws v page bytes
+      (Some (carried_out w.word (page_at v.table page)).out)
+      (all_carried v.more (carried_out w.word (page_at v.table page)).bytes).outs
+      (put_off_served ops v.me from page bytes owning v.manager v.breaches None w.put_off) s
+      (last_inside page inside) long (last_here page lock)
+      (last_served from page bytes w inside waits long) in
       rw (table, manager, out, outs, breaches, idle_is, bytes_are, idle, list) keeps.0
 
   -- a node that waits for a copy sends a request on

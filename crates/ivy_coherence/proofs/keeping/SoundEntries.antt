@@ -131,7 +131,7 @@ module _ {S : Type 0} {ops : Ops S} where
       → page < c.config.pages → entry_at c.table page ≡ e → IsSoundEntry c.config c.me f
       → is_owner f ≡ is_owner e → is_locked f ≡ is_locked e
       → (WaitAlong c.config e c.more → WaitAlong c.config f c.more)
-      → IsChange ops c page f c.table.pages c.manager c.locked c.more
+      → IsChange ops c page f c.table.pages c.manager c.locked c.fetched c.more
   entry-sound c page e f s inside is good owner lock along = record {
     inside = inside;
     entry = good;
@@ -208,6 +208,9 @@ module _ {S : Type 0} {ops : Ops S} {m : S} where
           sym (first_entry-free (me == 0)) ∙ ap is_locked (sym x) ∙ h in cc)
       | inr x ↦ absurd (let f : false ≡ true = ap is_locked (sym x) ∙ h in cc)
     ];
+    fetched = λ p h. absurd (omega (arith, h.1));
+    apart = λ p h. absurd cc;
+    few = omega arith;
     along = λ p h. absurd cc;
     alone = λ free. refl;
   }

@@ -1,6 +1,6 @@
 -- How many messages one event posts at most: one for each message that is served, and one to each
 -- node that is told to give its copy up.
-use Rattle.std.proofs.Common.{◌≡◌, ℕ, ◌≤◌, List, [], ◌∷◌, length, Option, Some, None, subst, arith}
+use Rattle.std.proofs.Common.{◌≡◌, ℕ, ◌≤◌, Bool, List, [], ◌∷◌, length, Option, Some, None, subst, arith}
 use Rattle.ivy_wire.specs.stated.Data.{Message}
 use Rattle.ivy_wire.specs.stated.Spelling.{FitsContent, FitsMessage}
 use Rattle.ivy_pagetable.specs.declared.Entry.{Entry}
@@ -20,19 +20,25 @@ use Rattle.ivy_coherence.specs.EventLimits.{most_posted}
 use Rattle.ivy_coherence.specs.stated.Serving.{invalidations}
 use Rattle.ivy_coherence.specs.stated.Several.{all_carried}
 use Rattle.ivy_coherence.specs.stated.MessageSteps.{copy_reply, unlocked, handled}
-use Rattle.ivy_coherence.specs.stated.PageFaults.{begun}
+use Rattle.ivy_coherence.specs.stated.PageFaults.{begun, fetch}
 use Rattle.ivy_coherence.specs.stated.Sound.{IsSound}
 use Rattle.ivy_coherence.proofs.posting.FewServed.{put_off_served-few, invalidations-few}
-use Rattle.ivy_coherence.proofs.keeping.EventTable.{Rows, AccessRows, handled-by_rows, begun-by_rows}
+use Rattle.ivy_coherence.proofs.keeping.EventTable.{Rows, AccessRows, FetchRows, handled-by_rows, begun-by_rows, fetch-by_rows}
+use Rattle.ivy_coherence.proofs.keeping.Fetched.{unlocked_by}
 
 module _ {S : Type 0} (ops : Ops S) where
   unlocked-few : (c : Coherent S) (from page : ℕ) (i : IdleState) (reply : Option Request)
       (bytes : List ℕ) (w : WaitingState) → length w.put_off ≤ most_put_off
       → length (unlocked ops c from page i reply bytes w).posted ≤ most_posted
   unlocked-few c from page i reply bytes w few =
+      unlocked_by ops (λ e. length e.posted ≤ most_posted) c from page i reply bytes w
+      (λ here.
       let k =
       put_off_served-few ops c.me page (all_carried c.more (carried_out w.word bytes).bytes).bytes from i
-      c.manager c.breaches reply w.put_off in omega (arith, k, few)
+      c.manager c.breaches reply w.put_off in omega (arith, k, few))
+      (λ elsewhere.
+      let k = put_off_served-few ops c.me page bytes from i c.manager c.breaches reply w.put_off in
+      omega (arith, k, few))
 
   put_off-few : (c : Coherent S) (page : ℕ) (e : Entry) → IsSound ops c → entry_at c.table page ≡ e
       → length (put_offs e) ≤ most_put_off
@@ -77,6 +83,18 @@ module _ {S : Type 0} (ops : Ops S) where
     write = λ i none is short writes other. omega arith;
     owner = λ i none is short writes own. told_few c page call i.copies s
         ((s.each page).idle i is).copies.below;
+    joins = λ e none is fits. omega arith;
+    beside = λ e none is lock unfit. omega arith;
+  }
+
+  fetch-rows : (c : Coherent S) (page : ℕ) (writes : Bool) (call : ℕ) → IsSound ops c
+      → FetchRows ops c page writes call (λ f. length f.posted ≤ most_posted)
+  fetch-rows c page writes call s = record {
+    none = omega arith;
+    read = λ i is room short reads. omega arith;
+    write = λ i is room short writes other. omega arith;
+    owner = λ i is room short writes own. told_few c page call i.copies s
+        ((s.each page).idle i is).copies.below;
   }
 
   -- a message that comes
@@ -89,3 +107,8 @@ module _ {S : Type 0} (ops : Ops S) where
   pub begun-few : (c : Coherent S) (page : ℕ) (w : Word) (call : ℕ) → IsSound ops c
       → length (begun ops c page w call).posted ≤ most_posted
   begun-few c page w call s = begun-by_rows (access-rows c page w call s)
+
+  -- a fetch
+  pub fetch-few : (c : Coherent S) (page : ℕ) (writes : Bool) (call : ℕ) → IsSound ops c
+      → length (fetch ops c page writes call).posted ≤ most_posted
+  fetch-few c page writes call s = fetch-by_rows (fetch-rows c page writes call s)

@@ -17,6 +17,7 @@ use Rattle.ivy_pagetable.specs.stated.Tables.{entry_at, page_at, with_entry, wit
 use Rattle.ivy_pagetable.specs.stated.Words.{carried_out}
 use Rattle.ivy_pagetable.specs.stated.Manager.{Ops}
 use Rattle.ivy_coherence.specs.stated.Coherent.{Coherent}
+use Rattle.ivy_coherence.specs.stated.Fetching.{without_page, waits_at}
 use Rattle.ivy_coherence.specs.stated.Several.{all_carried}
 use Rattle.ivy_coherence.specs.stated.Serving.{Serving, counted, put_off_served, invalidations, is_write}
 
@@ -69,9 +70,9 @@ module _ {S : Type 0} (ops : Ops S) where
 
   -- the word that waited is carried out on these bytes, and those that waited along with it behind it;
   -- then what was put off is served, in order of arrival
-  abbrev pub unlocked : Coherent S → ℕ → ℕ → IdleState → Option Request → List ℕ → WaitingState
+  abbrev pub word_unlocked : Coherent S → ℕ → ℕ → IdleState → Option Request → List ℕ → WaitingState
       → CoherenceEffect S
-  unlocked c from page idle reply bytes s =
+  word_unlocked c from page idle reply bytes s =
       let now = carried_out s.word bytes in
       let rest = all_carried c.more now.bytes in
       after_serving
@@ -84,6 +85,21 @@ module _ {S : Type 0} (ops : Ops S) where
       })
       page
       (put_off_served ops c.me from page rest.bytes idle c.manager c.breaches reply s.put_off)
+
+  -- Where the page was fetched and no word joined, none is carried out; what was put off is served.
+  abbrev pub fetch_unlocked : Coherent S → ℕ → ℕ → IdleState → Option Request → List ℕ
+      → WaitingState → CoherenceEffect S
+  fetch_unlocked c from page idle reply bytes s =
+      after_serving
+      (record c { table = with_page c.table page bytes; fetched = without_page page c.fetched })
+      page
+      (put_off_served ops c.me from page bytes idle c.manager c.breaches reply s.put_off)
+
+  abbrev pub unlocked : Coherent S → ℕ → ℕ → IdleState → Option Request → List ℕ → WaitingState
+      → CoherenceEffect S
+  unlocked c from page idle reply bytes s =
+      if waits_at c.locked page then word_unlocked c from page idle reply bytes s
+      else fetch_unlocked c from page idle reply bytes s
 
   -- with the copy, or the page, that was asked for
   abbrev pub unlocked_by_reply : Coherent S → ℕ → ℕ → Request → List ℕ → WaitingState

@@ -1,6 +1,7 @@
 -- What an access of this node's program comes to (Li and Hudak 1989): what the program is told, the
 -- state after, and what is posted, in order.
-use Rattle.std.specs.Prelude.{ℕ, false, List, [], ◌∷◌, Option, Some, None, if◌then◌else◌}
+use Rattle.std.specs.Prelude.{ℕ, Bool, true, false, ◌||◌, ◌==◌, ◌++◌, length}
+use Rattle.std.specs.Prelude.{List, [], ◌∷◌, Option, Some, None, if◌then◌else◌}
 use Rattle.ivy_wire.specs.declared.Content.TheVariants as content
 use Rattle.ivy_wire.specs.stated.Data.{Parcel}
 use Rattle.ivy_wire.specs.stated.Posts.{parcel_to}
@@ -10,11 +11,12 @@ use Rattle.ivy_pagetable.specs.declared.Word.{Word}
 use Rattle.ivy_pagetable.specs.stated.States.{IdleState, WaitingState}
 use Rattle.ivy_pagetable.specs.stated.Accesses.{reads, suffices}
 use Rattle.ivy_pagetable.specs.stated.Tables.{entry_at, page_at, with_entry, with_page}
-use Rattle.ivy_pagetable.specs.stated.Words.{carried_out, needs_write}
+use Rattle.ivy_pagetable.specs.stated.Words.{carried_out, needs_write, fetch_word}
 use Rattle.ivy_pagetable.specs.stated.Manager.{Ops}
 use Rattle.ivy_coherence.specs.declared.need.Need.{Need}
-use Rattle.ivy_coherence.specs.declared.need.Need.TheVariants.{Have, Started, Busy}
+use Rattle.ivy_coherence.specs.declared.need.Need.TheVariants.{Have, Started, Busy, Fetched}
 use Rattle.ivy_coherence.specs.stated.Coherent.{Coherent}
+use Rattle.ivy_coherence.specs.stated.Fetching.{most_fetched, without_page, suits, joined_by}
 use Rattle.ivy_coherence.specs.stated.Serving.{invalidations}
 
 -- what an access came to, the node's coherence after it, and what is posted
@@ -47,7 +49,7 @@ along_where Started words c = along words c
 along_where need words c = c
 
 module _ {S : Type 0} (ops : Ops S) where
-  -- an entry of this node is locked already: nothing changes
+  -- a word of this node waits at an entry already: nothing changes
   abbrev pub busy : Coherent S → Begun S
   busy c = record { need = Busy; after = c; posted = [] }
 
@@ -83,11 +85,34 @@ module _ {S : Type 0} (ops : Ops S) where
   faulted c page word call s =
       started c page (fault_entry word call s) (fault_posted c page word call s)
 
+  -- the word waits at the entry of the page that is fetched from now on, under the number of the
+  -- fetch; nothing is asked for
+  abbrev pub taken_up : Coherent S → ℕ → Word → Entry → Begun S
+  taken_up c page word e = record {
+    need = Started;
+    after = record c {
+      table = with_entry c.table page (joined_by e word);
+      locked = Some page;
+      fetched = without_page page c.fetched;
+    };
+    posted = [];
+  }
+
+  -- the page is fetched otherwise: the word waits at no entry, and nothing changes
+  abbrev pub waits_beside : Coherent S → Begun S
+  waits_beside c = record { need = Fetched; after = c; posted = [] }
+
+  -- an access to a page that is fetched: a word joins that needs to write just where the page was
+  -- asked for to be written
+  abbrev pub joined : Coherent S → ℕ → Word → Entry → Begun S
+  joined c page word e =
+      if suits e (needs_write word) then taken_up c page word e else waits_beside c
+
   -- an access to a page whose entry is this one
   abbrev pub accessed : Coherent S → ℕ → Word → ℕ → Entry → Begun S
   accessed c page word call (entry.Idle s) =
       if suffices s.access word then hit c page word else faulted c page word call s
-  accessed c page word call e = busy c
+  accessed c page word call e = joined c page word e
 
   -- no word begins while another one waits at a locked entry of this node
   abbrev pub begun_at : Coherent S → ℕ → Word → ℕ → Option ℕ → Begun S
@@ -103,3 +128,50 @@ module _ {S : Type 0} (ops : Ops S) where
   begun_row c page word rest call =
       let b = begun c page word call in
       record { need = b.need; after = along_where b.need rest b.after; posted = b.posted }
+
+-- what a fetch came to, the node's coherence after it, and what is posted
+pub record Fetch (S : Type 0) : Type 0 where
+  pub begun : Bool
+  pub after : Coherent S
+  pub posted : List Parcel
+
+-- so many pages are fetched that no more can be
+abbrev pub is_full : {S : Type 0} → Coherent S → Bool
+is_full c = length c.fetched == most_fetched
+
+-- The entry of a page that may be fetched: no word and no fetch waits for it, its access does not
+-- suffice, and fewer pages are fetched than can be.
+abbrev pub fetchable_at : Bool → Bool → Entry → Option IdleState
+fetchable_at full write (entry.Idle s) =
+    if full || suffices s.access (fetch_word write) then None else Some s
+fetchable_at full write e = None
+
+abbrev pub fetchable : {S : Type 0} → Coherent S → ℕ → Bool → Option IdleState
+fetchable c page write = fetchable_at (is_full c) write (entry_at c.table page)
+
+module _ {S : Type 0} (ops : Ops S) where
+  -- nothing is fetched, and nothing changes
+  abbrev pub not_fetched : Coherent S → Fetch S
+  not_fetched c = record { begun = false; after = c; posted = [] }
+
+  -- the page is fetched from now on, and its entry is this one; no word waits there
+  abbrev pub fetch_started : Coherent S → ℕ → Entry → List Parcel → Fetch S
+  fetch_started c page e posted = record {
+    begun = true;
+    after = record c { table = with_entry c.table page e; fetched = c.fetched ++ page ∷ [] };
+    posted = posted;
+  }
+
+  -- it is asked for as a word of that kind would, under the number of the next record
+  abbrev pub fetch_begun : Coherent S → ℕ → Bool → ℕ → IdleState → Fetch S
+  fetch_begun c page write call s =
+      fetch_started c page (fault_entry (fetch_word write) call s)
+      (fault_posted ops c page (fetch_word write) call s)
+
+  abbrev pub fetched_as : Coherent S → ℕ → Bool → ℕ → Option IdleState → Fetch S
+  fetched_as c page write call None = not_fetched c
+  fetched_as c page write call (Some s) = fetch_begun c page write call s
+
+  -- a page is fetched, to read or to write, where it may be
+  unfoldable pub fetch : Coherent S → ℕ → Bool → ℕ → Fetch S
+  fetch c page write call = fetched_as c page write call (fetchable c page write)

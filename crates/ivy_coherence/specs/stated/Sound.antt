@@ -1,5 +1,6 @@
 -- What holds of a node's coherence, whatever comes to it.
-use Rattle.std.specs.Prelude.{◌≡◌, ◌≢◌, ℕ, ◌<◌, ◌≤◌, Bool, true, false, List, [], length, All, Some, None}
+use Rattle.std.specs.List.{Contains}
+use Rattle.std.specs.Prelude.{◌≡◌, ◌≢◌, ◌⊎◌, ℕ, ◌<◌, ◌≤◌, Bool, true, false, List, [], length, All, Some, None}
 use Rattle.ivy_model.specs.declared.Config.{Config}
 use Rattle.ivy_model.specs.stated.Config.{IsConfig}
 use Rattle.ivy_pagetable.specs.declared.Entry.{Entry}
@@ -13,6 +14,7 @@ use Rattle.ivy_pagetable.specs.stated.Words.{IsWord, needs_write}
 use Rattle.ivy_pagetable.specs.stated.Manager.{Ops}
 use Rattle.ivy_coherence.specs.stated.IdleSound.{CanBeServed, AreOthers, IsSoundIdle}
 use Rattle.ivy_coherence.specs.stated.Coherent.{Coherent}
+use Rattle.ivy_coherence.specs.stated.Fetching.{most_fetched}
 
 -- a word that waits lies in the page, and reads or writes
 abbrev pub Waits : Config → Bool → Word → Type 0
@@ -36,7 +38,8 @@ WaitAlong c (entry.AwaitRead s) words = All (Waits c false) words
 WaitAlong c (entry.AwaitWrite s) words = All (IsWord c.page_size) words
 WaitAlong c (entry.AwaitAcks s) words = All (IsWord c.page_size) words
 
--- what holds of the whole: each entry is sound, and at most one of them is locked
+-- What holds of the whole: each entry is sound, and those that are locked are the one at which a
+-- word waits and those of pages that are fetched.
 pub record IsSound {S : Type 0} (ops : Ops S) (c : Coherent S) : Type 0 where
   pub limits : IsConfig c.config
   pub here : c.me < c.config.nodes
@@ -52,9 +55,13 @@ pub record IsSound {S : Type 0} (ops : Ops S) (c : Coherent S) : Type 0 where
   pub hop : (p : ℕ) → p < c.config.pages → ops.next_hop c.manager p < c.config.nodes
   pub away : (p : ℕ) → p < c.config.pages → is_owner (entry_at c.table p) ≡ false
       → ops.next_hop c.manager p ≢ c.me
-  -- the locked entry, if there is one
+  -- the locked entries, if there are some
   pub locked : (p : ℕ) → c.locked ≡ Some p → is_locked (entry_at c.table p) ≡ true
-  pub others : (p : ℕ) → is_locked (entry_at c.table p) ≡ true → c.locked ≡ Some p
+  pub fetched : (p : ℕ) → Contains c.fetched p → is_locked (entry_at c.table p) ≡ true
+  pub others : (p : ℕ) → is_locked (entry_at c.table p) ≡ true
+      → (c.locked ≡ Some p) ⊎ Contains c.fetched p
+  pub apart : (p : ℕ) → c.locked ≡ Some p → Contains c.fetched p → ⊥
+  pub few : length c.fetched ≤ most_fetched
   -- the words that wait along with the one that waits there
   pub along : (p : ℕ) → c.locked ≡ Some p → WaitAlong c.config (entry_at c.table p) c.more
   pub alone : c.locked ≡ None → c.more ≡ []
@@ -68,6 +75,7 @@ new_coherent sends_on c me manager = record {
   table = first_table c me;
   manager = manager;
   locked = None;
+  fetched = [];
   more = [];
   done = None;
   done_more = [];

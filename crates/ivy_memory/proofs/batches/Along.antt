@@ -10,6 +10,7 @@ use Rattle.ivy_model.specs.declared.Call.{Call}
 use Rattle.ivy_model.specs.stated.Config.{IsConfig}
 use Rattle.ivy_model.specs.stated.Legal.{HasWidth}
 use Rattle.ivy_pagetable.specs.declared.Entry.{Entry}
+use Rattle.ivy_pagetable.specs.declared.Entry.TheVariants as entry
 use Rattle.ivy_pagetable.specs.declared.Word.{Word}
 use Rattle.ivy_pagetable.specs.stated.Tables.{entry_at, with_entry}
 use Rattle.ivy_pagetable.specs.stated.Words.{IsWord, needs_write}
@@ -17,6 +18,7 @@ use Rattle.ivy_pagetable.specs.stated.Manager.{Ops}
 use Rattle.ivy_coherence.specs.declared.Need.TheVariants as need
 use Rattle.ivy_coherence.specs.stated.Coherent.{Coherent}
 use Rattle.ivy_coherence.specs.stated.PageFaults.{Begun, along, started, begun}
+use Rattle.ivy_coherence.specs.stated.Fetching.{suits, joined_by}
 use Rattle.ivy_coherence.specs.stated.Sound.{Waits, WaitAlong, IsSound}
 use Rattle.ivy_coherence.proofs.keeping.Changing.{entry_with}
 use Rattle.ivy_coherence.proofs.keeping.EventTable.{AccessRows, begun-by_rows}
@@ -173,6 +175,10 @@ LetsWait c page first b =
     × ((words : List Word) → All (MayWaitWith c.config first) words
     → WaitAlong c.config (entry_at b.after.table page) words)
 
+not_written : (b : Bool) → not b ≡ true → b ≡ false
+not_written true h = absurd cc
+not_written false h = refl
+
 module _ {S : Type 0} (ops : Ops S) (c : Coherent S) (page : ℕ) (first : Word) (call : ℕ)
     (s : IsSound ops c) (inside : page < c.config.pages) where
   entry_now : (e : Entry) → entry_at (with_entry c.table page e) page ≡ e
@@ -196,6 +202,16 @@ module _ {S : Type 0} (ops : Ops S) (c : Coherent S) (page : ℕ) (first : Word)
   in_page words are =
       All-weaker (MayWaitWith c.config first) (IsWord c.config.page_size) (λ w is. is.0) words are
 
+  -- at an entry that the first one joins
+  joined-lets : (e : Entry) → suits e (needs_write first) ≡ true → (words : List Word)
+      → All (MayWaitWith c.config first) words → WaitAlong c.config (joined_by e first) words
+  joined-lets (entry.Idle s) fits words are = absurd cc
+  joined-lets (entry.AwaitRead s) fits words are =
+      All-weaker (MayWaitWith c.config first) (Waits c.config false)
+      (λ w may. (may.0, may.1 (not_written (needs_write first) fits))) words are
+  joined-lets (entry.AwaitWrite s) fits words are = in_page words are
+  joined-lets (entry.AwaitAcks s) fits words are = in_page words are
+
   lets-rows : AccessRows ops c page first call (LetsWait c page first)
   lets-rows = record {
     busy = λ is. absurd cc;
@@ -205,6 +221,13 @@ module _ {S : Type 0} (ops : Ops S) (c : Coherent S) (page : ℕ) (first : Word)
         (λ w may. (may.0, may.1 reads)) words are);
     write = λ i none is short writes other. started-lets _ in_page;
     owner = λ i none is short writes own. started-lets _ in_page;
+    joins = λ e none is fits started. (
+      refl,
+      refl,
+      λ words are. subst (λ x. WaitAlong c.config x words) (sym (entry_now (joined_by e first)))
+          (joined-lets e fits words are),
+    );
+    beside = λ e none is lock unfit started. absurd cc;
   }
 
   pub begun-lets : LetsWait c page first (begun ops c page first call)
@@ -229,7 +252,10 @@ along-sound c page (w ∷ words) s locked waits = record {
   hop = s.hop;
   away = s.away;
   locked = s.locked;
+  fetched = s.fetched;
   others = s.others;
+  apart = s.apart;
+  few = s.few;
   along = λ p is.
       subst (λ q. WaitAlong c.config (entry_at c.table q) (w ∷ words))
       (same_Some page p (sym locked ∙ is)) waits;

@@ -1,5 +1,5 @@
 -- The calls of a row begin together, where the first of them has to wait.
-use Rattle.std.proofs.Common.{◌≡◌, ℕ, ◌+◌, ◌-◌, ◌*◌, ◌/◌, ◌%◌, ◌^◌, ◌<◌, ◌≤◌, true, ◌&&◌, List, [], ◌∷◌, length, take, drop, Option, Some, None, Result, Ok, Err, OnErr, nat_lt, refl, sym, ap, ◌∙◌, subst, arith, if◌then◌else◌}
+use Rattle.std.proofs.Common.{◌≡◌, ℕ, ◌+◌, ◌-◌, ◌*◌, ◌/◌, ◌%◌, ◌^◌, ◌<◌, ◌≤◌, true, false, ◌&&◌, List, [], ◌∷◌, length, take, drop, Option, Some, None, Result, Ok, Err, OnErr, nat_lt, refl, sym, ap, ◌∙◌, subst, arith, if◌then◌else◌}
 use Rattle.std.specs.Prelude.{All, is_none}
 use Rattle.std.proofs.lemmas.Bool.{and_parts, eq-eqb, lt-ltb}
 use Rattle.std.proofs.lemmas.List.Elements.{All-nil, All-cons}
@@ -14,6 +14,8 @@ use Rattle.ivy_model.specs.Rows.{calls_of, numbers_in, record_in, row}
 use Rattle.ivy_model.specs.stated.Serves.{access_refusal}
 use Rattle.ivy_model.proofs.Rows.{length-numbers_in, numbers_in-take}
 use Rattle.ivy_pagetable.specs.declared.Word.{Word}
+use Rattle.ivy_pagetable.specs.stated.Entries.{is_locked}
+use Rattle.ivy_pagetable.specs.stated.Tables.{entry_at}
 use Rattle.ivy_pagetable.specs.stated.Manager.{Ops}
 use Rattle.ivy_pagetable.specs.Manager.{Laws}
 use Rattle.ivy_pagetable.specs.WordRows.{word_in}
@@ -248,11 +250,13 @@ module _ {S : Type 0} {ops : Ops S} (laws : Laws ops) (n v : NodeMemory S) (kind
       subst (λ (m : NodeMemory S). length (row_begun ops m kind addr words bytes number).posted
       ≤ most_posted) l.same (call_few ops v one others number l.sound.coherent)
 
-  pub row_asks : {A E : Type 0} (r : Result A E) → OnErr r (CallHasToAsk n.coherence one)
-  row_asks (Ok a) = tt
-  row_asks (Err e) =
+  pub row_asks : {A E : Type 0} (r : Result A E)
+      → is_locked (entry_at v.coherence.table at.page) ≡ false
+      → OnErr r (CallHasToAsk n.coherence one)
+  row_asks (Ok a) idle = tt
+  row_asks (Err e) idle =
       subst (λ (m : NodeMemory S). CallHasToAsk m.coherence one) l.same
-      (subst (HasToAskFor v.coherence) (sym asking) row_lacks.asks)
+      (subst (HasToAskFor v.coherence) (sym asking) (row_lacks.asks idle))
 
   row_keeps : IsSoundMemory ops all.after
   row_keeps =

@@ -4,7 +4,6 @@ use Rattle.std.proofs.Common.{[], ◌∷◌, length, is_some, Option, Some, None
 use Rattle.std.proofs.Common.{OnErr, IsErrAnd, IfErr, refl, sym, ap, ◌∙◌, subst, if◌then◌else◌}
 use Rattle.std.proofs.lemmas.Bool.{cases_Bool}
 use Rattle.std.proofs.lemmas.List.Elements.{All-nil}
-use Rattle.std.proofs.lemmas.Option.{none-some}
 use Rattle.ivy_model.specs.declared.Config.{Config}
 use Rattle.ivy_model.specs.declared.Call.{Call}
 use Rattle.ivy_model.specs.stated.Legal.{HasWidth}
@@ -12,24 +11,24 @@ use Rattle.ivy_wire.specs.stated.Data.{Message, Parcel}
 use Rattle.ivy_wire.specs.stated.Spelling.{FitsMessage}
 use Rattle.ivy_pagetable.specs.declared.Out.{Out}
 use Rattle.ivy_pagetable.specs.declared.Word.{Word}
-use Rattle.ivy_pagetable.specs.stated.Words.{IsWord}
+use Rattle.ivy_pagetable.specs.stated.Words.{IsWord, needs_write}
 use Rattle.ivy_pagetable.specs.stated.Manager.{Ops}
 use Rattle.ivy_pagetable.specs.Manager.{Laws}
 use Rattle.ivy_coherence.specs.declared.Need.{Need}
 use Rattle.ivy_coherence.specs.declared.Need.TheVariants as need
 use Rattle.ivy_coherence.specs.stated.Coherent.{Coherent}
 use Rattle.ivy_pagetable.specs.stated.Accesses.{suffices}
-use Rattle.ivy_coherence.specs.stated.PageFaults.{Begun, hit, faulted, accessed, begun_at, begun}
+use Rattle.ivy_coherence.specs.stated.PageFaults.{Begun, hit, faulted, taken_up, waits_beside, joined, accessed, begun_at, begun}
+use Rattle.ivy_coherence.specs.stated.Fetching.{suits}
 use Rattle.ivy_coherence.specs.PageFaults.{HasToAsk, MayMakePage}
 use Rattle.ivy_pagetable.specs.declared.Entry.{Entry}
 use Rattle.ivy_pagetable.specs.declared.Entry.TheVariants as entry
-use Rattle.ivy_pagetable.specs.stated.Entries.{is_locked}
 use Rattle.ivy_pagetable.specs.stated.Tables.{entry_at}
 use Rattle.ivy_coherence.specs.stated.Sound.{IsSound}
 use Rattle.ivy_coherence.specs.stated.MessageSteps.{handled}
 use Rattle.ivy_alloc.specs.declared.CallProgress.{CallProgress}
 use Rattle.ivy_alloc.specs.declared.CallProgress.TheVariants.{Given, Awaited, Unserved}
-use Rattle.ivy_coherence.proofs.keeping.Keeping.{begun-keeps}
+use Rattle.ivy_coherence.proofs.keeping.Accesses.{begun-keeps}
 use Rattle.ivy_memory.specs.declared.memory.Asked.TheVariants as asked
 use Rattle.ivy_alloc.specs.declared.HeapCall.{HeapCall}
 use Rattle.ivy_memory.specs.Asking.{CanAsk, HasToAskFor, CallHasToAsk, MayMakePageFor, CallMayMakePage, MayBeRefused, IsMessageWant}
@@ -107,21 +106,24 @@ module _ {S : Type 0} (ops : Ops S) (c : Coherent S) (page : ℕ) (w : Word) (nu
   either_need true x y h k = h
   either_need false x y h k = k
 
-  entry_serves : (e : Entry) → (is_locked e ≡ true → ⊥)
-      → (accessed ops c page w number e).need ≢ need.Busy
-  entry_serves (entry.Idle s) free =
+  join_serves : (e : Entry) → (joined ops c page w e).need ≢ need.Busy
+  join_serves e =
+      either_need (suits e (needs_write w)) (taken_up ops c page w e) (waits_beside ops c)
+      (λ e. absurd cc) (λ e. absurd cc)
+
+  entry_serves : (e : Entry) → (accessed ops c page w number e).need ≢ need.Busy
+  entry_serves (entry.Idle s) =
       either_need (suffices s.access w) (hit ops c page w) (faulted ops c page w number s)
       (λ e. absurd cc) (λ e. absurd cc)
-  entry_serves (entry.AwaitRead s) free = absurd (free refl)
-  entry_serves (entry.AwaitWrite s) free = absurd (free refl)
-  entry_serves (entry.AwaitAcks s) free = absurd (free refl)
+  entry_serves (entry.AwaitRead s) = join_serves (entry.AwaitRead s)
+  entry_serves (entry.AwaitWrite s) = join_serves (entry.AwaitWrite s)
+  entry_serves (entry.AwaitAcks s) = join_serves (entry.AwaitAcks s)
 
   never_busy : IsSound ops c → c.locked ≡ None → (begun ops c page w number).need ≢ need.Busy
   unfolding begun
   never_busy sound free =
       subst (λ o. (begun_at ops c page w number o).need ≢ need.Busy) (sym free)
-      (entry_serves (entry_at c.table page)
-      (λ locked. none-some page (sym free ∙ sound.others page locked)))
+      (entry_serves (entry_at c.table page))
 
 module _ {S : Type 0} {ops : Ops S} (laws : Laws ops) where
   pub message_memory : (n v : NodeMemory S) → v ≡ n → IsSoundMemory ops v

@@ -123,6 +123,8 @@ module _ {S : Type 0} where
       one_goes (waiting m k more number b).after k calls refl are
   needed-begun m k calls later more number b need.Busy are idle =
       none_goes m (k ∷ calls) number idle
+  needed-begun m k calls later more number b need.Fetched are idle =
+      one_goes (waiting m k nothing_beside number b).after k calls refl (calls, refl)
 
   again_unless-begun : (m : NodeMemory S) (k : Call) (b : Begun S) (r : Option Reply)
       → m.asked ≡ Some k
@@ -140,6 +142,7 @@ module _ {S : Type 0} where
       one_goes (waiting (without_call m) k nothing_beside m.number b).after k m.along refl
       (m.along, refl)
   again-begun m k b need.Busy asked = unserved-begun m k asked
+  again-begun m k b need.Fetched asked = unserved-begun m k asked
 
   -- the next of the calls made along is in progress
   pub taken_with-goes : (m : NodeMemory S) (calls : List Call)

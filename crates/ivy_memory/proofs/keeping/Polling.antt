@@ -10,7 +10,7 @@ use Rattle.ivy_pagetable.specs.declared.Entry.TheVariants as entry
 use Rattle.ivy_pagetable.specs.declared.Out.{Out}
 use Rattle.ivy_pagetable.specs.declared.Word.{Word}
 use Rattle.ivy_pagetable.specs.stated.Tables.{entry_at}
-use Rattle.ivy_pagetable.specs.stated.Words.{IsWord}
+use Rattle.ivy_pagetable.specs.stated.Words.{IsWord, needs_write}
 use Rattle.ivy_pagetable.specs.stated.Manager.{Ops}
 use Rattle.ivy_pagetable.specs.Manager.{Laws}
 use Rattle.ivy_coherence.specs.declared.Need.{Need}
@@ -18,10 +18,11 @@ use Rattle.ivy_coherence.specs.declared.Need.TheVariants as need
 use Rattle.ivy_coherence.specs.stated.Coherent.{Coherent}
 use Rattle.ivy_pagetable.specs.stated.Accesses.{suffices}
 use Rattle.ivy_coherence.specs.stated.Several.{first_out, later_outs}
-use Rattle.ivy_coherence.specs.stated.PageFaults.{Begun, accessed, begun_at, begun}
+use Rattle.ivy_coherence.specs.stated.Fetching.{suits}
+use Rattle.ivy_coherence.specs.stated.PageFaults.{Begun, joined, accessed, begun_at, begun}
 use Rattle.ivy_coherence.specs.PageFaults.{HasToAsk, MayMakePage}
 use Rattle.ivy_coherence.specs.stated.Sound.{IsSound}
-use Rattle.ivy_coherence.proofs.keeping.Keeping.{begun-keeps}
+use Rattle.ivy_coherence.proofs.keeping.Accesses.{begun-keeps}
 use Rattle.ivy_coherence.specs.EventLimits.{most_posted}
 use Rattle.ivy_coherence.proofs.keeping.IdleServing.{all_none}
 use Rattle.ivy_coherence.proofs.posting.Few.{begun-few}
@@ -85,6 +86,7 @@ module _ {S : Type 0} where
       unless-posted m k number b (reply_of o) (bs.had o is)
   again-posted m k number b need.Started bs is = refl
   again-posted m k number b need.Busy bs is = sym (bs.none is)
+  again-posted m k number b need.Fetched bs is = sym (bs.unasked is)
 
   unless-same : (m : NodeMemory S) (k : Call) (number : ℕ) (b : Begun S) (r : Option Reply)
       → SameNode m.coherence b.after
@@ -99,6 +101,7 @@ module _ {S : Type 0} where
   again-same m k number b (need.Have o) same = unless-same m k number b (reply_of o) same
   again-same m k number b need.Started same = same
   again-same m k number b need.Busy same = record { config = refl; me = refl; sends_on = refl }
+  again-same m k number b need.Fetched same = record { config = refl; me = refl; sends_on = refl }
 
   taken_with-same : (m : NodeMemory S) (calls : List Call)
       → SameNode m.coherence (taken_with m calls).coherence
@@ -117,7 +120,8 @@ module _ {S : Type 0} (ops : Ops S) (m : NodeMemory S) (k : Call) where
   tried-same (asked.Refused code) = record { config = refl; me = refl; sends_on = refl }
   tried-same (asked.Word page w) =
       again-same m k m.number (retry page w) (retry page w).need
-      (let s = (marks page w).same in record { config = s.config; me = s.me; sends_on = s.sends_on })
+      (let s = (marks page w).same in
+      record { config = s.config; me = s.me; sends_on = s.sends_on })
   tried-same (asked.Heap k) = record { config = refl; me = refl; sends_on = refl }
 
   as-same : (r : Option Reply) → SameNode m.coherence (polled_as ops m k r).after.coherence
@@ -237,13 +241,17 @@ module _ {S : Type 0} (ops : Ops S) (c : Coherent S) (page : ℕ) (w : Word) (nu
   if_cleared true x y x' y' h k = h
   if_cleared false x y x' y' h k = k
 
+  join-cleared : (e : Entry)
+      → joined ops (record c { done = None }) page w e ≡ cleared (joined ops c page w e)
+  join-cleared e = if_cleared (suits e (needs_write w)) _ _ _ _ refl refl
+
   entry-cleared : (e : Entry)
       → accessed ops (record c { done = None }) page w number e
       ≡ cleared (accessed ops c page w number e)
   entry-cleared (entry.Idle s) = if_cleared (suffices s.access w) _ _ _ _ refl refl
-  entry-cleared (entry.AwaitRead s) = refl
-  entry-cleared (entry.AwaitWrite s) = refl
-  entry-cleared (entry.AwaitAcks s) = refl
+  entry-cleared (entry.AwaitRead s) = join-cleared (entry.AwaitRead s)
+  entry-cleared (entry.AwaitWrite s) = join-cleared (entry.AwaitWrite s)
+  entry-cleared (entry.AwaitAcks s) = join-cleared (entry.AwaitAcks s)
 
   at-cleared : (o : Option ℕ)
       → begun_at ops (record c { done = None }) page w number o
@@ -363,6 +371,17 @@ module _ {S : Type 0} {ops : Ops S} (laws : Laws ops) (n v : NodeMemory S) (k : 
       ∙ ap (λ t. again v (needed (without_call v) c nothing_beside v.number (cleared access) t) t) busy
       ∙ nothing_is new (is ∙ access_begins.busy (sym was ∙ busy))
       (access_begins.none (sym was ∙ busy))
+
+  -- its page is fetched otherwise
+  pub beside_is : (new : Coherent S) (told : Need) → new ≡ access.after → told ≡ access.need
+      → told ≡ need.Fetched
+      → polled ops n ≡ comes_to Unserved new v.asked v.along v.side
+  beside_is new told is was fetched =
+      polled_by told was
+      ∙ ap (λ t. again v (needed (without_call v) c nothing_beside v.number (cleared access) t) t)
+      fetched
+      ∙ nothing_is new (is ∙ access_begins.fetched (sym was ∙ fetched))
+      (access_begins.unasked (sym was ∙ fetched))
 
   -- the memory after it is sound
   pub poll_memory : (answer : CallProgress) (new : Coherent S) (a : Option Call) (ks : List Call)

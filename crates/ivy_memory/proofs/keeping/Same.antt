@@ -18,7 +18,8 @@ module _ {S : Type 0} (ops : Ops S) where
   pub handled-same : (c : Coherent S) (from : ℕ) (m : Message)
       → SameNode c (handled ops c from m).after
   handled-same c from m =
-      let s = coherence.handled-same ops c from m in record { config = s.config; me = s.me; sends_on = s.sends_on }
+      let s = coherence.handled-same ops c from m in
+      record { config = s.config; me = s.me; sends_on = s.sends_on }
 
   -- whatever a message is about
   pub told-same : (m : NodeMemory S) (from : ℕ) (message : Message)

@@ -22,7 +22,7 @@ use Rattle.ivy_pagetable.specs.declared.Out.{Out}
 use Rattle.ivy_pagetable.specs.declared.Out.TheVariants as out
 use Rattle.ivy_pagetable.specs.declared.Word.{Word}
 use Rattle.ivy_pagetable.specs.stated.States.{IdleState, WaitingState}
-use Rattle.ivy_pagetable.specs.stated.Entries.{is_locked, copying, owning}
+use Rattle.ivy_pagetable.specs.stated.Entries.{copying, owning}
 use Rattle.ivy_pagetable.specs.stated.TableState.{Table}
 use Rattle.ivy_pagetable.specs.stated.Tables.{page_at, with_page}
 use Rattle.ivy_pagetable.specs.stated.Words.{number_at, carried_out, offset_of, width_of}
@@ -34,10 +34,12 @@ use Rattle.ivy_coherence.specs.declared.Need.TheVariants as need
 use Rattle.ivy_coherence.specs.stated.Coherent.{Coherent}
 use Rattle.ivy_coherence.specs.stated.Several.{first_out, later_outs}
 use Rattle.ivy_coherence.specs.stated.MessageSteps.{copy_reply, unlocked, handled}
-use Rattle.ivy_coherence.specs.stated.PageFaults.{Begun, along, started, hit, begun}
+use Rattle.ivy_coherence.specs.stated.PageFaults.{Begun, along, started, hit, taken_up, begun}
 use Rattle.ivy_coherence.specs.stated.Sound.{IsSound, new_coherent}
 use Rattle.ivy_coherence.proofs.keeping.SoundEntries.{new-sound}
-use Rattle.ivy_coherence.proofs.keeping.Keeping.{handled-keeps, begun-keeps}
+use Rattle.ivy_coherence.proofs.keeping.Accesses.{begun-keeps}
+use Rattle.ivy_coherence.proofs.keeping.Fetched.{unlocked_by}
+use Rattle.ivy_coherence.proofs.keeping.Keeping.{handled-keeps}
 use Rattle.ivy_coherence.specs.EventLimits.{most_posted}
 use Rattle.ivy_alloc.specs.stated.Heap.{HeapState}
 use Rattle.ivy_coherence.proofs.keeping.IdleServing.{all_none, all_one}
@@ -55,10 +57,8 @@ use Rattle.ivy_alloc.specs.stated.HeapCalls.{HeapTold, closed, number_in, reques
 use Rattle.ivy_alloc.proofs.HeapMessages.{either}
 use Rattle.ivy_memory.specs.stated.Memories.{NodeMemory, CallBegun, MemoryEffect, memory_over, new_memory, reply_of}
 use Rattle.ivy_memory.specs.stated.Memories.{reply_there, first_reply, reply_at, without_call}
-use Rattle.ivy_memory.specs.stated.Memories.{taken_with, taken_out, answered}
-use Rattle.ivy_memory.specs.stated.Memories.{needed, again_unless, again}
-use Rattle.ivy_memory.specs.stated.Memories.{heap_answered, begun_as, call_begun, by_side}
-use Rattle.ivy_memory.specs.stated.Memories.{by_coherence, memory_handled, memory_told}
+use Rattle.ivy_memory.specs.stated.Memories.{taken_with, taken_out, answered, needed, again_unless, again}
+use Rattle.ivy_memory.specs.stated.Memories.{heap_answered, begun_as, call_begun, by_side, by_coherence, memory_handled, memory_told}
 use Rattle.ivy_memory.specs.stated.Beside.{Beside, nothing_beside, beside}
 use Rattle.ivy_memory.proofs.serving.Asking.{can_ask}
 use Rattle.ivy_memory.proofs.batches.Along.{MayFollow, none_follow, beside-follow, started_along}
@@ -90,6 +90,9 @@ pub record Begins {S : Type 0} (c : Coherent S) (b : Begun S) : Type 0 where
   pub none : b.need ≡ need.Busy → b.posted ≡ []
   pub had : (o : Out) → b.need ≡ need.Have o → b.posted ≡ []
   pub quiet : (o : Out) → b.need ≡ need.Have o → reply_of o ≡ None → b.after ≡ c
+  pub fetched : b.need ≡ need.Fetched → b.after ≡ c
+  pub beside : b.need ≡ need.Fetched → c.locked ≡ None
+  pub unasked : b.need ≡ need.Fetched → b.posted ≡ []
 
 -- bytes that stay as they are
 kept_page : (t : Table) (page : ℕ) (bytes : List ℕ) → bytes ≡ page_at t page
@@ -118,7 +121,7 @@ reply_done None r h = absurd (none-some r h)
 reply_done (Some o) r h = (o, refl)
 
 module _ {S : Type 0} where
-  stays : {c : Coherent S} {new : Coherent S} → new.config ≡ c.config → new.me ≡ c.me
+  pub stays : {c : Coherent S} {new : Coherent S} → new.config ≡ c.config → new.me ≡ c.me
       → new.sends_on ≡ c.sends_on → new.locked ≡ c.locked → new.done ≡ c.done → Told c new
   stays config me sends_on locked done =
       (record { config = config; me = me; sends_on = sends_on }, inl (locked, done))
@@ -136,6 +139,7 @@ module _ {S : Type 0} where
       answered-fits k me m c number b (reply_of o) fits
   needed-fits k me m c more number b need.Started fits = fits
   needed-fits k me m c more number b need.Busy fits = all_none (FitsParcel k me)
+  needed-fits k me m c more number b need.Fetched fits = fits
 
   answered-same : (m : NodeMemory S) (c : Call) (number : ℕ) (b : Begun S) (r : Option Reply)
       → SameNode m.coherence b.after
@@ -147,14 +151,17 @@ module _ {S : Type 0} where
   along-same : (c new : Coherent S) (words : List Word) → SameNode c new
       → SameNode c (along words new)
   along-same c new [] same = same
-  along-same c new (w ∷ words) same = record { config = same.config; me = same.me; sends_on = same.sends_on }
+  along-same c new (w ∷ words) same =
+      record { config = same.config; me = same.me; sends_on = same.sends_on }
 
   pub needed-same : (m : NodeMemory S) (c : Call) (more : Beside) (number : ℕ) (b : Begun S)
       (n : Need) → SameNode m.coherence b.after
       → SameNode m.coherence (needed m c more number b n).after.coherence
   needed-same m c more number b (need.Have o) same = answered-same m c number b (reply_of o) same
   needed-same m c more number b need.Started same = along-same m.coherence b.after more.words same
-  needed-same m c more number b need.Busy same = record { config = refl; me = refl; sends_on = refl }
+  needed-same m c more number b need.Busy same =
+      record { config = refl; me = refl; sends_on = refl }
+  needed-same m c more number b need.Fetched same = same
 
   answered-posted : (m : NodeMemory S) (c : Call) (number : ℕ) (b : Begun S) (r : Option Reply)
       → (answered m c number b r).posted ≡ b.posted
@@ -167,6 +174,7 @@ module _ {S : Type 0} where
   needed-posted m c more number b (need.Have o) bs is = answered-posted m c number b (reply_of o)
   needed-posted m c more number b need.Started bs is = refl
   needed-posted m c more number b need.Busy bs is = sym (bs.none is)
+  needed-posted m c more number b need.Fetched bs is = refl
 
   -- words that wait along with one leave the rest as the access left it
   along-begins : (c : Coherent S) (b : Begun S) (words : List Word) → b.need ≡ need.Started
@@ -182,15 +190,20 @@ module _ {S : Type 0} where
     none = bs.none;
     had = bs.had;
     quiet = λ o h none. absurd (let e : need.Started ≡ need.Have o = sym is ∙ h in cc);
+    fetched = λ h. absurd (let e : need.Started ≡ need.Fetched = sym is ∙ h in cc);
+    beside = bs.beside;
+    unasked = bs.unasked;
   }
 
 module _ {S : Type 0} (ops : Ops S) where
-  -- the word that waited was carried out
+  -- the word that waited was carried out, or the page was fetched
   unlocked-told : (c : Coherent S) (from page : ℕ) (idle : IdleState) (reply : Option Request)
-      (bytes : List ℕ) (s : WaitingState) → c.locked ≡ Some page
+      (bytes : List ℕ) (s : WaitingState)
       → Told c (unlocked ops c from page idle reply bytes s).after
-  unlocked-told c from page idle reply bytes s locked =
-      (record { config = refl; me = refl; sends_on = refl }, inr (page, locked, refl))
+  unlocked-told c from page idle reply bytes s =
+      unlocked_by ops (λ e. Told c e.after) c from page idle reply bytes s
+      (λ here. (record { config = refl; me = refl; sends_on = refl }, inr (page, here, refl)))
+      (λ elsewhere. stays refl refl refl refl refl)
 
   told-rows : (c : Coherent S) (from origin call : ℕ) → IsSound ops c
       → Rows ops c from origin call (λ m e. Told c e.after)
@@ -200,34 +213,42 @@ module _ {S : Type 0} (ops : Ops S) where
     put_off = λ kind page e may is room at. stays refl refl refl refl refl;
     sent_on = λ kind page w may is asks sends. stays refl refl refl refl refl;
     given_up = λ page w by is. stays refl refl refl refl refl;
-    copy = λ page bytes w mine is this. unlocked-told c from page copying (copy_reply w) bytes w
-        (s.others page (ap is_locked is));
+    copy = λ page bytes w mine is this. unlocked-told c from page copying (copy_reply w) bytes w;
     alone = λ page copies bytes w mine is this none. unlocked-told c from page owning
-        (Some asks.Write) bytes w.waiting (s.others page (ap is_locked is));
+        (Some asks.Write) bytes w.waiting;
     shared = λ page copies bytes w mine is this some apart. stays refl refl refl refl refl;
     acknowledged = λ page w mine is this missing others. stays refl refl refl refl refl;
     last = λ page w mine is this missing none. unlocked-told c from page owning None
-        (page_at c.table page) w.waiting (s.others page (ap is_locked is));
+        (page_at c.table page) w.waiting;
   }
 
   pub handled-told : (c : Coherent S) (from : ℕ) (m : Message) → IsSound ops c
       → Told c (handled ops c from m).after
   handled-told c from m s = handled-by_rows m (told-rows c from m.origin m.call s)
 
+  -- a word waits from now on
+  waits-begins : (c : Coherent S) (b : Begun S) → c.locked ≡ None → b.need ≡ need.Started
+      → SameNode c b.after → b.after.done ≡ c.done → Begins c b
+  waits-begins c b free is same done = record {
+    same = same;
+    done = done;
+    lock = λ o h. absurd (let e : need.Started ≡ need.Have o = sym is ∙ h in cc);
+    free = λ o h. free;
+    start = λ h. free;
+    busy = λ h. absurd (let e : need.Started ≡ need.Busy = sym is ∙ h in cc);
+    none = λ h. absurd (let e : need.Started ≡ need.Busy = sym is ∙ h in cc);
+    had = λ o h. absurd (let e : need.Started ≡ need.Have o = sym is ∙ h in cc);
+    quiet = λ o h n. absurd (let e : need.Started ≡ need.Have o = sym is ∙ h in cc);
+    fetched = λ h. absurd (let e : need.Started ≡ need.Fetched = sym is ∙ h in cc);
+    beside = λ h. free;
+    unasked = λ h. absurd (let e : need.Started ≡ need.Fetched = sym is ∙ h in cc);
+  }
+
   started-begins : (c : Coherent S) (page : ℕ) → c.locked ≡ None → (e : Entry) (ps : List Parcel)
       → Begins c (started ops c page e ps)
   started-begins c page free e ps =
-      record {
-        same = record { config = refl; me = refl; sends_on = refl };
-        done = refl;
-        lock = λ o h. absurd cc;
-        free = λ o h. absurd cc;
-        start = λ h. free;
-        busy = λ h. absurd cc;
-        none = λ h. absurd cc;
-        had = λ o h. absurd cc;
-        quiet = λ o h n. absurd cc;
-      }
+      waits-begins c (started ops c page e ps) free refl
+      (record { config = refl; me = refl; sends_on = refl }) refl
 
   hit_begins : (c : Coherent S) (page : ℕ) (w : Word) → c.locked ≡ None
       → Begins c (hit ops c page w)
@@ -245,6 +266,9 @@ module _ {S : Type 0} (ops : Ops S) where
         ap (λ t. record c { table = t })
         (kept_page c.table page _
         (quiet_bytes w (page_at c.table page) (ap reply_of given ∙ n))));
+    fetched = λ h. absurd cc;
+    beside = λ h. free;
+    unasked = λ h. absurd cc;
   }
 
   begins-rows : (c : Coherent S) (page : ℕ) (w : Word) (number : ℕ)
@@ -260,11 +284,30 @@ module _ {S : Type 0} (ops : Ops S) where
       none = λ h. refl;
       had = λ o h. refl;
       quiet = λ o h n. refl;
+      fetched = λ h. refl;
+      beside = λ h. absurd cc;
+      unasked = λ h. refl;
     };
     hit = λ i none is enough. hit_begins c page w none;
     read = λ i none is short reads. started-begins c page none _ _;
     write = λ i none is short writes other. started-begins c page none _ _;
     owner = λ i none is short writes own. started-begins c page none _ _;
+    joins = λ e none is fits. waits-begins c (taken_up ops c page w e) none refl
+        (record { config = refl; me = refl; sends_on = refl }) refl;
+    beside = λ e none is lock unfit. record {
+      same = record { config = refl; me = refl; sends_on = refl };
+      done = refl;
+      lock = λ o h. refl;
+      free = λ o h. none;
+      start = λ h. none;
+      busy = λ h. refl;
+      none = λ h. refl;
+      had = λ o h. refl;
+      quiet = λ o h n. refl;
+      fetched = λ h. refl;
+      beside = λ h. none;
+      unasked = λ h. refl;
+    };
   }
 
   pub begun-begins : (c : Coherent S) (page : ℕ) (w : Word) (number : ℕ)
@@ -363,6 +406,9 @@ module _ {S : Type 0} {ops : Ops S} where
       started-sound m (record b { after = along more.words b.after }) c more.calls number wide least
       follow words s idle (along-begins m.coherence b more.words is bs) (waits is)
   needed-sound m c more number b need.Busy wide least most follow words s idle bs good waits is = s
+  needed-sound m c more number b need.Fetched wide least most follow words s idle bs good waits is =
+      started-sound m b c [] number wide least (none_follow m.coherence.config number most) words s
+      idle bs good
 
   pub told_memory : (m : NodeMemory S) (new : Coherent S) → IsSoundMemory ops m
       → Told m.coherence new → IsSound ops new
@@ -429,7 +475,10 @@ module _ {S : Type 0} {ops : Ops S} where
     hop = s.hop;
     away = s.away;
     locked = s.locked;
+    fetched = s.fetched;
     others = s.others;
+    apart = s.apart;
+    few = s.few;
     along = s.along;
     alone = s.alone;
   }
@@ -521,6 +570,7 @@ module _ {S : Type 0} {ops : Ops S} where
       (none_follow m.coherence.config number most) words (without-sound m s (bs.start is)) refl bs
       good
   again-sound m c number b need.Busy wide least most words s bs good is = s
+  again-sound m c number b need.Fetched wide least most words s bs good is = s
 
 -- what a call that begins keeps
 abbrev pub KeepsMemory : {S : Type 0} → Ops S → NodeMemory S → CallBegun S → Type 0
@@ -716,7 +766,8 @@ module _ {S : Type 0} {ops : Ops S} (laws : Laws ops) where
 module _ {S : Type 0} (ops : Ops S) where
   as-same : (m : NodeMemory S) (k : Call) (calls : List Call) (number : ℕ) (x : Asked)
       → SameNode m.coherence (begun_as ops m k calls number x).after.coherence
-  as-same m k calls number (asked.Refused code) = record { config = refl; me = refl; sends_on = refl }
+  as-same m k calls number (asked.Refused code) =
+      record { config = refl; me = refl; sends_on = refl }
   as-same m k calls number (asked.Word page w) =
       let b : Begun S = begun ops m.coherence page w number in
       needed-same m k (beside m.coherence.config page w calls number) number b b.need

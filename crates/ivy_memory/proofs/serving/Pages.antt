@@ -12,7 +12,7 @@ use Rattle.ivy_pagetable.specs.declared.PutOff.{PutOff}
 use Rattle.ivy_pagetable.specs.declared.Request.{Request}
 use Rattle.ivy_pagetable.specs.declared.Request.TheVariants as request
 use Rattle.ivy_pagetable.specs.stated.NodeSets.{Nodes, nodes_of, nodes_with}
-use Rattle.ivy_pagetable.specs.stated.States.{IdleState}
+use Rattle.ivy_pagetable.specs.stated.States.{IdleState, WaitingState}
 use Rattle.ivy_pagetable.specs.stated.Manager.{Ops}
 use Rattle.ivy_coherence.specs.stated.Serving.{Serving, serving, served_by_owner, served_by_other, served, all_served, told, put_off_served, invalidations}
 use Rattle.ivy_coherence.proofs.keeping.IdleServing.{all_none, all_one}
@@ -22,8 +22,8 @@ use Rattle.ivy_pagetable.specs.stated.Entries.{without, copying, owning}
 use Rattle.ivy_pagetable.specs.stated.Words.{carried_out}
 use Rattle.ivy_coherence.specs.stated.Coherent.{Coherent}
 use Rattle.ivy_coherence.specs.stated.Several.{all_carried}
-use Rattle.ivy_coherence.specs.stated.MessageSteps.{copy_reply, handled}
-use Rattle.ivy_coherence.specs.stated.PageFaults.{begun}
+use Rattle.ivy_coherence.specs.stated.MessageSteps.{copy_reply, unlocked, handled}
+use Rattle.ivy_coherence.specs.stated.PageFaults.{begun, fetch}
 use Rattle.ivy_memory.specs.declared.memory.Asked.TheVariants as asked
 use Rattle.ivy_alloc.specs.declared.HeapCall.{HeapCall}
 use Rattle.ivy_alloc.specs.declared.HeapRequest.{HeapRequest}
@@ -33,7 +33,8 @@ pub use Rattle.ivy_alloc.specs.stated.HeapCalls.{is_of_pages}
 use Rattle.ivy_alloc.specs.stated.HeapCalls.{HeapSide, misfit, heap_told_as, heap_told}
 use Rattle.ivy_memory.specs.stated.Memories.{NodeMemory, by_coherence, memory_handled_as, memory_handled}
 use Rattle.ivy_memory.specs.stated.Sound.{IsHeapRequestOf}
-use Rattle.ivy_coherence.proofs.keeping.EventTable.{Rows, AccessRows, handled-by_rows, begun-by_rows}
+use Rattle.ivy_coherence.proofs.keeping.EventTable.{Rows, AccessRows, FetchRows, handled-by_rows, begun-by_rows, fetch-by_rows}
+use Rattle.ivy_coherence.proofs.keeping.Fetched.{unlocked_by}
 
 -- a message about a page, and none of the heap
 abbrev pub IsOfPages : Parcel → Type 0
@@ -82,6 +83,17 @@ pub invalidations-pages : (me page call : ℕ) (s : Nodes)
 invalidations-pages me page call s = told-pages me page call (nodes_of s)
 
 module _ {S : Type 0} (ops : Ops S) where
+  unlocked-pages : (c : Coherent S) (from page : ℕ) (i : IdleState) (reply : Option Request)
+      (bytes : List ℕ) (w : WaitingState)
+      → All IsOfPages (unlocked ops c from page i reply bytes w).posted
+  unlocked-pages c from page i reply bytes w =
+      unlocked_by ops (λ e. All IsOfPages e.posted) c from page i reply bytes w
+      (λ here. put_off_served-pages ops c.me page
+      (all_carried c.more (carried_out w.word bytes).bytes).bytes from i c.manager c.breaches reply
+      w.put_off)
+      (λ elsewhere. put_off_served-pages ops c.me page bytes from i c.manager c.breaches reply
+      w.put_off)
+
   message-rows : (c : Coherent S) (from origin call : ℕ)
       → Rows ops c from origin call (λ m e. All IsOfPages e.posted)
   message-rows c from origin call = record {
@@ -95,20 +107,15 @@ module _ {S : Type 0} (ops : Ops S) where
         origin without c.manager c.breaches None
         (record { kind = kind; origin = origin; call = call } ∷ []);
     given_up = λ page w by is. all_one IsOfPages _ refl;
-    copy = λ page bytes w mine is this. put_off_served-pages ops c.me page
-        (all_carried c.more (carried_out w.word bytes).bytes).bytes from copying c.manager c.breaches
-        (copy_reply w) w.put_off;
-    alone = λ page copies bytes w mine is this none. put_off_served-pages ops c.me page
-        (all_carried c.more (carried_out w.waiting.word bytes).bytes).bytes from owning c.manager
-        c.breaches
-        (Some request.Write) w.waiting.put_off;
+    copy = λ page bytes w mine is this. unlocked-pages c from page copying (copy_reply w) bytes w;
+    alone = λ page copies bytes w mine is this none. unlocked-pages c from page owning
+        (Some request.Write) bytes w.waiting;
     shared =
         λ page copies bytes w mine is this some apart. invalidations-pages c.me page call
         (nodes_with copies);
     acknowledged = λ page w mine is this missing others. all_none IsOfPages;
-    last = λ page w mine is this missing none. put_off_served-pages ops c.me page
-        (all_carried c.more (carried_out w.waiting.word (page_at c.table page)).bytes).bytes from
-        owning c.manager c.breaches None w.waiting.put_off;
+    last = λ page w mine is this missing none. unlocked-pages c from page owning None
+        (page_at c.table page) w.waiting;
   }
 
   access-rows : (c : Coherent S) (page : ℕ) (w : Word) (call : ℕ)
@@ -119,6 +126,17 @@ module _ {S : Type 0} (ops : Ops S) where
     read = λ i none is short reads. all_one IsOfPages _ refl;
     write = λ i none is short writes other. all_one IsOfPages _ refl;
     owner = λ i none is short writes own. invalidations-pages c.me page call i.copies;
+    joins = λ e none is fits. all_none IsOfPages;
+    beside = λ e none is lock unfit. all_none IsOfPages;
+  }
+
+  fetch-rows : (c : Coherent S) (page : ℕ) (writes : Bool) (call : ℕ)
+      → FetchRows ops c page writes call (λ f. All IsOfPages f.posted)
+  fetch-rows c page writes call = record {
+    none = all_none IsOfPages;
+    read = λ i is room short reads. all_one IsOfPages _ refl;
+    write = λ i is room short writes other. all_one IsOfPages _ refl;
+    owner = λ i is room short writes own. invalidations-pages c.me page call i.copies;
   }
 
   -- a message that comes
@@ -130,6 +148,11 @@ module _ {S : Type 0} (ops : Ops S) where
   pub begun-pages : (c : Coherent S) (page : ℕ) (w : Word) (call : ℕ)
       → All IsOfPages (begun ops c page w call).posted
   begun-pages c page w call = begun-by_rows (access-rows c page w call)
+
+  -- a fetch
+  pub fetch-pages : (c : Coherent S) (page : ℕ) (writes : Bool) (call : ℕ)
+      → All IsOfPages (fetch ops c page writes call).posted
+  fetch-pages c page writes call = fetch-by_rows (fetch-rows c page writes call)
 
 -- a message about a page is none of the heap
 page-as : (me : ℕ) (s : HeapSide) (from : ℕ) (m : Message) (body : Content)

@@ -15,7 +15,7 @@ use Rattle.ivy_coherence.specs.stated.Coherent.{Coherent}
 use Rattle.ivy_coherence.specs.stated.Several.{first_out, later_outs}
 use Rattle.ivy_coherence.specs.stated.Sound.{new_coherent}
 use Rattle.ivy_coherence.specs.stated.MessageSteps.{handled}
-use Rattle.ivy_coherence.specs.stated.PageFaults.{Begun, along, begun}
+use Rattle.ivy_coherence.specs.stated.PageFaults.{Begun, along, begun, fetch}
 use Rattle.ivy_alloc.specs.declared.CallProgress.{CallProgress}
 use Rattle.ivy_alloc.specs.declared.CallProgress.TheVariants.{Given, Awaited, Unserved}
 use Rattle.ivy_memory.specs.declared.memory.Asked.{Asked}
@@ -164,14 +164,16 @@ module _ {S : Type 0} where
     posted = b.posted;
   }
 
-  -- a call whose word was carried out, or waits from now on, or can't begin beside another one
+  -- a call whose word was carried out, or waits from now on, or can't begin beside another one.
+  -- Where its page is fetched otherwise than the word needs, it is in progress, and is tried again
   abbrev pub needed : NodeMemory S → Call → Beside → ℕ → Begun S → Need → CallBegun S
   needed m call more number b (need.Have o) = answered m call number b (reply_of o)
   needed m call more number b need.Started = waiting m call more number b
   needed m call more number b need.Busy = unserved m
+  needed m call more number b need.Fetched = waiting m call nothing_beside number b
 
-  -- a call that is tried again: where its word has no answer now either, or another one waits,
-  -- nothing changes
+  -- a call that is tried again: where its word has no answer now either, or another one waits, or
+  -- its page is fetched otherwise, nothing changes
   abbrev pub again_unless : NodeMemory S → CallBegun S → Option Reply → CallBegun S
   again_unless m a None = unserved m
   again_unless m a (Some r) = a
@@ -180,6 +182,7 @@ module _ {S : Type 0} where
   again m a (need.Have o) = again_unless m a (reply_of o)
   again m a need.Started = a
   again m a need.Busy = unserved m
+  again m a need.Fetched = unserved m
 
   -- a call of the heap has its reply, or it is in progress where node 0 was asked
   abbrev pub heap_answered : NodeMemory S → Call → ℕ → HeapBegun → CallBegun S
@@ -194,6 +197,18 @@ module _ {S : Type 0} where
     };
     posted = b.posted;
   }
+
+-- what a fetch comes to: whether it began, the memory after, and what is posted
+pub record MemoryFetch (S : Type 0) : Type 0 where
+  pub begun : Bool
+  pub after : NodeMemory S
+  pub posted : List Parcel
+
+-- a page is fetched beside the call in progress, under this number; no call and no reply is of it
+abbrev pub memory_fetched : {S : Type 0} → Ops S → NodeMemory S → ℕ → Bool → ℕ → MemoryFetch S
+memory_fetched ops m page write number =
+    let f = fetch ops m.coherence page write number in
+    record { begun = f.begun; after = record m { coherence = f.after }; posted = f.posted }
 
 -- what a message does to a memory, and what is posted
 pub record MemoryEffect (S : Type 0) : Type 0 where

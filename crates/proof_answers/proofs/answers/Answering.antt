@@ -24,7 +24,7 @@ use Rattle.ivy_moves.proofs.Kept.{moves-keep}
 use Rattle.ivy_moves.proofs.Places.{guarded, core_of, link_of, set-there}
 use Rattle.proof_worlds.specs.progress.Answering.{AreAllDelivered}
 use Rattle.proof_worlds.specs.stated.Still.{HasNothingUnderWay}
-use Rattle.proof_worlds.specs.stated.Unblocked.{Stands, waits, replied, reached, AreUnblocked}
+use Rattle.proof_worlds.specs.stated.Unblocked.{Stands, waits, replied, reached, tried, AreUnblocked}
 use Rattle.ivy_host.specs.stated.Hosts.{Host, host_rules, turn_of}
 use Rattle.ivy_host.specs.stated.Managers.{Managed, managed_ops}
 use Rattle.ivy_host.specs.declared.opening.Opening.{Opening}
@@ -41,6 +41,7 @@ use Rattle.proof_worlds.proofs.progress.Ending.{way_most}
 use Rattle.proof_worlds.proofs.progress.Lowering.{work, way}
 use Rattle.proof_worlds.proofs.progress.Reached.{IsToldBy, reached_told}
 use Rattle.proof_worlds.proofs.progress.StillWorlds.{none_under_way, either_unblocked}
+use Rattle.proof_answers.proofs.answers.Unhanded.{unhanded_of}
 use Rattle.proof_answers.specs.answers.Answered.{IsDue, IsSomeAnswered, SomeAnswered}
 use Rattle.proof_answers.specs.answers.NodeRounds.{IsRound, AreRounds}
 use Rattle.proof_answers.proofs.answers.Falling.{AreLater, all_later, all_then, IsLaterAt, Grew, grew_later, grew_on, whole, Falls}
@@ -243,6 +244,8 @@ module _ (opened : Opening) (c : Config) (limits : IsConfig c) (programs : List 
         stands u (replied other reply is next along calls part) = (_, next.turned)
         stands u (reached k least count is at le (inl next) part) = (_, next.turned)
         stands u (reached k least count is at le (inr next) part) = (next.outcome, next.turned)
+        stands u (tried other page w is of handed (inl next) part) = (_, next.1.turned)
+        stands u (tried other page w is of handed (inr next) part) = (next.0, next.1)
 
     module _ (u v : World (Host Managed)) (first : Led w f u)
         (turn : Moves (host_rules managed_ops) c u (Turn i) v) (second : Led u first.follows v)
@@ -273,7 +276,8 @@ module _ (opened : Opening) (c : Config) (limits : IsConfig c) (programs : List 
           no_change c n.core out.0 called
           (turn_does managed_ops c limits i n.core sound out.0
           (turn_cases managed_ops c i n.core sound out.0 out.1) out.1
-          (told.pursued i n.core here)) asked (sym (same ∙ at_v.2))
+          (told.pursued i n.core here)
+          (unhanded_of opened c limits programs many (order_of w f) f.reached i n.core here)) asked (sym (same ∙ at_v.2))
 
       progresses : Progress c (order_of w f) (order_of end rest.follows)
       progresses = by_first first.after.comes

@@ -30,7 +30,7 @@ use Rattle.ivy_moves.specs.stated.Worlds.{World}
 use Rattle.ivy_moves.proofs.Places.{core_of, set-there, set-elsewhere}
 use Rattle.proof_worlds.specs.progress.Ending.{sum_below}
 use Rattle.proof_worlds.specs.stated.Settled.{HasNoAnswer}
-use Rattle.proof_worlds.specs.stated.Unblocked.{Stands, waits, replied, reached, AreUnblocked}
+use Rattle.proof_worlds.specs.stated.Unblocked.{Stands, waits, replied, reached, tried, AreUnblocked}
 use Rattle.ivy_host.specs.stated.Hosts.{Host}
 use Rattle.ivy_host.specs.stated.Managers.{Managed, managed_ops}
 use Rattle.ivy_host.specs.declared.opening.Opening.{Opening}
@@ -256,6 +256,7 @@ module _ (opened : Opening) (c : Config) (limits : IsConfig c) (programs : List 
     told_part i n (waits none is) = ([], is ∙ sym (append-nil n.history))
     told_part i n (replied called answer asked next along calls is) = (_, is)
     told_part i n (reached j least count asked at le next is) = ([], is ∙ sym (append-nil n.history))
+    told_part i n (tried called page w asked of handed next is) = ([], is ∙ sym (append-nil n.history))
 
     advances_few : (count : ℕ) → slice_get u.last.counts k ≡ Some count → advances k w ≤ count
     advances_few =

@@ -38,6 +38,7 @@ use Rattle.proof_worlds.proofs.progress.Lowering.{entries, hop_at, work, way, sa
 use Rattle.proof_worlds.proofs.progress.Reached.{IsToldBy, reached_told}
 use Rattle.proof_worlds.proofs.progress.NumberTotals.{sum_change}
 use Rattle.proof_worlds.proofs.progress.Works.{heavy_of, bare, work_posted, work_put}
+use Rattle.proof_answers.proofs.answers.Unhanded.{unhanded_of}
 use Rattle.proof_answers.proofs.answers.Turning.{cost, call_weight, host_weight, TurnDoes, records, goes, begins, turn_does}
 
 -- the node later on: its history goes on, and while it does not, its call stays in progress
@@ -413,6 +414,7 @@ module _ (opened : Opening) (c : Config) (limits : IsConfig c) (programs : List 
     turn_of_host =
         turn_does managed_ops c limits x t.core (told.faithful.sound.sound x t.core t.there)
         t.outcome turn_is t.turned (told.pursued x t.core t.there)
+        (unhanded_of opened c limits programs many o reached x t.core t.there)
 
     now_under : (i j : ℕ) → under_way u i j ≡ under_way o i j ++ posted i j t.outcome.posted
     now_under i j =

@@ -26,7 +26,8 @@ use Rattle.ivy_moves.specs.stated.Cores.{Outcome}
 use Rattle.ivy_host.specs.stated.Hosts.{Host, turn_of, begins_as}
 use Rattle.ivy_host.specs.stated.Sound.{IsSoundHost}
 use Rattle.ivy_coherence.specs.stated.Coherent.{Coherent}
-use Rattle.ivy_coherence.specs.stated.PageFaults.{Begun, waiting_from, fault_entry, along, busy, hit, faulted, fault_posted, accessed, begun_at, begun}
+use Rattle.ivy_coherence.specs.stated.Fetching.{suits, joined_by}
+use Rattle.ivy_coherence.specs.stated.PageFaults.{Begun, waiting_from, fault_entry, along, busy, hit, faulted, fault_posted, taken_up, waits_beside, accessed, begun_at, begun}
 use Rattle.ivy_coherence.specs.stated.Serving.{invalidations}
 use Rattle.ivy_alloc.specs.declared.HeapCall.{HeapCall}
 use Rattle.ivy_alloc.specs.declared.HeapCall.TheVariants as heap_call
@@ -36,11 +37,13 @@ use Rattle.ivy_memory.specs.stated.Asking.{asked_of}
 use Rattle.ivy_memory.specs.stated.Memories.{answered, needed, again_unless, first_reply, reply_of, reply_at, reply_there, without_call}
 use Rattle.ivy_memory.specs.stated.Beside.{nothing_beside}
 use Rattle.ivy_coherence.proofs.keeping.Changing.{entry_with}
+use Rattle.proof_table.proofs.transitions.RowsJoined.{joined_still}
 use Rattle.proof_worlds.proofs.consistency.Beside.{along-kept}
 use Rattle.proof_worlds.proofs.refinement.HostTurns.{made_along, number_of, asks}
-use Rattle.proof_worlds.proofs.refinement.HostTurns.{HostTurn, answers, tries_again, goes_on, refuses, asks_for, serves_heap, asks_heap}
+use Rattle.proof_worlds.proofs.refinement.HostTurns.{HostTurn, answers, tries_again, goes_on, refuses, asks_for, serves_heap, asks_heap, carries_fetch}
+use Rattle.proof_worlds.proofs.progress.FetchedPages.{only_locked, unhanded-due, unhanded-next, unhanded-page}
 use Rattle.proof_worlds.proofs.progress.Pursued.{IsPlain, IsPursued}
-use Rattle.proof_worlds.proofs.progress.Stopped.{IsAwait, await_is, tries}
+use Rattle.proof_worlds.proofs.progress.Stopped.{IsAwait, await_is, tries-undue}
 use Rattle.proof_worlds.proofs.progress.Works.{heavy_of, bare, bare_most, work_posted, orders_most}
 
 -- what a lost copy costs: it is asked for again, and comes
@@ -95,6 +98,8 @@ module _ {S : Type 0} (ops : Ops S) (k : Coherent S) (page : ℕ) (w : Word) (nu
     is_hit : b ≡ hit ops k page w → Access b
     is_fault : (s : IdleState) → entry_at k.table page ≡ entry.Idle s
         → suffices s.access w ≡ false → b ≡ faulted ops k page w number s → Access b
+    is_joined : (e : Entry) → entry_at k.table page ≡ e → b ≡ taken_up ops k page w e → Access b
+    is_beside : b ≡ waits_beside ops k → Access b
 
   accessing : (s : IdleState) → entry_at k.table page ≡ entry.Idle s → (b : Bool)
       → suffices s.access w ≡ b
@@ -102,11 +107,19 @@ module _ {S : Type 0} (ops : Ops S) (k : Coherent S) (page : ℕ) (w : Word) (nu
   accessing s at true enough = is_hit refl
   accessing s at false short = is_fault s at short refl
 
+  joining : (e : Entry) → entry_at k.table page ≡ e → (b : Bool)
+      → Access (if b then taken_up ops k page w e else waits_beside ops k)
+  joining e at true = is_joined e at refl
+  joining e at false = is_beside refl
+
   at_entry : (e : Entry) → entry_at k.table page ≡ e → Access (accessed ops k page w number e)
   at_entry (entry.Idle s) at = accessing s at (suffices s.access w) refl
-  at_entry (entry.AwaitRead s) at = is_busy refl
-  at_entry (entry.AwaitWrite s) at = is_busy refl
-  at_entry (entry.AwaitAcks s) at = is_busy refl
+  at_entry (entry.AwaitRead s) at =
+      joining (entry.AwaitRead s) at (suits (entry.AwaitRead s) (needs_write w))
+  at_entry (entry.AwaitWrite s) at =
+      joining (entry.AwaitWrite s) at (suits (entry.AwaitWrite s) (needs_write w))
+  at_entry (entry.AwaitAcks s) at =
+      joining (entry.AwaitAcks s) at (suits (entry.AwaitAcks s) (needs_write w))
 
   at_lock : (l : Option ℕ) → Access (begun_at ops k page w number l)
   at_lock None = at_entry (entry_at k.table page) refl
@@ -269,6 +282,36 @@ module _ {S : Type 0} (ops : Ops S) (c : Config) (limits : IsConfig c) (x : ℕ)
             ≡ entry_at (with_entry k.table page (fault_entry w (number_of n) s)) q
         same_at q = ap (λ t. entry_at t q) (along-kept words kept).table
 
+    joined_begins : (e : Entry) → entry_at k.table page ≡ e
+        → comes_of (taken_up ops k page w e) ≡ Some out → TurnDoes n out c
+    joined_begins e at is =
+        subst (λ z. TurnDoes n z c) (same_Some _ out is)
+        (begins page inside refl (λ other was. absurd (no_call other was))
+        (λ q ne. same_at q ∙ written_there page inside (joined_by e w) q ne)
+        (ap put_offs (same_at page ∙ written_here page inside (joined_by e w))
+        ∙ (joined_still e w).put_off ∙ sym (ap put_offs at))
+        (let a = call_few called (entry_at (along words kept).table 0) in
+        let b = full_weight in
+        omega (arith, a, b)))
+      where
+        words : List Word
+        words = (made_along n page w).words
+
+        kept : Coherent S
+        kept = (taken_up ops k page w e).after
+
+        same_at : (q : ℕ) → entry_at (along words kept).table q
+            ≡ entry_at (with_entry k.table page (joined_by e w)) q
+        same_at q = ap (λ t. entry_at t q) (along-kept words kept).table
+
+    beside_begins : comes_of (waits_beside ops k) ≡ Some out → TurnDoes n out c
+    beside_begins is =
+        subst (λ z. TurnDoes n z c) (same_Some _ out is)
+        (begins page inside refl (λ other at. absurd (no_call other at)) (λ q ne. refl) refl
+        (let a = call_few called (entry_at k.table 0) in
+        let b = full_weight in
+        omega (arith, a, b)))
+
     access_begins : (b : Begun S) → Access ops k page w (number_of n) b → comes_of b ≡ Some out
         → TurnDoes n out c
     access_begins b (is_busy same) is =
@@ -278,15 +321,20 @@ module _ {S : Type 0} (ops : Ops S) (c : Config) (limits : IsConfig c) (x : ℕ)
         (sym (ap comes_of same) ∙ is)
     access_begins b (is_fault s at short same) is =
         fault_begins s at (sym (ap comes_of same) ∙ is)
+    access_begins b (is_joined e at same) is = joined_begins e at (sym (ap comes_of same) ∙ is)
+    access_begins b (is_beside same) is = beside_begins (sym (ap comes_of same) ∙ is)
 
   -- a call that is tried again
   module _ (called : Call) (page : ℕ) (w : Word) (asked : n.memory.asked ≡ Some called)
       (none : reply_at n.memory ≡ None) (free : k.locked ≡ None)
       (of : asked_of c called ≡ kinds.Word page w) (inside : page < c.pages)
-      (turned : turn_of ops n ≡ Some out) where
+      (turned : turn_of ops n ≡ Some out) (pursued : IsPursued c n)
+      (unhanded : n.fetches.handed ≡ []) where
     locked_not : is_locked (entry_at k.table page) ≡ true → ⊥
     locked_not locked =
-        none-some page (sym free ∙ good.memory.coherent.others page locked)
+        none-some page
+        (sym free ∙ only_locked ops k good.memory.coherent
+        (λ p h. unhanded-page n unhanded p (pursued.fetched p h)) page locked)
 
     unlocked : (e : Entry) → entry_at k.table page ≡ e
         → (s : IdleState) × (entry_at k.table page ≡ entry.Idle s)
@@ -359,13 +407,14 @@ module _ {S : Type 0} (ops : Ops S) (c : Config) (limits : IsConfig c) (x : ℕ)
             < host_weight n
         less = omega (arith, before, after, posts)
 
-    try_again : IsPursued c n → TurnDoes n out c
-    try_again pursued =
+    try_again : TurnDoes n out c
+    try_again =
         let at = unlocked (entry_at k.table page) refl in
         elim (word_cases w) [
           | inl plain ↦
-              absurd (pursued called page w asked of plain free
-              (none_there _ (reply_there k.done) none))
+              absurd (unhanded-page n unhanded page
+              (pursued.pursued called page w asked of plain free
+              (none_there _ (reply_there k.done) none)))
           | inr waits ↦ either at.0 at.1 waits.0 waits.1 waits.2 (suffices at.0.access w) refl
         ]
       where
@@ -373,30 +422,33 @@ module _ {S : Type 0} (ops : Ops S) (c : Config) (limits : IsConfig c) (x : ℕ)
             → w ≡ word.Await offset least → (b : Bool) → suffices s.access w ≡ b → TurnDoes n out c
         either s at offset least waits true enough =
             hit_again (reply_of (carried_out w (page_at k.table page)).out)
-            (sym (tries ops n called asked c good.config none free page w of s true at enough)
-            ∙ turned)
+            (sym (tries-undue ops n called asked c good.config none free page w of
+            (unhanded-due n unhanded) s true at enough) ∙ turned)
         either s at offset least waits false short =
             fault_again s at short offset least waits
-            (tries ops n called asked c good.config none free page w of s false at short)
+            (tries-undue ops n called asked c good.config none free page w of
+            (unhanded-due n unhanded) s false at short)
 
-  pub turn_does : HostTurn ops c n out → turn_of ops n ≡ Some out → IsPursued c n → TurnDoes n out c
-  turn_does (answers called r asked there is) turned pursued =
+  pub turn_does : HostTurn ops c n out → turn_of ops n ≡ Some out → IsPursued c n
+      → n.fetches.handed ≡ [] → TurnDoes n out c
+  turn_does (answers called r asked there is) turned pursued unhanded =
       records _ (ap (λ (z : Outcome (Host S)). z.after.history) is)
-  turn_does (tries_again called page w asked none free of inside lies is) turned pursued =
+  turn_does (tries_again called page w asked none free of inside lies is) turned pursued unhanded =
       try_again called page w asked none free
       (subst (λ d. asked_of d called ≡ kinds.Word page w) good.config of) inside turned pursued
-  turn_does (goes_on s idle step is) turned pursued =
+      unhanded
+  turn_does (goes_on s idle step is) turned pursued unhanded =
       goes idle (ap (λ (z : Outcome (Host S)). z.posted) is)
       (ap (λ (z : Outcome (Host S)). z.after.memory) is)
       (ap (λ (z : Outcome (Host S)). z.after.history) is)
-  turn_does (refuses called code idle step refusal is) turned pursued =
+  turn_does (refuses called code idle step refusal is) turned pursued unhanded =
       records _ (ap (λ (z : Outcome (Host S)). z.after.history) is)
-  turn_does (asks_for called page w idle step of inside lies few is) turned pursued =
+  turn_does (asks_for called page w idle step of inside lies few is) turned pursued unhanded =
       access_begins called page w idle inside (asks ops n page w)
       (access ops k page w (number_of n)) is
-  turn_does (serves_heap called h heap idle step of there is) turned pursued =
+  turn_does (serves_heap called h heap idle step of there is) turned pursued unhanded =
       records _ (ap (λ (z : Outcome (Host S)). z.after.history) is)
-  turn_does (asks_heap called h idle step of away is) turned pursued =
+  turn_does (asks_heap called h idle step of away is) turned pursued unhanded =
       subst (λ z. TurnDoes n z c) (sym is)
       (begins 0 (let a = limits.pages_from in omega (arith, a)) refl
       (λ other was. absurd (none-some other (sym idle ∙ was))) (λ q ne. refl) refl
@@ -405,3 +457,5 @@ module _ {S : Type 0} (ops : Ops S) (c : Config) (limits : IsConfig c) (x : ℕ)
       ap (λ z. call_weight z (entry_at k.table 0)) idle in
       let d = request_weight h in
       omega (arith, a, b, d)))
+  turn_does (carries_fetch fetch next is) turned pursued unhanded =
+      absurd (unhanded-next n unhanded fetch next)

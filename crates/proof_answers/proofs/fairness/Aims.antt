@@ -29,8 +29,9 @@ use Rattle.proof_table.specs.stated.Letters.{Letter, Place, Underway, Aside, Loo
 use Rattle.proof_table.specs.transitions.TableSteps.{Claim, IsPreservedBy}
 use Rattle.proof_table.proofs.transitions.Both.{both-kept}
 use Rattle.proof_table.proofs.transitions.Embedded.{embedded-kept}
+use Rattle.proof_table.proofs.transitions.Needs.{page_of as about_page}
 use Rattle.proof_table.proofs.waiting.Onward.{IsDue, IsWithin, IsLast}
-use Rattle.proof_table.proofs.waiting.Targets.{IsLastAt, IsFollowed, followed_on}
+use Rattle.proof_table.proofs.waiting.Targets.{IsLastAt, IsSameButWord, IsFollowed, followed_on}
 use Rattle.ivy_host.specs.stated.Hosts.{Host, host_rules, serving}
 use Rattle.ivy_host.specs.stated.Managers.{Managed, managed_ops}
 use Rattle.ivy_host.specs.declared.opening.Opening.{Opening}
@@ -50,12 +51,14 @@ use Rattle.proof_worlds.proofs.consistency.CarriedWords.{Copies}
 use Rattle.proof_worlds.proofs.progress.Stopped.{IsUnanswered, unanswered}
 use Rattle.proof_worlds.proofs.refinement.HeapDeliveries.{HeapDelivery, serves, learns}
 use Rattle.proof_worlds.proofs.refinement.HeapWays.{within_taken}
-use Rattle.proof_worlds.proofs.refinement.HostTurns.{HostTurn, answers, tries_again, goes_on, refuses, asks_for, serves_heap, asks_heap, turn_cases}
+use Rattle.proof_worlds.proofs.refinement.HostTurns.{HostTurn, answers, tries_again, goes_on, refuses, asks_for, serves_heap, asks_heap, carries_fetch, turn_cases}
+use Rattle.proof_worlds.proofs.progress.FetchedPages.{unhanded-next}
 use Rattle.proof_worlds.proofs.refinement.Led.{get_set}
 use Rattle.proof_worlds.proofs.refinement.LiftedEvents.{Carries, Tells, quiet, answers as is_answered}
 use Rattle.proof_worlds.proofs.refinement.LiftedHosts.{WorldTells, kept-steps}
 use Rattle.proof_worlds.proofs.refinement.LiftedSteps.{kept-delivers}
 use Rattle.proof_worlds.proofs.refinement.LiftedWorlds.{IsSoundWorldBy, fits_heap, letter_first, letter_taken, heap_taken}
+use Rattle.proof_answers.proofs.answers.Unhanded.{unhanded_of}
 use Rattle.proof_answers.proofs.fairness.Leading.{told_of}
 use Rattle.proof_answers.proofs.fairness.WaitRanks.{OfKind, spare, WaitRank, IsWaitingIn}
 use Rattle.proof_answers.proofs.fairness.Unlocking.{last_unlocks}
@@ -204,16 +207,6 @@ module _ (opened : Opening) (c : Config) (limits : IsConfig c) (programs : List 
     shut : is_locked ((net_of o).entry i p) ≡ true
     shut = ap is_locked (here p) ∙ sound.memory.coherent.locked p is.locked
 
-    others : (q : ℕ) → q ≢ p → is_locked ((net_of o).entry i q) ≡ false
-    others q ne = elim (cases_Bool (is_locked ((net_of o).entry i q))) [
-      | inr opened ↦ opened
-      | inl closed ↦ absurd (
-          let at : h.memory.coherence.locked ≡ Some q =
-          sound.memory.coherent.others q (ap is_locked (sym (here q)) ∙ closed) in
-          ne (same_Some q p (sym at ∙ is.locked))
-          )
-    ]
-
     -- what the event delivers, and what was delivered after it
     within_event : (ps : List Parcel) → o'.posted ≡ extended o.posted ps
         → ((x y : ℕ) → o'.delivered x y ≤ length (o.posted x y)) → IsWithin step_due (net_of o')
@@ -226,7 +219,8 @@ module _ (opened : Opening) (c : Config) (limits : IsConfig c) (programs : List 
 
     module _ (l : Letter)
         (only : (a : Place) (k : Letter) → IsAt (net_of o) a k → IsDue step_due a → k.dest ≡ i
-        → (k ≡ l) × ((net_of o).entry i p ≡ (net_of o).entry i p))
+        → about_page k.message.content ≡ p
+        → (k ≡ l) × IsSameButWord ((net_of o).entry i p) ((net_of o).entry i p))
         (within : IsWithin step_due (net_of o')) where
       abbrev Claimed : Claim rank.Kept
       Claimed s n f =
@@ -251,8 +245,7 @@ module _ (opened : Opening) (c : Config) (limits : IsConfig c) (programs : List 
           ((net_of o).entry i p) l (net_of o)
       first = record {
         promised = λ x y. fewer_about (o'.delivered x y) (o.posted x y);
-        aims = λ w.
-            inl (record { shut = shut; others = others; only = only; holds = waits.1.2.1 });
+        aims = λ w. inl (record { shut = shut; only = only; holds = waits.1.2.1 });
       }
 
       all : (flat : ℕ → List ℕ)
@@ -293,7 +286,7 @@ module _ (opened : Opening) (c : Config) (limits : IsConfig c) (programs : List 
     unmoved : ((s : ℕ) → step_due s i ≡ (net_of o).delivered s i) → IsWithin step_due (net_of o')
         → IsWaitingIn rank o' due p i r
     unmoved same within =
-        elim (aimed dummy (λ a k at soon to. absurd (none_due same a k at soon to)) within) [
+        elim (aimed dummy (λ a k at soon to about. absurd (none_due same a k at soon to)) within) [
           | inl a ↦ a
           | inr last ↦ absurd (dummy_last ((net_of o).entry i p) p last.last)
         ]
@@ -345,6 +338,9 @@ module _ (opened : Opening) (c : Config) (limits : IsConfig c) (programs : List 
         own it (asks_for other page word none at of within lies few does) = absurd (idle it none)
         own it (serves_heap other k heap none at of has does) = absurd (idle it none)
         own it (asks_heap other k none at of away does) = absurd (idle it none)
+        own it (carries_fetch fetch next does) =
+            absurd (unhanded-next t.core
+            (unhanded_of opened c limits programs many o run x t.core t.there) fetch next)
 
     module _ (source x : ℕ) (t : Delivers (host_rules managed_ops) o source x o') where
       abbrev after : Host Managed
@@ -430,10 +426,11 @@ module _ (opened : Opening) (c : Config) (limits : IsConfig c) (programs : List 
                   (eqb-true s source both.0, eqb-true j x both.1, omega (arith, low, less))
 
           only : (a : Place) (l : Letter) → IsAt (net_of o) a l → IsDue step_due a → l.dest ≡ i
-              → (l ≡ letter_here) × ((net_of o).entry i p ≡ (net_of o).entry i p)
-          only (Aside y q m) l at soon to = absurd soon
-          only (Loose m) l at soon to = absurd (none-some l at)
-          only (Underway s j m) l at soon to =
+              → about_page l.message.content ≡ p
+              → (l ≡ letter_here) × IsSameButWord ((net_of o).entry i p) ((net_of o).entry i p)
+          only (Aside y q m) l at soon to page = absurd soon
+          only (Loose m) l at soon to page = absurd (none-some l at)
+          only (Underway s j m) l at soon to page =
               let d = taken_due s j m at.0 soon in
               let message : l.message ≡ t.message =
               same_Some l.message t.message
@@ -444,7 +441,7 @@ module _ (opened : Opening) (c : Config) (limits : IsConfig c) (programs : List 
                 ap (λ v. record { source = v; dest = l.dest; message = l.message }) (at.2 ∙ d.0)
                     ∙ ap (λ v. record { source = source; dest = v; message = l.message }) (at.3 ∙ d.1)
                     ∙ ap (λ v. record { source = source; dest = x; message = v }) message,
-                refl,
+                λ w. refl,
               )
 
           abbrev faith : IsFaithful sends managed_ops c o
@@ -467,7 +464,7 @@ module _ (opened : Opening) (c : Config) (limits : IsConfig c) (programs : List 
               let mine : k.me ≡ i = ap (λ (z : Host Managed). z.memory.coherence.me) it ∙ sound.me in
               let at : (net_of o).entry i p ≡ entry_at k.table p =
               here p ∙ ap (λ (z : Host Managed). entry_at z.memory.coherence.table p) (sym it) in
-              last_unlocks managed_ops k source p t.message (mine ∙ sym last.asker)
+              last_unlocks managed_ops k source p lock_was t.message (mine ∙ sym last.asker)
               (subst (λ v. IsLast (entry_at k.table p)
               (record { source = source; dest = v; message = t.message }) p)
               (sym same ∙ sym mine)

@@ -34,6 +34,7 @@ use Rattle.proof_table.specs.stated.Letters.{Net}
 use Rattle.proof_table.specs.transitions.TableSteps.{Claim, IsPreservedBy}
 use Rattle.proof_table.proofs.transitions.Embedded.{embedded-kept}
 use Rattle.proof_table.proofs.waiting.Restarts.{next_due}
+use Rattle.proof_answers.proofs.answers.Unhanded.{unhanded_of}
 use Rattle.proof_answers.specs.answers.NodeRounds.{IsRound, AreRounds}
 use Rattle.ivy_host.specs.stated.Hosts.{Host, host_rules, serving, turn_of, recorded}
 use Rattle.ivy_host.specs.stated.Managers.{Managed, managed_ops}
@@ -49,14 +50,16 @@ use Rattle.proof_worlds.specs.stated.Nets.{about_pages, entry_of, page_of, net_o
 use Rattle.proof_worlds.specs.stated.FifoRuns.{IsReachedInOrder, FollowsInOrder}
 use Rattle.ivy_host.proofs.Pages.{page_serving}
 use Rattle.proof_worlds.proofs.consistency.Faithful.{map-places}
-use Rattle.proof_worlds.proofs.refinement.HostTurns.{HostTurn, answers, tries_again, goes_on, refuses, asks_for, serves_heap, asks_heap, turn_cases}
+use Rattle.proof_worlds.proofs.refinement.HostTurns.{HostTurn, answers, tries_again, goes_on, refuses, asks_for, serves_heap, asks_heap, carries_fetch, turn_cases}
+use Rattle.ivy_host.specs.stated.Fetches.{next_fetch}
 use Rattle.proof_worlds.proofs.refinement.LiftedEvents.{Tells, quiet, answers as is_answered}
 use Rattle.proof_worlds.proofs.refinement.FifoRuns.{letters_below}
 use Rattle.proof_worlds.proofs.refinement.LiftedRuns.{Holds}
 use Rattle.proof_worlds.proofs.refinement.LiftedSteps.{kept-delivers}
 use Rattle.proof_worlds.proofs.refinement.LiftedWorlds.{fits_heap}
 use Rattle.proof_worlds.proofs.progress.Pursued.{IsPlain}
-use Rattle.proof_worlds.proofs.progress.Reached.{IsToldBy}
+use Rattle.proof_worlds.proofs.progress.Reached.{IsToldBy, AllUnhanded}
+use Rattle.proof_worlds.proofs.progress.FetchedPages.{only_locked, unhanded-next, unhanded-page}
 use Rattle.proof_worlds.proofs.progress.Stopped.{replied_turn, tries, await_answered}
 use Rattle.proof_answers.proofs.answers.Answering.{Apart, leads_apart, turn_leads}
 use Rattle.proof_answers.proofs.answers.Falling.{AreLater, all_then, no_shorter, by_step}
@@ -106,7 +109,8 @@ await_waits : {S : Type 0} (ops : Ops S) (n : Host S) (called : Call)
     × (o.after.history ≡ n.history) × (o.after.memory.coherence.locked ≡ Some page)
 await_waits ops n called asked c config none free page offset least of s idle unread = (
   _,
-  tries ops n called asked c config none free page (word.Await offset least) of s false idle unread,
+  tries ops n called asked c config none free page (word.Await offset least) of s false idle unread _
+      refl,
   refl,
   refl,
   refl,
@@ -135,6 +139,9 @@ module _ (opened : Opening) (c : Config) (limits : IsConfig c) (programs : List 
 
   abbrev told : (o : FifoWorld (Host Managed)) → IsRun o → IsToldBy sends managed_ops c o
   told o run = told_of opened c limits programs many o run
+
+  abbrev unhanded : (o : FifoWorld (Host Managed)) → IsRun o → AllUnhanded o
+  unhanded o run = unhanded_of opened c limits programs many o run
 
   abbrev Kind : Claim Managed
   Kind = OfKind rank.embed c rank.Base
@@ -240,6 +247,9 @@ module _ (opened : Opening) (c : Config) (limits : IsConfig c) (programs : List 
         absurd (none-some called (sym none ∙ ap (λ (z : Host Managed). z.memory.asked) it ∙ opened.asked))
     open_turn h there opened core out it (asks_heap other k none at of away does) now =
         absurd (none-some called (sym none ∙ ap (λ (z : Host Managed). z.memory.asked) it ∙ opened.asked))
+    open_turn h there opened core out it (carries_fetch fetch next does) now =
+        absurd (unhanded-next h (unhanded o run i h there) fetch
+        (sym (ap (λ (z : Host Managed). next_fetch z.fetches) it) ∙ next))
 
     -- a message to a node at which no word waits leaves that so, and its answer
     abbrev IsLeft : Coherent Managed → Coherent Managed → Type 0
@@ -560,17 +570,23 @@ module _ (opened : Opening) (c : Config) (limits : IsConfig c) (programs : List 
             (omega (arith, same, high))) in
             (record { after = a.0; posted = [] }, a.1, inl (longer_than a.0 _ a.2))
 
+      -- no page is fetched, and no word waits
+      shut_not : is_locked (entry_at h.memory.coherence.table page) ≡ true → ⊥
+      shut_not shut =
+          none-some page
+          (sym t.locked
+          ∙ only_locked managed_ops h.memory.coherence sound.memory.coherent
+          (λ q f. unhanded-page h (unhanded o run i h there) q
+          (((told o run).pursued i h there).fetched q f)) page shut)
+
       by_entry : (e : Entry) → entry_at h.memory.coherence.table page ≡ e
           → reply_at h.memory ≡ None → (offset least : ℕ)
           → asked_of c called ≡ kinds.Word page (word.Await offset least) → Turned
       by_entry (entry.Idle s) idle none offset least is =
           by_access none offset least is s idle (reads s.access) refl
-      by_entry (entry.AwaitRead s) at none offset least is =
-          absurd (none-some page (sym t.locked ∙ sound.memory.coherent.others page (ap is_locked at)))
-      by_entry (entry.AwaitWrite s) at none offset least is =
-          absurd (none-some page (sym t.locked ∙ sound.memory.coherent.others page (ap is_locked at)))
-      by_entry (entry.AwaitAcks s) at none offset least is =
-          absurd (none-some page (sym t.locked ∙ sound.memory.coherent.others page (ap is_locked at)))
+      by_entry (entry.AwaitRead s) at none offset least is = absurd (shut_not (ap is_locked at))
+      by_entry (entry.AwaitWrite s) at none offset least is = absurd (shut_not (ap is_locked at))
+      by_entry (entry.AwaitAcks s) at none offset least is = absurd (shut_not (ap is_locked at))
 
       by_reply : (a : Option Reply) → reply_at h.memory ≡ a → Turned
       by_reply (Some r) is = (
@@ -580,7 +596,9 @@ module _ (opened : Opening) (c : Config) (limits : IsConfig c) (programs : List 
       )
       by_reply None none = elim (plain_or_await w) [
         | inl plain ↦
-            absurd ((told o run).pursued i h there called page w t.asked of plain t.locked t.none)
+            absurd (unhanded-page h (unhanded o run i h there) page
+            (((told o run).pursued i h there).pursued called page w t.asked of plain t.locked
+            t.none))
         | inr it ↦
             by_entry (entry_at h.memory.coherence.table page) refl none it.0 it.1
             (of ∙ ap (kinds.Word page) it.2)

@@ -7,8 +7,10 @@ use Rattle.ivy_pagetable.specs.declared.Entry.{Entry}
 use Rattle.ivy_pagetable.specs.declared.Entry.TheVariants as entry
 use Rattle.ivy_pagetable.specs.declared.PutOff.{PutOff}
 use Rattle.ivy_pagetable.specs.declared.Request.TheVariants as request
+use Rattle.ivy_pagetable.specs.declared.Word.{Word}
 use Rattle.ivy_pagetable.specs.stated.States.{WaitingState}
 use Rattle.ivy_pagetable.specs.stated.Entries.{with_put_off}
+use Rattle.ivy_coherence.specs.stated.Fetching.{joined_by}
 use Rattle.ivy_dynamic.specs.stated.Dynamic.{Hints}
 use Rattle.proof_table.specs.stated.Letters.{Letter, Net, Place}
 use Rattle.proof_table.specs.transitions.Letters.{written, installs}
@@ -170,3 +172,19 @@ put_reader c n r t is = by_entry r.before refl is
         let f : with_put_off (entry.AwaitAcks u) r.later ≡ entry.AwaitRead t = h in
         cc
         )
+
+-- a word joins the fetch of its page: a copy was awaited there, with the same put off
+pub joined_reader : (e : Entry) (w : Word) (t : WaitingState) → joined_by e w ≡ entry.AwaitRead t
+    → (s : WaitingState) × (e ≡ entry.AwaitRead s) × (t.put_off ≡ s.put_off)
+joined_reader (entry.Idle s) w t h =
+    absurd (let f : entry.Idle s ≡ entry.AwaitRead t = h in cc)
+joined_reader (entry.AwaitRead s) w t h =
+    (s, refl, ap (λ (v : WaitingState). v.put_off) (sym (same_reading refl h)))
+joined_reader (entry.AwaitWrite s) w t h = absurd (
+    let f : joined_by (entry.AwaitWrite s) w ≡ entry.AwaitRead t = h in
+    cc
+    )
+joined_reader (entry.AwaitAcks s) w t h = absurd (
+    let f : joined_by (entry.AwaitAcks s) w ≡ entry.AwaitRead t = h in
+    cc
+    )

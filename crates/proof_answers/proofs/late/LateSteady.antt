@@ -15,14 +15,16 @@ use Rattle.ivy_pagetable.specs.declared.Request.TheVariants as request
 use Rattle.ivy_pagetable.specs.stated.NodeSets.{Nodes, nodes_with}
 use Rattle.ivy_pagetable.specs.stated.States.{IdleState, WaitingState, AwaitWriteState, AwaitAcksState}
 use Rattle.ivy_pagetable.specs.stated.Entries.{put_offs, with_put_off}
+use Rattle.ivy_coherence.specs.stated.Fetching.{joined_by}
 use Rattle.ivy_coherence.specs.stated.Serving.{invalidations}
 use Rattle.ivy_dynamic.specs.stated.Dynamic.{Hints, hint_of, hinted, dynamic_ops}
 use Rattle.proof_table.specs.stated.Letters.{Letter, Net, Underway, Aside, Loose, content_of, letter_of}
 use Rattle.proof_table.specs.transitions.Letters.{goes_on, installs}
-use Rattle.proof_table.specs.transitions.TableSteps.{Served, Comes, Begins, PutsOff, Notice, Silent, Asked, Forwarded, Given, Replied, Invalidated, Row, IsNamedBy, noticed, with_manager, letter}
+use Rattle.proof_table.specs.transitions.TableSteps.{Served, Comes, Begins, PutsOff, Joins, Notice, Silent, Asked, Forwarded, Given, Replied, Invalidated, Row, IsNamedBy, noticed, with_manager, letter}
 use Rattle.proof_table.proofs.transitions.Opening.{IsFirst}
 use Rattle.proof_table.proofs.transitions.Parcels.{IsThe, IsNone, IsOrder, answer_step, ask_step, orders_step, free_step, stay_step}
 use Rattle.proof_table.proofs.transitions.Places.{written_here, written-other, same_or_other, served, freed}
+use Rattle.proof_table.proofs.transitions.RowsJoined.{joined_kept}
 use Rattle.proof_table.proofs.routing.FirstLetters.{no_letter}
 use Rattle.proof_table.proofs.routing.HintedKept.{hinted_descends}
 use Rattle.proof_table.proofs.routing.Managers.{told_here, told_else}
@@ -35,7 +37,7 @@ use Rattle.proof_answers.proofs.late.LateFacts.{same_reading}
 use Rattle.proof_answers.proofs.late.LateSending.{posted_letter}
 use Rattle.proof_answers.proofs.late.LateKept.{IsLateKept}
 use Rattle.proof_answers.proofs.late.LateTable.{late_row}
-use Rattle.proof_answers.proofs.late.LateBack.{IsBack, ordered_back, step_back, installed_back, same_back, taken_back, orders_written, no_reader, put_orders, put_reader}
+use Rattle.proof_answers.proofs.late.LateBack.{IsBack, ordered_back, step_back, installed_back, same_back, taken_back, orders_written, no_reader, put_orders, put_reader, joined_reader}
 
 -- a manager that is told of a change is as steady as before
 told_steady : (m : ℕ → Hints) (x : ℕ) (s : Hints) (i : ℕ) → s.steady ≡ (m x).steady
@@ -200,6 +202,23 @@ module _ (c : Config) (n : Net) (was : PutOffOrders n) where
     back = step_back n (goes_on n x p (entry.AwaitAcks s) [] []) x p e (entry.AwaitAcks s) served
         IsNone (stay_step n x p e (entry.AwaitAcks s) is still) (λ t h. absurd (plain_acks s t h))
         (λ a l q j t it asks h. absurd it);
+  }
+
+  -- a word joins the fetch of its page
+  joined : (r : Joins c n)
+      → IsSteadyRow n (goes_on n r.node r.page (joined_by r.before r.word) [] [])
+  joined r = record {
+    orders = orders_written n r.node r.page (joined_by r.before r.word) was (λ s k q is h. (
+        let it = joined_reader r.before r.word s is in
+        was r.node r.page k it.0 q (r.is ∙ it.1)
+        (ap (λ v. slice_get v k) (sym it.2) ∙ h)
+        ));
+    back = step_back n (goes_on n r.node r.page (joined_by r.before r.word) [] []) r.node r.page
+        r.before (joined_by r.before r.word) served IsNone
+        (stay_step n r.node r.page r.before (joined_by r.before r.word) r.is
+        (joined_kept r.before r.word))
+        (λ t is. (let it = joined_reader r.before r.word t is in (it.0, it.1)))
+        (λ a l p j t it asks is. absurd it);
   }
 
   -- bytes are installed
@@ -412,6 +431,8 @@ module _ (c : Config) (config : IsConfig c) where
       done {f = f} (Row.ends_copies r owner reader unwritten low away) of b
       (ordered_out c n b.steady.orders r.node r.page r.call _ r.state.copies r.is
       (λ k q h. absurd (none-some q h)))
+  steady_row {n = n} {f = f} (Row.joins r) of b =
+      done {f = f} (Row.joins r) of b (joined c n b.steady.orders r)
 
 -- at first there is no request, and nobody awaits a copy
 pub first_steady : (c : Config) (m : ℕ → Hints) (n : Net) → IsFirst n → AreSteady c m

@@ -11,13 +11,15 @@ use Rattle.ivy_pagetable.specs.declared.Entry.TheVariants as entry
 use Rattle.ivy_pagetable.specs.stated.NodeSets.{nodes_with}
 use Rattle.ivy_pagetable.specs.stated.States.{IdleState, WaitingState, AwaitWriteState}
 use Rattle.ivy_pagetable.specs.stated.Entries.{put_offs, with_put_off, without, copying, owning}
+use Rattle.ivy_coherence.specs.stated.Fetching.{joined_by}
 use Rattle.ivy_coherence.specs.stated.Serving.{invalidations}
 use Rattle.ivy_coherence.specs.stated.MessageSteps.{sending}
 use Rattle.ivy_dynamic.specs.stated.Dynamic.{Hints, hint_of, hinted, dynamic_ops}
 use Rattle.proof_table.specs.stated.Letters.{Net, letter_of}
 use Rattle.proof_table.specs.transitions.Letters.{goes_on, installs}
-use Rattle.proof_table.specs.transitions.TableSteps.{Served, Comes, Begins, PutsOff, Notice, Row, IsNamedBy, noticed, with_manager, letter, bare}
+use Rattle.proof_table.specs.transitions.TableSteps.{Served, Comes, Begins, PutsOff, Joins, Notice, Row, IsNamedBy, noticed, with_manager, letter, bare}
 use Rattle.proof_table.proofs.transitions.Needs.{page_of}
+use Rattle.proof_table.proofs.transitions.RowsJoined.{joined_stays}
 use Rattle.proof_table.proofs.routing.HintedKept.{hinted_descends}
 use Rattle.proof_table.proofs.routing.Managers.{IsTold, none_told, hop_else, told_itself}
 use Rattle.proof_table.proofs.routing.HintedManagers.{told_hint, hint_now}
@@ -28,7 +30,7 @@ use Rattle.proof_answers.specs.late.LateLaws.{IsBefore}
 use Rattle.proof_answers.proofs.late.LateKept.{IsLateKept}
 use Rattle.proof_answers.proofs.late.LateSending.{waits_for_nothing, awaits_copy, IsHinting, stays_so, follows, sent_kept}
 use Rattle.proof_answers.proofs.late.LateAnswering.{IsGiving, shares_it, gives_it, answered_kept}
-use Rattle.proof_answers.proofs.late.LateWaits.{asked_kept, ended_kept, given_up_kept, put_kept}
+use Rattle.proof_answers.proofs.late.LateWaits.{asked_kept, ended_kept, given_up_kept, put_kept, joins_kept}
 use Rattle.proof_answers.proofs.late.LateComes.{IsComing, copy_told, copy_late, page_here, gave_up, freed_kept, freed_here, stays_kept, stays_here}
 use Rattle.proof_answers.proofs.late.LateRows.{either_page, served_else, served_installed, freed_else, freed_installed, put_else, first_about, none_about, next_loose, none_loose, carried_kept, taken_kept}
 
@@ -206,6 +208,17 @@ module _ (c : Config) (m : ℕ → Hints) (n : Net) (b : IsBefore c m n) where
       either_page r.page (λ o out still. put_kept c m n r o (ordered r.page) out)
       (λ p o ne out. put_else c m n r p o ne (ordered p) out)
 
+  -- a word joins the fetch of its page
+  word_joins : (r : Joins c n) (p o : ℕ) → IsOut n p o
+      → IsOut (goes_on n r.node r.page (joined_by r.before r.word) [] []) p o
+      → IsLateKept c.nodes m m n (goes_on n r.node r.page (joined_by r.before r.word) [] []) p o
+  word_joins r =
+      either_page r.page (λ o out still. joins_kept c m n r o (ordered r.page) out)
+      (λ p o ne out.
+      served_else c.nodes m m n p o r.node r.page ne (still_told m r.node r.page) (ordered p) out
+      r.before (joined_by r.before r.word) r.is [] [] (joined_stays r.before r.word)
+      (none_loose n r.loose) (none_about n r.page r.loose))
+
   -- what a word waits for comes
   module _ {T : Type 0} {at : T → Entry} {bring : ℕ → Content} (m' : ℕ → Hints)
       (r : Comes c n at bring) (z : Entry) (told : IsTold dynamic_ops m m' r.node r.page)
@@ -357,3 +370,4 @@ module _ (c : Config) (config : IsConfig c) where
       begun c m n b r _ hop (content.WriteReq r.page) of.1 (inr refl) (inr (_, refl)) p o out still
   late_row {m = m} {n = n} (Row.ends_copies r owner reader unwritten low away) of b p o out still =
       ends c m n b r _ (invalidations r.node r.page r.call r.state.copies) owner p o out still
+  late_row {m = m} {n = n} (Row.joins r) of b p o out still = word_joins c m n b r p o out still

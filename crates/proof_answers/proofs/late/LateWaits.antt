@@ -11,12 +11,14 @@ use Rattle.ivy_pagetable.specs.declared.Entry.{Entry}
 use Rattle.ivy_pagetable.specs.declared.Entry.TheVariants as entry
 use Rattle.ivy_pagetable.specs.stated.States.{IdleState, WaitingState, AwaitWriteState}
 use Rattle.ivy_pagetable.specs.stated.Entries.{can_put_off, with_put_off}
+use Rattle.ivy_coherence.specs.stated.Fetching.{joined_by}
 use Rattle.ivy_dynamic.specs.stated.Dynamic.{Hints, hint_of}
 use Rattle.proof_table.specs.stated.Letters.{Letter, Net, Loose, IsAt}
 use Rattle.proof_table.specs.stated.Orderly.{IsOrderly}
 use Rattle.proof_table.specs.transitions.Letters.{goes_on}
-use Rattle.proof_table.specs.transitions.TableSteps.{PutsOff, letter}
+use Rattle.proof_table.specs.transitions.TableSteps.{PutsOff, Joins, letter}
 use Rattle.proof_table.proofs.transitions.Places.{written_here, served}
+use Rattle.proof_table.proofs.transitions.RowsJoined.{joined_stays}
 use Rattle.proof_table.proofs.routing.Remaining.{StaysPutOff, IsCounted}
 use Rattle.proof_answers.specs.late.Late.{IsRequest, IsOut, idle, sent_on, reads, writes, AreOrdered}
 use Rattle.proof_answers.proofs.late.LateSteps.{IsInOrder, IsLateStill, hop_of, new_late}
@@ -197,4 +199,43 @@ module _ (c : Config) (m : ℕ → Hints) (n : Net) (r : PutsOff c n) (o : ℕ)
         at_writes = λ lt s h asked own. writes x lt _ (put_now (entry.AwaitWrite s) h) own;
         at_hop = λ s t h k led.
             hop_of m m n put_net p o x (placed c n r m p o) IsNoPlace ⊥ c.nodes First x refl led;
+      })
+
+-- A word joins the fetch of its page.
+module _ (c : Config) (m : ℕ → Hints) (n : Net) (r : Joins c n) (o : ℕ)
+    (ordered : AreOrdered c.nodes m n r.page) (out : IsOut n r.page o) where
+  open r use {node as x, page as p, word as w, before as e, loose, is}
+
+  abbrev joined_net : Net
+  joined_net = goes_on n x p (joined_by e w) [] []
+
+  joined_order : IsInOrder m m n joined_net p o x served IsFirst ⊥
+  joined_order =
+      served_order n x p e (joined_by e w) [] [] is (joined_stays e w)
+      (λ k l h. absurd (none-some l (ap (λ v. slice_get v (suc k)) (sym loose) ∙ h))) m m p o ⊥
+      (λ i l at wants. absurd (none-some l (ap (λ v. slice_get v 0) (sym loose) ∙ at)))
+      (λ y ne. refl)
+
+  joined_now : (v : Entry) → n.entry x p ≡ v → joined_net.entry x p ≡ joined_by v w
+  joined_now v h =
+      written_here n.entry x p (joined_by e w) x p refl refl
+      ∙ ap (λ (u : Entry). joined_by u w) (sym is ∙ h)
+
+  pub joins_kept : IsLateKept c.nodes m m n joined_net p o
+  joins_kept =
+      quiet_kept c.nodes m m n joined_net p o x served IsFirst ⊥ ordered out joined_order (λ f. f)
+      (λ First starts. record {
+        at_served = λ u j l at wants to late. absurd u;
+        at_idle = λ lt s h plain led.
+            idle x lt s (joined_now (entry.Idle s) h) plain
+            (hop_of m m n joined_net p o x served IsFirst ⊥ c.nodes First x refl led);
+        at_sent_on = λ lt s h on led.
+            sent_on x lt _ (joined_now (entry.AwaitRead s) h) on
+            (hop_of m m n joined_net p o x served IsFirst ⊥ c.nodes First x refl led);
+        at_reads = λ lt s h asked led own.
+            reads x lt _ (joined_now (entry.AwaitRead s) h)
+            (hop_of m m n joined_net p o x served IsFirst ⊥ c.nodes First x refl led) own;
+        at_writes = λ lt s h asked own. writes x lt _ (joined_now (entry.AwaitWrite s) h) own;
+        at_hop = λ s t h k led.
+            hop_of m m n joined_net p o x served IsFirst ⊥ c.nodes First x refl led;
       })

@@ -111,6 +111,7 @@ module _ (c : Config) where
   passed_by (Row.asks_copy r hop plain unread away) counted = tt
   passed_by (Row.asks_page r hop plain away) counted = tt
   passed_by (Row.ends_copies r owner reader unwritten low out) counted = tt
+  passed_by (Row.joins r) counted = tt
 
 module _ (c : Config) (limits : IsConfig c) (page asker : ℕ) where
   abbrev pub known : (m : ℕ → Hints) (n : Net) → IsBase c limits m n (λ p. []) → IsBefore c m n

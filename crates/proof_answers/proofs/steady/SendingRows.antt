@@ -289,3 +289,5 @@ module _ (c : Config) where
   posting_by {n = n} (Row.ends_copies r owner reader unwritten low out) =
       wrote n r.node r.page _ [] (invalidations r.node r.page r.call r.state.copies) _
       (none_loose n) (orders_sent _ r.node r.page r.call r.state.copies)
+  posting_by {n = n} (Row.joins r) =
+      wrote n r.node r.page _ [] [] _ (none_loose n) (none_sent _)

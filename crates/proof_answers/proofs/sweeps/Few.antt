@@ -1,7 +1,7 @@
 -- Of each node's calls and orders one message at most is under way from one node to another.
 use Rattle.std.proofs.Common.{◌≡◌, ◌≢◌, ◌<◌, ◌≤◌, ◌+◌, ℕ, zero, suc, Bool, true, not, List, [], ◌∷◌, length, map, take, drop, filter}
 use Rattle.std.proofs.Common.{slice_get, Option, Some, None, ◌||◌, ◌==◌, refl, sym, ap, subst, ◌∙◌, arith, inl, inr}
-use Rattle.std.specs.List.{list_any}
+use Rattle.std.specs.List.{Contains, list_any}
 use Rattle.std.proofs.lemmas.Bool.{cases_eq, ne_eqb, true≢false}
 use Rattle.std.proofs.lemmas.List.{length-map, take-append-drop}
 use Rattle.std.proofs.lemmas.List.Elements.{filter-append}
@@ -27,6 +27,7 @@ use Rattle.proof_table.specs.stated.Letters.{Letter, Net, Underway, IsAt}
 use Rattle.proof_table.specs.stated.Orderly.{Own, Order, key_as, key_of, AwaitsCopy, AwaitsPage, Collects, IsExpectedAs, IsOrderly}
 use Rattle.proof_worlds.specs.stated.HeapRequests.{heap_way, IsHeapRequestAt, resting, asking, answered, AreHeapRequests}
 use Rattle.proof_worlds.specs.stated.Nets.{about_pages, entry_of, net_of}
+use Rattle.proof_worlds.proofs.progress.FetchedPages.{only_locked}
 
 -- the list from where its first part ends, of which a test keeps some
 filter_drop : {X : Type 0} (p : X → Bool) (n : ℕ) (xs : List X)
@@ -197,6 +198,8 @@ page_in n l (answering page key to waits) =
 module _ {S : Type 0} (ops : Ops S) (c : Config) (o : FifoWorld (Host S))
     (orderly : IsOrderly c (net_of o))
     (sound : (i : ℕ) (h : Host S) → slice_get o.cores i ≡ Some h → IsSoundHost ops c i h)
+    (unfetched : (i : ℕ) (h : Host S) → slice_get o.cores i ≡ Some h → (p : ℕ)
+    → Contains h.memory.coherence.fetched p → ⊥)
     (heap_requests : AreHeapRequests o) where
   abbrev n : Net
   n = net_of o
@@ -208,7 +211,8 @@ module _ {S : Type 0} (ops : Ops S) (c : Config) (o : FifoWorld (Host S))
     | inl there ↦ (
       there.0,
       there.2,
-      (sound x there.0 there.2).memory.coherent.others p
+      only_locked ops there.0.memory.coherence (sound x there.0 there.2).memory.coherent
+          (unfetched x there.0 there.2) p
           (ap (λ z. is_locked (entry_of z p)) (sym there.2) ∙ is),
     )
     | inr past ↦

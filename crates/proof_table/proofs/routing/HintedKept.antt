@@ -24,11 +24,13 @@ use Rattle.ivy_dynamic.specs.stated.Dynamic.{Hints, hint_of, hinted, dynamic_ops
 use Rattle.proof_table.specs.stated.Letters.{Letter, Net, Place, Loose, content_of, letter_of}
 use Rattle.proof_table.specs.transitions.Letters.{goes_on, installs}
 use Rattle.proof_table.specs.stated.Orderly.{IsExpectedAs, IsOrderly}
-use Rattle.proof_table.specs.transitions.TableSteps.{Served, Comes, Begins, PutsOff, Notice, Row, IsNamedBy, noticed, letter, with_manager}
-use Rattle.proof_table.proofs.transitions.Needs.{page_of, collects_owner}
+use Rattle.proof_table.specs.transitions.TableSteps.{Served, Comes, Begins, Joins, PutsOff, Notice, Row, IsNamedBy, noticed, letter, with_manager}
+use Rattle.proof_table.proofs.transitions.Needs.{page_of, put_about, collects_owner}
 use Rattle.proof_table.proofs.transitions.Places.{served, freed}
 use Rattle.proof_table.proofs.transitions.Sole.{fits_as}
 use Rattle.proof_table.proofs.transitions.NetSteps.{IsStep}
+use Rattle.proof_table.proofs.transitions.RowsJoined.{joined_owner, joined_claims, joined_kept}
+use Rattle.ivy_coherence.specs.stated.Fetching.{joined_by}
 use Rattle.proof_table.proofs.transitions.Parcels.{IsThe, IsNone, IsOrder, answer_step, ask_step, orders_step, free_step, stay_step}
 use Rattle.proof_table.proofs.routing.Quiet.{IsRoutedAt}
 use Rattle.proof_table.specs.stated.Descending.{IsAsked, Descends}
@@ -58,11 +60,6 @@ LeadsOn (content.FreeReq addr) = ⊥
 LeadsOn (content.FreeRep code) = ⊥
 
 -- what is put off is no reply
-put_about : (k : Request) (p : ℕ) → page_of (content_of k p) ≡ p
-put_about request.Read p = refl
-put_about request.Write p = refl
-put_about request.Invalidate p = refl
-
 put_no_copy : (k : Request) (p : ℕ) (bytes : List ℕ) → content_of k p ≡ content.ReadRep p bytes → ⊥
 put_no_copy request.Read p bytes h = cc
 put_no_copy request.Write p bytes h = cc
@@ -354,6 +351,18 @@ module _ (c : Config) (m : ℕ → Hints) (n : Net) (order : IsOrderly c n) (hin
       where
         open r use {node as x, page as p, from, call, state as w, here, inside, loose, is}
 
+    -- a word joins the fetch of its page
+    joined_hinted : (r : Joins c n)
+        → IsHinted c m (goes_on n r.node r.page (joined_by r.before r.word) [] [])
+    joined_hinted r =
+        quiet_hinted c m m n _ hints x p e (joined_by e w) served IsNone
+        (stay_step n x p e (joined_by e w) is (joined_kept e w))
+        (none_told dynamic_ops m m x p (λ i. refl)) (λ a l none. absurd none)
+        (λ a l none on. none) (λ h. owns (ap is_owner is ∙ sym (joined_owner e w) ∙ h))
+        (λ g was h. was.hints x here (ap claims is ∙ sym (joined_claims e w) ∙ h))
+      where
+        open r use {node as x, page as p, word as w, before as e, here, is}
+
     -- a copy comes
     copied_hinted : (bytes : List ℕ) (r : Comes c n entry.AwaitRead (λ q. content.ReadRep q bytes))
         → IsHinted c (with_manager m r.node (hinted (m r.node) r.page r.from))
@@ -515,6 +524,7 @@ module _ (c : Config) (config : IsConfig c) where
       ordered_hinted c m _ o h r.node r.page m (entry.Idle r.state) _ r.call r.state.copies
       (none_told dynamic_ops m m r.node r.page (λ i. refl)) r.is
       (λ k q h. absurd (none-some q h)) refl (owns (ap is_owner r.is ∙ owner))
+  hinted_by (Row.joins r) of o h = joined_hinted c _ _ o h r
 
   pub hinted-routed : {sends : Bool} → IsRoutedAt sends dynamic_ops c (IsHinted c)
   hinted-routed = record { descends = hinted_descends c; by = hinted_by }

@@ -19,8 +19,10 @@ use Rattle.ivy_fixed.specs.FixedLaws.{fixed_laws}
 use Rattle.proof_table.specs.stated.Letters.{Letter, Net, Loose, content_of, letter_of}
 use Rattle.proof_table.specs.transitions.Letters.{goes_on, installs}
 use Rattle.proof_table.specs.stated.Orderly.{IsOrderly}
-use Rattle.proof_table.specs.transitions.TableSteps.{Served, Comes, PutsOff, Takes, Notice, Row, IsNamedBy, noticed, with_manager, taken, letter}
+use Rattle.proof_table.specs.transitions.TableSteps.{Served, Comes, Joins, PutsOff, Takes, Notice, Row, IsNamedBy, noticed, with_manager, taken, letter}
 use Rattle.proof_table.proofs.transitions.Places.{served, freed}
+use Rattle.proof_table.proofs.transitions.RowsJoined.{joined_claims, joined_kept, joined_stays}
+use Rattle.ivy_coherence.specs.stated.Fetching.{joined_by}
 use Rattle.proof_table.proofs.transitions.Parcels.{IsNone, IsOrder, answer_step, orders_step, free_step, stay_step}
 use Rattle.proof_table.proofs.transitions.Fitting.{IsRequest}
 use Rattle.proof_table.proofs.routing.Quiet.{IsRoutedBy}
@@ -195,6 +197,19 @@ ack_calmed n r =
     fewer : Entry
     fewer = entry.AwaitAcks (record { left = set.remove s.left from; waiting = s.waiting })
 
+-- a word joins the fetch of its page
+joined_calmed : {c : Config} (n : Net) (r : Joins c n)
+    → IsCalmed n (goes_on n r.node r.page (joined_by r.before r.word) [] [])
+joined_calmed n r =
+    step_calmed n _ x p e z served IsNone (stay_step n x p e z is (joined_kept e w))
+    (λ a l new request. new) (λ a l q bytes new is. new) (still_counted n x p z [] [])
+    (none_gone n _ (begun_remain n x p e z [] [] is loose (joined_stays e w))) (joined_claims e w)
+  where
+    open r use {node as x, page as p, word as w, before as e, loose, is}
+
+    z : Entry
+    z = joined_by e w
+
 same_copy : (p q : ℕ) (bytes bytes' : List ℕ) → content.ReadRep p bytes ≡ content.ReadRep q bytes'
     → p ≡ q
 same_copy p q bytes bytes' h = cc
@@ -292,6 +307,7 @@ module _ (c : Config) (config : IsConfig c) where
       (invalidations r.node r.page r.call r.state.copies) r.is r.loose
       (λ j r h. absurd (none-some r h))))
       (sym owner))
+  managed_by (Row.joins r) of o h = still_managed c _ _ o h _ (joined_calmed _ r)
 
   pub managed-routed : IsRoutedBy fixed_ops c (IsManaged c)
   managed-routed = record { descends = descends c; by = managed_by }

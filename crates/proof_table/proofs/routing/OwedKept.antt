@@ -23,15 +23,26 @@ use Rattle.ivy_coherence.specs.stated.PageFaults.{waiting_from}
 use Rattle.proof_table.specs.stated.Letters.{Letter, Net, content_of, letter_of}
 use Rattle.proof_table.specs.transitions.Letters.{goes_on}
 use Rattle.proof_table.specs.stated.Orderly.{Key, Order, key_of, IsOrderly}
-use Rattle.proof_table.specs.transitions.TableSteps.{letter, Served, Comes, Begins, Notice, Row, Claim, IsPreservedBy}
+use Rattle.proof_table.specs.transitions.TableSteps.{letter, Served, Comes, Begins, Joins, Notice, Row, Claim, IsPreservedBy}
 use Rattle.proof_table.proofs.transitions.Both.{both-kept}
 use Rattle.proof_table.proofs.transitions.Members.{without_itself, without_any}
+use Rattle.proof_table.proofs.transitions.RowsJoined.{joined_stays}
+use Rattle.ivy_coherence.specs.stated.Fetching.{joined_by}
+use Rattle.ivy_pagetable.specs.declared.Word.{Word}
 use Rattle.proof_table.proofs.transitions.Needs.{key_origin, key_page}
 use Rattle.proof_table.specs.stated.Descending.{Descends}
 use Rattle.proof_table.proofs.routing.NoBreach.{no_breach}
 use Rattle.proof_table.proofs.routing.Old.{put_off_stays, put_off_there}
 use Rattle.proof_table.proofs.routing.Remaining.{IsOnly, IsNothing, StaysPutOff, HasKey, served_remain, begun_remain, freed_remain, one_there, orders_there}
 use Rattle.proof_table.proofs.routing.Owed.{Wants, IsOwed, put_wants, installed_owed, taken_owed, stays_owed, comes_owed}
+
+-- a word that joins waits for what was awaited before
+joined_wants : (e : Entry) (w : Word) (node page : ℕ) (k : Key) → Wants (joined_by e w) node page k
+    → Wants e node page k
+joined_wants (entry.Idle s) w node page k h = h
+joined_wants (entry.AwaitRead s) w node page k h = h
+joined_wants (entry.AwaitWrite s) w node page k h = h
+joined_wants (entry.AwaitAcks s) w node page k h = h
 
 module _ (c : Config) (n : Net) (o : IsOwed n) where
   -- a letter is served, and one with its key is posted
@@ -74,6 +85,18 @@ module _ (c : Config) (n : Net) (o : IsOwed n) where
 
       posts : List Parcel
       posts = parcel_to x dest x call body ∷ []
+
+  -- a word joins the fetch of its page
+  joined : (r : Joins c n) → IsOwed (goes_on n r.node r.page (joined_by r.before r.word) [] [])
+  joined r =
+      stays_owed n x p e z [] [] is o IsNothing
+      (begun_remain n x p e z [] [] is loose (joined_stays e w)) (λ k l gone key. absurd gone)
+      (λ k wants. inl (joined_wants e w x p k wants))
+    where
+      open r use {node as x, page as p, word as w, before as e, loose, is}
+
+      z : Entry
+      z = joined_by e w
 
   -- what the node waited for comes, and it waits for nothing more: what was put off is loose
   freed : {T : Type 0} {at : T → Entry} {bring : ℕ → Content} (r : Comes c n at bring)
@@ -253,6 +276,7 @@ module _ (c : Config) (config : IsConfig c) where
       owner_owed _ r.node r.page r.call (entry.Idle r.state) r.state.copies
       (waiting_from r.word r.call) r.is o
       (few c config r.state.copies low) (λ j q h. absurd (none-some q h)) r.loose
+  owed_by (Row.joins r) order down o = joined c _ o r
 
 -- beside any claim under which nets are orderly and requests go down
 pub owed-kept : {S : Type 0} {sends : Bool} (ops : Ops S) (c : Config) → IsConfig c → (Q : Claim S)

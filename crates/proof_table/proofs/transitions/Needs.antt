@@ -7,9 +7,11 @@ use Rattle.ivy_wire.specs.stated.Data.{Content}
 use Rattle.ivy_pagetable.specs.declared.Entry.{Entry}
 use Rattle.ivy_pagetable.specs.declared.Entry.TheVariants as entry
 use Rattle.ivy_pagetable.specs.declared.PutOff.{PutOff}
+use Rattle.ivy_pagetable.specs.declared.Request.{Request}
+use Rattle.ivy_pagetable.specs.declared.Request.TheVariants as request
 use Rattle.ivy_pagetable.specs.stated.States.{IdleState, WaitingState, AwaitWriteState, AwaitAcksState}
 use Rattle.ivy_pagetable.specs.stated.Entries.{is_owner, with_put_off}
-use Rattle.proof_table.specs.stated.Letters.{Letter, Net}
+use Rattle.proof_table.specs.stated.Letters.{Letter, Net, content_of}
 use Rattle.proof_table.specs.stated.Orderly.{AwaitsCopy, AwaitsPage, Collects, HasCopy, Key, Own, Order, Call, key_as, IsExpectedAs}
 
 -- the page that a letter is about; none for the allocator's
@@ -24,6 +26,12 @@ page_of (content.AllocReq size) = 0
 page_of (content.AllocRep code addr) = 0
 page_of (content.FreeReq addr) = 0
 page_of (content.FreeRep code) = 0
+
+-- what is put off at a page's entry is about that page
+pub put_about : (k : Request) (p : ℕ) → page_of (content_of k p) ≡ p
+put_about request.Read p = refl
+put_about request.Write p = refl
+put_about request.Invalidate p = refl
 
 abbrev pub Needs : Entry → Letter → Content → Type 0
 Needs e l (content.ReadReq page) = AwaitsCopy e l.message.call

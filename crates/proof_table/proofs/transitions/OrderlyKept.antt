@@ -13,6 +13,7 @@ use Rattle.proof_table.proofs.transitions.RowsAsked.{same_still, sending_still, 
 use Rattle.proof_table.proofs.transitions.RowsGiven.{copy_given, page_given}
 use Rattle.proof_table.proofs.transitions.RowsCome.{copy_came, page_came, page_came_shared, acknowledged, all_acknowledged}
 use Rattle.proof_table.proofs.transitions.RowsBegun.{copy_asked, page_asked, copies_ordered_back}
+use Rattle.proof_table.proofs.transitions.RowsJoined.{word_joined}
 
 module _ (c : Config) (config : IsConfig c) where
   pub orderly_by : {sends : Bool} {n : Net} {f : ℕ → List ℕ} {notice : Notice} {n' : Net} {f' : ℕ → List ℕ}
@@ -46,6 +47,7 @@ module _ (c : Config) (config : IsConfig c) where
   orderly_by (Row.asks_copy r hop plain unread away) o = copy_asked c _ r o hop
   orderly_by (Row.asks_page r hop plain away) o = page_asked c _ r o hop
   orderly_by (Row.ends_copies r owner reader unwritten low out) o = copies_ordered_back c _ r o owner reader
+  orderly_by (Row.joins r) o = word_joined c _ r o
 
 pub orderly-kept : {S : Type 0} {sends : Bool} (ops : Ops S) (c : Config) → IsConfig c
     → IsPreservedBy sends ops c (λ m n f. IsOrderly c n)

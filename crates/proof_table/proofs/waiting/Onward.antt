@@ -10,11 +10,14 @@ use Rattle.ivy_wire.specs.stated.Data.{Content, Parcel}
 use Rattle.ivy_link.specs.stated.Paired.{posted}
 use Rattle.ivy_pagetable.specs.declared.Entry.{Entry}
 use Rattle.ivy_pagetable.specs.declared.Entry.TheVariants as entry
+use Rattle.ivy_pagetable.specs.declared.Word.{Word}
 use Rattle.ivy_pagetable.specs.stated.NodeSets.{nodes_with}
 use Rattle.ivy_pagetable.specs.stated.Entries.{put_offs, is_locked, is_owner}
+use Rattle.ivy_coherence.specs.stated.Fetching.{joined_by}
 use Rattle.proof_table.specs.stated.Letters.{Letter, Net, Place, Underway, Aside, Loose, IsAt, letter_of}
 use Rattle.proof_table.specs.transitions.Letters.{goes_on, installs}
 use Rattle.proof_table.specs.stated.Orderly.{Collects}
+use Rattle.proof_table.proofs.transitions.Needs.{page_of, put_about}
 use Rattle.proof_table.proofs.transitions.Places.{written_here, written-other, same_or_other, served, freed}
 use Rattle.proof_table.proofs.transitions.NetSteps.{IsStep}
 use Rattle.proof_table.specs.stated.Descending.{IsAsked}
@@ -91,6 +94,14 @@ IsLast (entry.AwaitAcks s) l page =
     (s.waiting.call ≡ l.message.call) × (l.message.content ≡ content.InvalAck page)
     × (set.contains s.left l.source ≡ true) × (set.remove s.left l.source ≡ set.empty)
 
+-- such a letter is about that page
+pub last_about : (e : Entry) (l : Letter) (page : ℕ) → IsLast e l page
+    → page_of l.message.content ≡ page
+last_about (entry.Idle s) l page h = absurd h
+last_about (entry.AwaitRead s) l page h = ap page_of h.1.1
+last_about (entry.AwaitWrite s) l page h = ap page_of h.1.2
+last_about (entry.AwaitAcks s) l page h = ap page_of h.1
+
 -- with it the word is carried out
 pub record IsFreed (n : Net) (node page : ℕ) : Type 0 where
   pub letter : Letter
@@ -145,6 +156,17 @@ fresh_late due n most (Loose k) fresh soon = fresh
 abbrev pub IsBounded : Config → Net → Type 0
 IsBounded c n = (y p : ℕ) → c.nodes ≤ y → claims (n.entry y p) ≡ false
 
+-- a letter about the page is served at a node
+abbrev pub IsServedAt : Net → ℕ → ℕ → Type 0
+IsServedAt n node page =
+    (l : Letter) × IsAt n (Loose 0) l × (l.dest ≡ node) × (page_of l.message.content ≡ page)
+
+-- with no letter served, an entry that is not locked changes, or a word joins what is waited for
+abbrev pub IsUnserved : Net → Entry → Entry → Type 0
+IsUnserved n before after =
+    (n.loose ≡ [])
+    × ((is_locked before ≡ false) ⊎ ((w : Word) × (after ≡ joined_by before w)))
+
 -- what a step does
 pub record IsOnward (c : Config) (alone : ℕ → ℕ → Type 0) (n n' : Net) : Type 0 where
   -- a letter that is due was so before, and was not served, but where a word was carried out
@@ -152,11 +174,12 @@ pub record IsOnward (c : Config) (alone : ℕ → ℕ → Type 0) (n n' : Net) :
       → IsAt n' b l → IsDue due b
       → ((a : Place) × IsAt n a l × IsDue due a
       × ((a ≢ Loose 0) ⊎ ((y q : ℕ) → n'.entry y q ≡ n.entry y q)))
-      ⊎ ((q : ℕ) × IsFreed n l.dest q × (is_locked (n'.entry l.dest q) ≡ false))
-  -- an entry changes where a letter is served, or where no word waits
+      ⊎ (IsFreed n l.dest (page_of l.message.content)
+      × (is_locked (n'.entry l.dest (page_of l.message.content)) ≡ false))
+  -- an entry changes where a letter about its page is served; or, with none served, where it is not
+  -- locked or a word joins
   pub entries : (y q : ℕ) → (n'.entry y q ≡ n.entry y q)
-      ⊎ (((k : Letter) × IsAt n (Loose 0) k × (k.dest ≡ y))
-      ⊎ ((v : ℕ) → is_locked (n.entry y v) ≡ false))
+      ⊎ (IsServedAt n y q ⊎ IsUnserved n (n.entry y q) (n'.entry y q))
   pub grows : (i j : ℕ) → (length (n.posted i j) ≤ length (n'.posted i j))
       × (n.delivered i j ≤ n'.delivered i j)
   pub beyond : (y p : ℕ) → c.nodes ≤ y → n'.entry y p ≡ n.entry y p
@@ -283,8 +306,7 @@ module _ (c : Config) (alone : ℕ → ℕ → Type 0) (n n' : Net) (x p : ℕ) 
     pub how : ((a : Place) → now a ≡ served a)
         ⊎ (((a : Place) → now a ≡ freed x p a) × IsFreed n x p × (is_locked z ≡ false))
     pub places : (a : Place) (l : Letter) → New a l → IsFresh n a
-    pub cause : ((k : Letter) × IsAt n (Loose 0) k × (k.dest ≡ x))
-        ⊎ ((v : ℕ) → is_locked (n.entry x v) ≡ false)
+    pub cause : IsServedAt n x p ⊎ IsUnserved n e z
     pub longer : (i j : ℕ) → (length (n.posted i j) ≤ length (n'.posted i j))
         × (n.delivered i j ≤ n'.delivered i j)
     pub moves : (a : Place) → a ≢ Loose 0 → IsLater a (now a)
@@ -318,11 +340,14 @@ module _ (c : Config) (alone : ℕ → ℕ → Type 0) (n n' : Net) (x p : ℕ) 
   due_served due (Loose k) ne h = tt
 
   due_freed : (due : ℕ → ℕ → ℕ) (a : Place) (l : Letter) → IsAt n a l → IsDue due (freed x p a)
-      → IsDue due a ⊎ ((l.dest ≡ x) × Unit {0})
+      → IsDue due a ⊎ ((l.dest ≡ x) × (page_of l.message.content ≡ p))
   due_freed due (Underway i j k) l at h = inl h
   due_freed due (Loose k) l at h = inl tt
   due_freed due (Aside i q k) l at h = elim (same_or_other i q x p) [
-    | inl same ↦ inr (ap (λ (v : Letter). v.dest) at.2 ∙ same.0, tt)
+    | inl same ↦ inr (
+      ap (λ (v : Letter). v.dest) at.2 ∙ same.0,
+      ap (λ (v : Letter). page_of v.message.content) at.2 ∙ put_about at.0.kind q ∙ same.1,
+    )
     | inr other ↦
         inl (subst (IsDue due) (written-other (λ a b. Aside a b k) x p (Loose k) i q other) h)
   ]
@@ -331,7 +356,8 @@ module _ (c : Config) (alone : ℕ → ℕ → Type 0) (n n' : Net) (x p : ℕ) 
       → IsAt n' b l → IsDue due b
       → ((a : Place) × IsAt n a l × IsDue due a
       × ((a ≢ Loose 0) ⊎ ((y q : ℕ) → n'.entry y q ≡ n.entry y q)))
-      ⊎ ((q : ℕ) × IsFreed n l.dest q × (is_locked (n'.entry l.dest q) ≡ false))
+      ⊎ (IsFreed n l.dest (page_of l.message.content)
+      × (is_locked (n'.entry l.dest (page_of l.message.content)) ≡ false))
   due_before k due most b l at soon = elim (step.letters b l at) [
     | inr new ↦ absurd (fresh_late due n most b (k.places b l new) soon)
     | inl h ↦ elim k.how [
@@ -340,9 +366,10 @@ module _ (c : Config) (alone : ℕ → ℕ → Type 0) (n n' : Net) (x p : ℕ) 
       | inr is ↦ elim (due_freed due h.0 l h.1 (subst (IsDue due) (h.2 ∙ is.0 h.0) soon)) [
         | inl was ↦ inl (h.0, h.1, was, inl h.3)
         | inr here ↦ inr (
-          p,
-          subst (λ v. IsFreed n v p) (sym here.0) is.1,
-          ap (λ v. is_locked (n'.entry v p)) here.0 ∙ ap is_locked step.after ∙ is.2,
+          subst (λ q. IsFreed n l.dest q) (sym here.1)
+              (subst (λ v. IsFreed n v p) (sym here.0) is.1),
+          ap (λ v. is_locked (n'.entry v (page_of l.message.content))) here.0
+              ∙ ap (λ q. is_locked (n'.entry x q)) here.1 ∙ ap is_locked step.after ∙ is.2,
         )
       ]
     ]
@@ -351,13 +378,9 @@ module _ (c : Config) (alone : ℕ → ℕ → Type 0) (n n' : Net) (x p : ℕ) 
   pub entry_onward : IsEntryOnward → IsOnward c alone n n'
   entry_onward k = record {
     dues = λ due most within b l at soon. due_before k due most b l at soon;
-    entries = λ y q. elim (step.elsewhere y q) [
-      | inr other ↦ inl other.1
-      | inl same ↦ inr (elim k.cause [
-        | inl h ↦ inl (h.0, h.1, h.2 ∙ sym same.0)
-        | inr free ↦ inr (λ v. ap (λ i. is_locked (n.entry i v)) same.0 ∙ free v)
-      ])
-    ];
+    entries = at_entry
+        (λ y q u v. (v ≡ u) ⊎ (IsServedAt n y q ⊎ IsUnserved n u v)) (inr k.cause)
+        (λ y q v. inl refl);
     grows = k.longer;
     beyond = λ y q past. elim (step.elsewhere y q) [
       | inl same ↦

@@ -16,15 +16,18 @@ use Rattle.ivy_pagetable.specs.declared.Request.TheVariants as request
 use Rattle.ivy_pagetable.specs.stated.NodeSets.{nodes_with}
 use Rattle.ivy_pagetable.specs.stated.States.{IdleState}
 use Rattle.ivy_pagetable.specs.stated.Entries.{put_offs, is_locked, is_owner, copying, owning, without, sharing, can_put_off, with_put_off}
+use Rattle.ivy_coherence.specs.stated.Fetching.{joined_by}
 use Rattle.ivy_coherence.specs.stated.MessageSteps.{sending}
 use Rattle.ivy_coherence.specs.stated.Serving.{invalidations}
 use Rattle.ivy_fixed.specs.stated.Fixed.{Owners, fixed_ops}
 use Rattle.proof_table.specs.stated.Letters.{Letter, Net, Place, Underway, Aside, Loose, IsAt, content_of, letter_of}
 use Rattle.proof_table.specs.transitions.Letters.{goes_on}
 use Rattle.proof_table.specs.stated.Orderly.{Collects, IsOrderly}
-use Rattle.proof_table.specs.transitions.TableSteps.{Served, Comes, Begins, PutsOff, Notice, Row, IsNamedBy, letter}
+use Rattle.proof_table.specs.transitions.TableSteps.{Served, Comes, Begins, Joins, PutsOff, Notice, Row, IsNamedBy, letter}
+use Rattle.proof_table.proofs.transitions.Needs.{page_of, put_about}
 use Rattle.proof_table.proofs.transitions.Members.{without_itself, without_any}
 use Rattle.proof_table.proofs.transitions.Places.{written_here, served, freed}
+use Rattle.proof_table.proofs.transitions.RowsJoined.{joined_owner, joined_locked, joined_collects, joined_kept, joined_stays}
 use Rattle.proof_table.proofs.transitions.Parcels.{IsThe, IsNone, IsOrder, answer_step, ask_step, orders_step, free_step, stay_step}
 use Rattle.proof_table.specs.stated.Descending.{IsAsked, Descends}
 use Rattle.proof_table.specs.routing.Claiming.{claims}
@@ -37,7 +40,7 @@ use Rattle.proof_table.proofs.routing.Remaining.{IsThere, IsCounted, StaysPutOff
 use Rattle.proof_table.specs.waiting.Readers.{IsFair}
 use Rattle.proof_table.proofs.waiting.Readers.{asked_at}
 use Rattle.proof_table.proofs.waiting.ReadersKept.{read_gone}
-use Rattle.proof_table.proofs.waiting.Onward.{IsStill, IsSentOn, IsAnswered, IsLast, IsFreed, AsksFor, IsElsewhere, IsGivenAway, IsFresh, IsOnward, posts_longer, served_later, freed_later, served_still, freed_still, begun_still, entry_onward, installed_onward, none_onward}
+use Rattle.proof_table.proofs.waiting.Onward.{IsStill, IsSentOn, IsAnswered, IsLast, last_about, IsFreed, AsksFor, IsElsewhere, IsGivenAway, IsFresh, IsOnward, posts_longer, served_later, freed_later, served_still, freed_still, begun_still, entry_onward, installed_onward, none_onward}
 use Rattle.proof_table.proofs.waiting.OnwardTaken.{taken_onward}
 
 never : {P : Type 0} → false ≡ true → P
@@ -62,10 +65,11 @@ module _ (c : Config) (n : Net) (counted : IsCounted n) where
     sent_there = letter_there n x p (entry.Idle z) rest dest origin call body counted
 
     serving_onward : {alone : ℕ → ℕ → Type 0} → IsAnswered n after_serving old (ask p)
+        → page_of (ask p) ≡ p
         → (s.owner ≡ true → (z.owner ≡ true) ⊎ IsGivenAway alone n after_serving x p)
         → ((q : ℕ) (bytes : List ℕ) → body ≡ content.ReadRep q bytes
         → (q ≡ p) × (s.owner ≡ true)) → IsOnward c alone n after_serving
-    serving_onward answer owner copy =
+    serving_onward answer about owner copy =
         entry_onward c _ n after_serving x p (entry.Idle s) (entry.Idle z) served
         (IsThe (Underway x dest (length (n.posted x dest))) sent)
         (answer_step n x p (entry.Idle s) (entry.Idle z) old rest dest origin call body is loose
@@ -74,7 +78,7 @@ module _ (c : Config) (n : Net) (counted : IsCounted n) where
           here = r.here;
           how = inl (λ a. refl);
           places = λ a l it. subst (IsFresh n) (sym it.0) (omega arith);
-          cause = inl (old, ap (λ v. slice_get v 0) loose, refl);
+          cause = inl (old, ap (λ v. slice_get v 0) loose, refl, about);
           longer = posts_longer n x p (entry.Idle z) rest (parcel_to x dest origin call body ∷ []);
           moves = served_later;
           stays = λ a l at.
@@ -130,7 +134,7 @@ module _ (c : Config) (n : Net) (counted : IsCounted n) where
           here = r.here;
           how = inl (λ a. refl);
           places = λ a l it. subst (IsFresh n) (sym it.0) (omega arith);
-          cause = inr r.free;
+          cause = inr (loose, inl refl);
           longer = posts_longer n x p z [] (parcel_to x dest x call body ∷ []);
           moves = served_later;
           stays = λ a l at. inl (begun_still n x p (entry.Idle s) z []
@@ -222,7 +226,7 @@ module _ (c : Config) (n : Net) (put : PutsOff c n) where
         here = put.here;
         how = inl (λ a. refl);
         places = λ a l it. subst (IsFresh n) (sym it.0) tt;
-        cause = inl (later_on, ap (λ v. slice_get v 0) loose, refl);
+        cause = inl (later_on, ap (λ v. slice_get v 0) loose, refl, put_about r.kind p);
         longer = posts_longer n x p (with_put_off e r) rest [];
         moves = served_later;
         stays = λ a l at.
@@ -260,7 +264,12 @@ module _ (c : Config) (n : Net) where
         here = r.here;
         how = inr (λ a. refl, freed_here, refl);
         places = λ a l it. absurd it;
-        cause = inl (old, ap (λ v. slice_get v 0) loose, refl);
+        cause = inl (
+          old,
+          ap (λ v. slice_get v 0) loose,
+          refl,
+          last_about (at s) old p last,
+        );
         longer = posts_longer n x p (entry.Idle z) (map (letter_of x p) (put_offs (at s))) [];
         moves = freed_later x p;
         stays = λ a l it.
@@ -310,7 +319,7 @@ module _ (c : Config) (n : Net) where
         here = r.here;
         how = inl (λ a. refl);
         places = λ a l it. subst (IsFresh n) (sym it.2) (omega arith);
-        cause = inl (old, ap (λ v. slice_get v 0) loose, refl);
+        cause = inl (old, ap (λ v. slice_get v 0) loose, refl, refl);
         longer = posts_longer n x p z [] (invalidations x p call (nodes_with copies));
         moves = served_later;
         stays = λ a l at.
@@ -356,7 +365,7 @@ module _ (c : Config) (n : Net) where
         here = r.here;
         how = inl (λ a. refl);
         places = λ a l it. absurd it;
-        cause = inl (old, ap (λ v. slice_get v 0) loose, refl);
+        cause = inl (old, ap (λ v. slice_get v 0) loose, refl, refl);
         longer = posts_longer n x p z [] [];
         moves = served_later;
         stays = λ a l at.
@@ -408,7 +417,7 @@ module _ (c : Config) (n : Net) where
         here = r.here;
         how = inl (λ a. refl);
         places = λ a l it. subst (IsFresh n) (sym it.2) (omega arith);
-        cause = inr r.free;
+        cause = inr (loose, inl refl);
         longer = posts_longer n x p z [] (invalidations x p call s.copies);
         moves = served_later;
         stays = λ a l at. inl (begun_still n x p (entry.Idle s) z []
@@ -426,6 +435,31 @@ module _ (c : Config) (n : Net) where
     where
       open r use {node as x, page as p, call, state as s, loose, is}
 
+  -- a word joins the fetch of its page
+  joins_onward : {alone : ℕ → ℕ → Type 0} (r : Joins c n)
+      → IsOnward c alone n (goes_on n r.node r.page (joined_by r.before r.word) [] [])
+  joins_onward r =
+      entry_onward c _ n _ x p e z served IsNone (stay_step n x p e z is (joined_kept e w))
+      (record {
+        here = r.here;
+        how = inl (λ a. refl);
+        places = λ a l it. absurd it;
+        cause = inr (loose, inr (w, refl));
+        longer = posts_longer n x p z [] [];
+        moves = served_later;
+        stays = λ a l at. inl (begun_still n x p e z [] [] is loose (joined_stays e w) a l at);
+        owner = λ h. inl (joined_owner e w ∙ h);
+        collects = λ target k own h. inl (joined_collects e w k target h);
+        locks = λ h. inl (joined_locked e w ∙ h);
+        begins = λ f h. loose;
+        copies = λ a l q d it says. absurd it;
+      })
+    where
+      open r use {node as x, page as p, word as w, before as e, loose, is}
+
+      z : Entry
+      z = joined_by e w
+
 -- a node that does not own the page serves a letter, and one goes out: an order to give a copy up is
 -- answered, a request is sent on
 module _ (c : Config) (n : Net) {T : Type 0} {at : T → Entry} {ask : ℕ → Content}
@@ -442,12 +476,12 @@ module _ (c : Config) (n : Net) {T : Type 0} {at : T → Entry} {ask : ℕ → C
   after_passing = goes_on n x p z rest posts
 
   passing_onward : {alone : ℕ → ℕ → Type 0} → IsAnswered n after_passing passed (ask p)
-      → is_owner (at s) ≡ false → is_locked z ≡ is_locked (at s)
+      → page_of (ask p) ≡ p → is_owner (at s) ≡ false → is_locked z ≡ is_locked (at s)
       → ((k : ℕ) (q : PutOff) → slice_get (put_offs z) k ≡ Some q
       → slice_get (put_offs (at s)) k ≡ Some q) → StaysPutOff (at s) z
       → ((q : ℕ) (bytes : List ℕ) → body ≡ content.ReadRep q bytes → ⊥)
       → IsOnward c alone n after_passing
-  passing_onward answer plain locked kept still uncopied =
+  passing_onward answer about plain locked kept still uncopied =
       entry_onward c _ n after_passing x p (at s) z served
       (IsThe (Underway x dest (length (n.posted x dest))) (letter x dest origin call body))
       (answer_step n x p (at s) z passed rest dest origin call body is loose kept)
@@ -455,7 +489,7 @@ module _ (c : Config) (n : Net) {T : Type 0} {at : T → Entry} {ask : ℕ → C
         here = r.here;
         how = inl (λ a. refl);
         places = λ a l it. subst (IsFresh n) (sym it.0) (omega arith);
-        cause = inl (passed, ap (λ v. slice_get v 0) loose, refl);
+        cause = inl (passed, ap (λ v. slice_get v 0) loose, refl, about);
         longer = posts_longer n x p z rest posts;
         moves = served_later;
         stays = λ a l it.
@@ -493,7 +527,7 @@ module _ (c : Config) (n : Net) (counted : IsCounted n) where
         from = refl;
         dest = refl;
         says = refl;
-      }) plain locked kept still (λ q d h. cc)
+      }) refl plain locked kept still (λ q d h. cc)
     where
       sent : IsThere (after_passing c n r z r.origin (content.InvalAck r.page))
           (letter r.node r.origin r.origin r.call (content.InvalAck r.page))
@@ -501,7 +535,7 @@ module _ (c : Config) (n : Net) (counted : IsCounted n) where
 
   -- a node that awaits a copy sends a request on
   reader_onward : {ask : ℕ → Content} {alone : ℕ → ℕ → Type 0} (r : Served c n entry.AwaitRead ask)
-      (hop : ℕ) → hop ≢ r.node
+      (hop : ℕ) → hop ≢ r.node → page_of (ask r.page) ≡ r.page
       → ((away : IsSentOn n
       (goes_on n r.node r.page (entry.AwaitRead (sending r.state)) r.rest
       (parcel_to r.node hop r.origin r.call (ask r.page) ∷ []))
@@ -514,7 +548,7 @@ module _ (c : Config) (n : Net) (counted : IsCounted n) where
       → IsOnward c alone n
       (goes_on n r.node r.page (entry.AwaitRead (sending r.state)) r.rest
       (parcel_to r.node hop r.origin r.call (ask r.page) ∷ []))
-  reader_onward {ask = ask} r hop away answer uncopied =
+  reader_onward {ask = ask} r hop away about answer uncopied =
       passing_onward c n r (entry.AwaitRead (sending r.state)) hop (ask r.page) (answer (record {
         plain = ap claims r.is;
         hop = hop;
@@ -527,7 +561,7 @@ module _ (c : Config) (n : Net) (counted : IsCounted n) where
           asker = refl;
           asks = refl;
         };
-      })) refl refl (λ k q g. g) (λ j q g. g) uncopied
+      })) about refl refl (λ k q g. g) (λ j q g. g) uncopied
     where
       sent : IsThere
           (after_passing c n r (entry.AwaitRead (sending r.state)) hop (ask r.page))
@@ -598,7 +632,7 @@ module _ (c : Config) (alone : ℕ → ℕ → Type 0) (n : Net) (counted : IsCo
         dest = refl;
         brings = refl;
       }))
-      (λ own. inr (record { idle = ap is_locked r.is; none = none r bits bytes }))
+      refl (λ own. inr (record { idle = ap is_locked r.is; none = none r bits bytes }))
       (λ q d h. absurd cc)
     where
       there : IsThere
@@ -635,7 +669,7 @@ module _ (c : Config) (config : IsConfig c) where
         dest = refl;
         brings = refl;
       }))
-      (λ own. inl refl)
+      refl (λ own. inl refl)
       (λ q bytes e. (
         (let d : content.ReadRep r.page (n.page r.node r.page)
             ≡ content.ReadRep q bytes = e in cc),
@@ -645,11 +679,11 @@ module _ (c : Config) (config : IsConfig c) where
       given_onward c alone n counted left r _ _
   onward_at {n = n} (Row.sends_on_read r hop plain away) o down counted left =
       serving_onward c n counted r r.state hop (content.ReadReq r.page)
-      (inr (sent_on c n counted r r.state hop (content.ReadReq r.page) plain away.away))
+      (inr (sent_on c n counted r r.state hop (content.ReadReq r.page) plain away.away)) refl
       (λ own. inl own) (λ q bytes e. absurd cc)
   onward_at {n = n} (Row.sends_on_write r hop plain away) o down counted left =
       serving_onward c n counted r r.state hop (content.WriteReq r.page)
-      (inr (sent_on c n counted r r.state hop (content.WriteReq r.page) plain away.away))
+      (inr (sent_on c n counted r r.state hop (content.WriteReq r.page) plain away.away)) refl
       (λ own. inl own) (λ q bytes e. absurd cc)
   onward_at {n = n} (Row.ends_copy r sender plain) o down counted left =
       giving_up_onward c n counted r (entry.Idle without) plain refl (λ k q g. g) (λ j q g. g)
@@ -657,9 +691,9 @@ module _ (c : Config) (config : IsConfig c) where
       giving_up_onward c n counted r _ refl refl (λ k q g. g) (λ j q g. g)
   onward_at {n = n} (Row.puts_off r kept) o down counted left = put_onward c n r
   onward_at {n = n} (Row.reader_sends_on_read r hop sends away) o down counted left =
-      reader_onward c n counted r hop away.away (λ on. inr on) (λ q bytes e. cc)
+      reader_onward c n counted r hop away.away refl (λ on. inr on) (λ q bytes e. cc)
   onward_at {n = n} (Row.reader_sends_on_write r hop sends away) o down counted left =
-      reader_onward c n counted r hop away.away (λ on. inr on) (λ q bytes e. cc)
+      reader_onward c n counted r hop away.away refl (λ on. inr on) (λ q bytes e. cc)
   onward_at {n = n} (Row.copy_comes bytes r same quiet) o down counted left =
       installed_onward c n _ r.node r.page bytes
       (came_onward c n r copying (λ own. never own) refl (same, (bytes, refl))
@@ -687,6 +721,7 @@ module _ (c : Config) (config : IsConfig c) where
       (λ q bytes e. cc)
   onward_at {n = n} (Row.ends_copies r owner reader unwritten low out) o down counted left =
       ends_onward c n r owner _ refl refl
+  onward_at {n = n} (Row.joins r) o down counted left = joins_onward c n r
 
   -- under managing nodes
   pub onward_by : {m : ℕ → Owners} {n : Net} {f : ℕ → List ℕ} {notice : Notice} {n' : Net}

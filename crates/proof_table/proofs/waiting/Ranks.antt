@@ -8,13 +8,11 @@ use Rattle.ivy_wire.specs.declared.Content.TheVariants as content
 use Rattle.ivy_wire.specs.stated.Data.{Message}
 use Rattle.ivy_pagetable.specs.declared.Entry.{Entry}
 use Rattle.ivy_pagetable.specs.declared.Entry.TheVariants as entry
-use Rattle.ivy_pagetable.specs.declared.Request.{Request}
-use Rattle.ivy_pagetable.specs.declared.Request.TheVariants as request
 use Rattle.ivy_pagetable.specs.stated.Entries.{put_offs, is_locked, is_owner}
 use Rattle.ivy_fixed.specs.stated.Fixed.{Owners}
-use Rattle.proof_table.specs.stated.Letters.{Letter, Net, Place, Underway, Aside, Loose, IsAt, content_of}
+use Rattle.proof_table.specs.stated.Letters.{Letter, Net, Place, Underway, Aside, Loose, IsAt}
 use Rattle.proof_table.specs.stated.Orderly.{Collects, IsOrderly}
-use Rattle.proof_table.proofs.transitions.Needs.{page_of}
+use Rattle.proof_table.proofs.transitions.Needs.{page_of, put_about}
 use Rattle.proof_table.proofs.transitions.Sole.{no_other_owner}
 use Rattle.proof_table.specs.routing.Claiming.{claims}
 use Rattle.proof_table.specs.routing.Managing.{IsManaged}
@@ -143,11 +141,6 @@ unlocked_none (entry.Idle s) h = refl
 unlocked_none (entry.AwaitRead s) h = absurd (let f : true ≡ false = h in cc)
 unlocked_none (entry.AwaitWrite s) h = absurd (let f : true ≡ false = h in cc)
 unlocked_none (entry.AwaitAcks s) h = absurd (let f : true ≡ false = h in cc)
-
-put_about : (k : Request) (p : ℕ) → page_of (content_of k p) ≡ p
-put_about request.Read p = refl
-put_about request.Write p = refl
-put_about request.Invalidate p = refl
 
 pub asks_page : (p : ℕ) (l : Letter) → AsksFor p l → page_of l.message.content ≡ p
 asks_page p l (inl h) = ap page_of h

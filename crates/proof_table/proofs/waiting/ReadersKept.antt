@@ -25,6 +25,7 @@ use Rattle.proof_table.specs.transitions.TableSteps.{Served, Comes, PutsOff, Not
 use Rattle.proof_table.proofs.transitions.Needs.{page_of}
 use Rattle.proof_table.proofs.transitions.Places.{written_here, written-other, same_or_other, served, freed}
 use Rattle.proof_table.proofs.transitions.NetSteps.{IsStep}
+use Rattle.proof_table.proofs.transitions.RowsJoined.{joined_claims, joined_kept}
 use Rattle.proof_table.proofs.transitions.Parcels.{IsThe, IsNone, IsOrder, answer_step, ask_step, orders_step, free_step, stay_step}
 use Rattle.proof_table.proofs.transitions.Fitting.{IsRequest}
 use Rattle.proof_table.specs.stated.Descending.{IsAsked}
@@ -607,6 +608,10 @@ module _ (c : Config) (config : IsConfig c) where
   fair_by {n = n} (Row.ends_copies r owner reader unwritten low out) of o h fair =
       ordered_fair c n fair r.node r.page (entry.Idle r.state) _ r.call r.state.copies r.is
       (λ k q g. absurd (none-some q g)) (sym owner)
+  fair_by {n = n} (Row.joins r) of o h fair =
+      served_fair c n _ r.node r.page r.before _ IsNone (λ a l new request. new)
+      (joined_claims r.before r.word) fair
+      (stay_step n r.node r.page r.before _ r.is (joined_kept r.before r.word))
 
 pub readers_come_first : ReadersComeFirst
 readers_come_first c config = record {

@@ -1,21 +1,51 @@
 -- A word that waits, followed through a step of a world: one letter at most is delivered in it. The
 -- word waits on, and no longer than before; or that letter is what it waited for last.
-use Rattle.std.proofs.Common.{◌≡◌, ◌≢◌, ◌⊎◌, ◌<◌, ℕ, true, false, slice_get, refl, sym, ap, ◌∙◌, subst, inl, inr, arith}
-use Rattle.std.proofs.lemmas.Bool.{cases_Bool, cases_eq, both_ways}
-use Rattle.std.proofs.lemmas.Option.{none-some}
+use Rattle.std.proofs.Common.{◌≡◌, ◌≢◌, ◌⊎◌, ℕ, true, slice_get, refl, sym, ap, ◌∙◌, subst, inl, inr, arith}
+use Rattle.std.proofs.lemmas.Bool.{both_ways}
 use Rattle.ivy_model.specs.declared.Config.{Config}
 use Rattle.ivy_pagetable.specs.declared.Entry.{Entry}
 use Rattle.ivy_pagetable.specs.declared.Entry.TheVariants as entry
+use Rattle.ivy_pagetable.specs.declared.Word.{Word}
+use Rattle.ivy_pagetable.specs.declared.Word.TheVariants as word
 use Rattle.ivy_pagetable.specs.stated.Entries.{is_locked}
+use Rattle.ivy_coherence.specs.stated.Fetching.{joined_by}
 use Rattle.proof_table.specs.stated.Letters.{Letter, Net, Place, Loose, IsAt}
 use Rattle.proof_table.specs.stated.Orderly.{key_of, IsOrderly}
-use Rattle.proof_table.proofs.waiting.Onward.{IsDue, IsPromised, IsWithin, IsLast, IsFreed, IsOnward}
+use Rattle.proof_table.proofs.transitions.Needs.{page_of}
+use Rattle.proof_table.proofs.waiting.Onward.{IsDue, IsPromised, IsWithin, IsLast, last_about, IsFreed, IsOnward}
 
-pub last_locked : (e : Entry) (l : Letter) (p : ℕ) → IsLast e l p → is_locked e ≡ true
-last_locked (entry.Idle s) l p h = absurd h
-last_locked (entry.AwaitRead s) l p h = refl
-last_locked (entry.AwaitWrite s) l p h = refl
-last_locked (entry.AwaitAcks s) l p h = refl
+-- the entries are the same, but for the word
+abbrev pub IsSameButWord : Entry → Entry → Type 0
+IsSameButWord e z = (w : Word) → joined_by e w ≡ joined_by z w
+
+joined_again : (e : Entry) (v w : Word) → joined_by (joined_by e v) w ≡ joined_by e w
+joined_again (entry.Idle s) v w = refl
+joined_again (entry.AwaitRead s) v w = refl
+joined_again (entry.AwaitWrite s) v w = refl
+joined_again (entry.AwaitAcks s) v w = refl
+
+-- then what is waited for last is the same
+joined_last : (e : Entry) (w : Word) (l : Letter) (p : ℕ) → IsLast e l p
+    → IsLast (joined_by e w) l p
+joined_last (entry.Idle s) w l p h = h
+joined_last (entry.AwaitRead s) w l p h = h
+joined_last (entry.AwaitWrite s) w l p h = h
+joined_last (entry.AwaitAcks s) w l p h = h
+
+last_joined : (e : Entry) (w : Word) (l : Letter) (p : ℕ) → IsLast (joined_by e w) l p
+    → IsLast e l p
+last_joined (entry.Idle s) w l p h = h
+last_joined (entry.AwaitRead s) w l p h = h
+last_joined (entry.AwaitWrite s) w l p h = h
+last_joined (entry.AwaitAcks s) w l p h = h
+
+pub same_last : (e z : Entry) (l : Letter) (p : ℕ) → IsSameButWord e z → IsLast e l p → IsLast z l p
+same_last e z l p same h =
+    last_joined z any l p
+    (subst (λ (v : Entry). IsLast v l p) (same any) (joined_last e any l p h))
+  where
+    any : Word
+    any = word.Load 1 0
 
 -- the letter is for node i, and what the word at the entry waits for last
 pub record IsLastAt (i p : ℕ) (e : Entry) (l : Letter) : Type 0 where
@@ -23,14 +53,14 @@ pub record IsLastAt (i p : ℕ) (e : Entry) (l : Letter) : Type 0 where
   pub asker : l.message.origin ≡ i
   pub last : IsLast e l p
 
--- Node i waits at page p, and at no other; a letter that is due to it is this one, and finds the
--- entry as it was; and this holds. By the end of the step `step` is delivered.
+-- Node i waits at page p; a letter about that page that is due to the node is this one, and finds
+-- the entry as it was, but for the word; and this holds. By the end of the step `step` is
+-- delivered.
 pub record IsAimed (Holds : Type 0) (step : ℕ → ℕ → ℕ) (i p : ℕ) (e : Entry) (l : Letter) (n : Net)
     : Type 0 where
   pub shut : is_locked (n.entry i p) ≡ true
-  pub others : (q : ℕ) → q ≢ p → is_locked (n.entry i q) ≡ false
   pub only : (a : Place) (k : Letter) → IsAt n a k → IsDue step a → k.dest ≡ i
-      → (k ≡ l) × (n.entry i p ≡ e)
+      → page_of k.message.content ≡ p → (k ≡ l) × IsSameButWord (n.entry i p) e
   pub holds : Holds
 
 -- so it is while no more is delivered than in the step
@@ -52,67 +82,53 @@ module _ (c : Config) {alone : ℕ → ℕ → Type 0} (n n' : Net) (on : IsOnwa
       (a : IsAimed Before step i p e l n) where
     to_last : IsFreed n i p → IsLastAt i p e l
     to_last f =
-        let it = a.only (Loose 0) f.letter (ap (λ v. slice_get v 0) f.loose) tt f.dest in
+        let it = a.only (Loose 0) f.letter (ap (λ v. slice_get v 0) f.loose) tt f.dest
+        (last_about (n.entry i p) f.letter p f.last) in
         record {
           dest = ap (λ (v : Letter). v.dest) (sym it.0) ∙ f.dest;
           asker = ap (λ (v : Letter). v.message.origin) (sym it.0) ∙ f.asker;
-          last = subst (λ v. IsLast e v p) it.0 (subst (λ v. IsLast v f.letter p) it.1 f.last);
+          last = subst (λ v. IsLast e v p) it.0 (same_last (n.entry i p) e f.letter p it.1 f.last);
         }
 
-    others_on : (q : ℕ) → q ≢ p → is_locked (n'.entry i q) ≡ false
-    others_on q ne = elim (cases_Bool (is_locked (n'.entry i q))) [
-      | inr opened ↦ opened
-      | inl shut ↦ absurd (elim (on.entries i q) [
-        | inl same ↦
-            both_ways (is_locked (n.entry i q)) (a.others q ne) (ap is_locked (sym same) ∙ shut)
-        | inr more ↦ elim more [
-          | inl k ↦
-              none-some k.0
-              (ap (λ v. slice_get v 0) (sym (on.begins i q (a.others q ne) shut)) ∙ k.1)
-          | inr free ↦ both_ways (is_locked (n.entry i p)) (free p) a.shut
-        ]
-      ])
-    ]
-
-    entry_on : (b : Place) (k : Letter) → IsAt n b k → k ≡ l → n.entry i p ≡ e
-        → ((b ≢ Loose 0) ⊎ ((y q : ℕ) → n'.entry y q ≡ n.entry y q)) → n'.entry i p ≡ e
+    entry_on : (b : Place) (k : Letter) → IsAt n b k → k ≡ l → IsSameButWord (n.entry i p) e
+        → ((b ≢ Loose 0) ⊎ ((y q : ℕ) → n'.entry y q ≡ n.entry y q))
+        → IsSameButWord (n'.entry i p) e
     entry_on b k at it was how = elim (on.entries i p) [
-      | inl same ↦ same ∙ was
+      | inl same ↦ (λ w. ap (λ v. joined_by v w) same ∙ was w)
       | inr more ↦ elim more [
-        | inr free ↦ absurd (both_ways (is_locked (n.entry i p)) (free p) a.shut)
         | inl first ↦ elim how [
-          | inr same ↦ same i p ∙ was
+          | inr same ↦ (λ w. ap (λ v. joined_by v w) (same i p) ∙ was w)
           | inl ne ↦ absurd (
-              let one = a.only (Loose 0) first.0 first.1 tt first.2 in
+              let one = a.only (Loose 0) first.0 first.1 tt first.2 first.3 in
               ne (order.one_letter b (Loose 0) k first.0 at first.1
               (ap key_of (it ∙ sym one.0)))
               )
+        ]
+        | inr unserved ↦ elim unserved.1 [
+          | inl free ↦ absurd (both_ways (is_locked (n.entry i p)) free a.shut)
+          | inr joined ↦ (λ w.
+              ap (λ v. joined_by v w) joined.1 ∙ joined_again (n.entry i p) joined.0 w ∙ was w)
         ]
       ]
     ]
 
     only_on : is_locked (n'.entry i p) ≡ true → (b : Place) (k : Letter) → IsAt n' b k
-        → IsDue step b → k.dest ≡ i → (k ≡ l) × (n'.entry i p ≡ e)
-    only_on shut b k at soon to = elim (on.dues step promised within b k at soon) [
+        → IsDue step b → k.dest ≡ i → page_of k.message.content ≡ p
+        → (k ≡ l) × IsSameButWord (n'.entry i p) e
+    only_on shut b k at soon to about = elim (on.dues step promised within b k at soon) [
       | inl h ↦ (
-          let one = a.only h.0 k h.1 h.2 to in (one.0, entry_on h.0 k h.1 one.0 one.1 h.3)
+          let one = a.only h.0 k h.1 h.2 to about in (one.0, entry_on h.0 k h.1 one.0 one.1 h.3)
           )
-      | inr f ↦ absurd (elim (cases_eq f.0 p) [
-        | inl same ↦
-            both_ways (is_locked (n'.entry i p))
-            (ap (λ v. is_locked (n'.entry v p)) (sym to)
-            ∙ ap (λ v. is_locked (n'.entry k.dest v)) (sym same) ∙ f.2) shut
-        | inr ne ↦
-            both_ways (is_locked (n.entry i f.0)) (a.others f.0 ne)
-            (ap (λ v. is_locked (n.entry v f.0)) (sym to)
-            ∙ last_locked (n.entry k.dest f.0) f.1.letter f.0 f.1.last)
-      ])
+      | inr f ↦ absurd (
+          both_ways (is_locked (n'.entry i p))
+          (ap (λ v. is_locked (n'.entry v p)) (sym to)
+          ∙ ap (λ q. is_locked (n'.entry k.dest q)) (sym about) ∙ f.1) shut
+          )
     ]
 
     aimed_on : is_locked (n'.entry i p) ≡ true → IsAimed After step i p e l n'
     aimed_on shut = record {
       shut = shut;
-      others = others_on;
       only = only_on shut;
       holds = keeps a.shut shut a.holds;
     }

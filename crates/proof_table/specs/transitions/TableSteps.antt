@@ -1,6 +1,6 @@
 -- The steps of which every event of a world is made, on managers, entries and letters alone: a
 -- letter is taken, one is served at an idle entry, put off, dropped; a copy, a page or an
--- acknowledgement comes; a word begins to wait. What each of them keeps, every world keeps. Beside
+-- acknowledgement comes; a page is asked for. What each of them keeps, every world keeps. Beside
 -- them stand the pages of the flat memory, which change where a word is carried out.
 use Rattle.std.specs.Prelude.{◌≡◌, ◌≢◌, ◌⊎◌, ◌<◌, ◌≤◌, ℕ, Bool, true, false, List, [], ◌∷◌, map, slice_get, Some, if◌then◌else◌, ◌==◌}
 use Rattle.std.specs.FinSet as set
@@ -19,6 +19,7 @@ use Rattle.ivy_pagetable.specs.stated.Accesses.{reads, writes, suffices}
 use Rattle.ivy_pagetable.specs.stated.Entries.{is_locked, is_owner, can_put_off, with_put_off, without, copying, owning, sharing}
 use Rattle.ivy_pagetable.specs.stated.Words.{IsWord, carried_out}
 use Rattle.ivy_pagetable.specs.stated.Manager.{Ops}
+use Rattle.ivy_coherence.specs.stated.Fetching.{joined_by}
 use Rattle.ivy_coherence.specs.stated.Serving.{counted, invalidations}
 use Rattle.ivy_coherence.specs.stated.MessageSteps.{sending}
 use Rattle.ivy_coherence.specs.stated.PageFaults.{waiting_from}
@@ -199,7 +200,7 @@ pub record Comes {T : Type 0} (c : Config) (n : Net) (at : T → Entry) (bring :
     pub foreign : from ≢ node
     pub is : n.entry node page ≡ at state
 
--- a word begins to wait at a node at which none waits and none is served
+-- a page is asked for, for a word or beside it, at an entry at which none waits; and none is served
 pub record Begins (c : Config) (n : Net) : Type 0 where
   pub node : ℕ
   pub page : ℕ
@@ -210,8 +211,18 @@ pub record Begins (c : Config) (n : Net) : Type 0 where
   pub inside : page < c.pages
   pub numbered : 1 ≤ call
   pub loose : n.loose ≡ []
-  pub free : (q : ℕ) → is_locked (n.entry node q) ≡ false
   pub is : n.entry node page ≡ entry.Idle state
+
+-- a word waits from now on at an entry whose page is fetched
+pub record Joins (c : Config) (n : Net) : Type 0 where
+  pub node : ℕ
+  pub page : ℕ
+  pub word : Word
+  pub before : Entry
+  pub here : node < c.nodes
+  pub inside : page < c.pages
+  pub loose : n.loose ≡ []
+  pub is : n.entry node page ≡ before
 
 -- a node that waits for the page has no copy any more
 abbrev pub bare : AwaitWriteState → AwaitWriteState
@@ -349,6 +360,9 @@ pub data Row (sends : Bool) (c : Config) (n : Net) (f : ℕ → List ℕ)
       (entry.AwaitAcks
       (record { left = r.state.copies; waiting = waiting_from r.word r.call })) []
       (invalidations r.node r.page r.call r.state.copies)) f
+  -- a word joins the fetch of its page: nothing is asked for
+  joins : (r : Joins c n) → Row sends c n f Silent
+      (goes_on n r.node r.page (joined_by r.before r.word) [] []) f
 
 -- what is said of managers, a net and the pages of the flat memory
 abbrev pub Claim : Type 0 → Type 1

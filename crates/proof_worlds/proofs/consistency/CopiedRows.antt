@@ -27,6 +27,8 @@ use Rattle.proof_table.proofs.transitions.Places.{written_here, served, freed}
 use Rattle.proof_table.proofs.transitions.Parcels.{IsThe, IsNone, IsOrder, answer_step, ask_step, orders_step, free_step, stay_step}
 use Rattle.proof_table.proofs.transitions.OrderlyKept.{orderly-kept}
 use Rattle.proof_table.proofs.transitions.Both.{both-kept}
+use Rattle.proof_table.proofs.transitions.RowsJoined.{joined_kept}
+use Rattle.ivy_coherence.specs.stated.Fetching.{joined_by}
 use Rattle.proof_worlds.specs.consistency.Copied.{HasBytes, CarriesCurrent, IsCopied}
 use Rattle.proof_worlds.proofs.consistency.CopiedSteps.{step_copied, bytes_copied, aside_copied, taken_copied, dropped_copied}
 use Rattle.proof_worlds.proofs.consistency.CopiedWords.{word_copied}
@@ -35,6 +37,13 @@ use Rattle.proof_worlds.proofs.consistency.CopiedWords.{word_copied}
 pub no_bytes : (e : Entry) → readable e ≡ false → is_owner e ≡ false → HasBytes e → ⊥
 no_bytes e shut plain (inl h) = (let f : true ≡ false = sym h ∙ shut in cc)
 no_bytes e shut plain (inr h) = (let f : true ≡ false = sym h ∙ plain in cc)
+
+-- who has bytes of an entry that a word joined had them before
+joined_bytes : (e : Entry) (w : Word) → HasBytes (joined_by e w) → HasBytes e
+joined_bytes (entry.Idle s) w h = h
+joined_bytes (entry.AwaitRead s) w h = h
+joined_bytes (entry.AwaitWrite s) w h = h
+joined_bytes (entry.AwaitAcks s) w h = h
 
 -- who has bytes of an entry with a message put off had them before
 put_bytes : (e : Entry) (q : PutOff) → HasBytes (with_put_off e q) → HasBytes e
@@ -212,6 +221,9 @@ module _ (c : Config) where
       ordered c _ _ h r.node r.page (entry.Idle r.state) _ r.call r.state.copies r.is
       (λ k q there. absurd (none-some q there))
       (λ has. owner_had c _ _ h r.node r.page (entry.Idle r.state) r.is owner)
+  copied_by (Row.joins r) o h =
+      stayed c _ _ h r.node r.page r.before _ r.is (joined_kept r.before r.word)
+      (λ has. h.had r.node r.page (subst HasBytes (sym r.is) (joined_bytes r.before r.word has)))
 
 pub copied-kept : {S : Type 0} {sends : Bool} (ops : Ops S) (c : Config) → IsConfig c
     → IsPreservedBy sends ops c (λ m n f. IsOrderly c n × IsCopied c n f)

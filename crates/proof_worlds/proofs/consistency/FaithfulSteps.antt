@@ -27,7 +27,7 @@ use Rattle.ivy_alloc.specs.declared.HeapRequest.TheVariants as heap_request
 use Rattle.ivy_alloc.specs.stated.HeapCalls.{is_of_pages, told_of, request, answer_to}
 use Rattle.ivy_alloc.proofs.HeapSides.{answer_heap, replied}
 use Rattle.ivy_memory.proofs.serving.Pages.{IsOfPages, begun-pages}
-use Rattle.ivy_host.specs.stated.Hosts.{Host, host_rules, serving}
+use Rattle.ivy_host.specs.stated.Hosts.{Host, host_rules, serving, fetch_of}
 use Rattle.ivy_host.specs.stated.Sound.{IsSoundHost}
 use Rattle.ivy_host.proofs.Pages.{serve-pages}
 use Rattle.ivy_host.proofs.WellBehaved.{well_behaved}
@@ -35,7 +35,8 @@ use Rattle.proof_table.specs.stated.Orderly.{IsOrderly}
 use Rattle.proof_worlds.specs.stated.HeapRequests.{about_heap, heap_way, call_message, IsHeapRequestAt, resting, asking, answered}
 use Rattle.proof_worlds.proofs.refinement.Led.{get_set}
 use Rattle.proof_worlds.proofs.refinement.LiftedWorlds.{net_of, IsSoundWorldBy, steps_sound}
-use Rattle.proof_worlds.proofs.refinement.HostTurns.{HostTurn, answers, tries_again, goes_on, refuses, asks_for, serves_heap, asks_heap, asks, made_along, without_call, asked_posted}
+use Rattle.proof_worlds.proofs.refinement.HostTurns.{HostTurn, answers, tries_again, goes_on, refuses, asks_for, serves_heap, asks_heap, carries_fetch, asks, made_along, without_call, asked_posted}
+use Rattle.proof_worlds.proofs.refinement.FetchTurns.{carried-leaves}
 use Rattle.ivy_memory.specs.stated.Beside.{nothing_beside}
 use Rattle.proof_worlds.proofs.refinement.HeapWays.{way_turned, way_other, way_page, heap_there, heap_elsewhere, heap_quiet}
 use Rattle.proof_worlds.proofs.refinement.HeapDeliveries.{HeapDelivery, serves, learns}
@@ -45,7 +46,8 @@ use Rattle.proof_worlds.proofs.consistency.CopiedRows.{copied-kept}
 use Rattle.proof_worlds.proofs.consistency.Owing.{Adds, pending}
 use Rattle.proof_worlds.specs.consistency.Alone.{IsAlone, AreAlone, IsOf, AreOf}
 use Rattle.proof_worlds.proofs.consistency.CarriedWords.{Copies}
-use Rattle.proof_worlds.proofs.consistency.OwingEvents.{turn_adds, message_adds}
+use Rattle.proof_worlds.proofs.consistency.OwingEvents.{message_adds}
+use Rattle.proof_worlds.proofs.consistency.OwingTurns.{turn_adds}
 use Rattle.proof_worlds.proofs.consistency.Faithful.{IsFaithful, HasPrograms, faithful-on, programs-on}
 use Rattle.proof_worlds.proofs.consistency.FaithfulHeap.{with_heap, with_reply, given_alone, given_own, serves_faithful, learns_faithful}
 
@@ -147,6 +149,9 @@ module _ {S : Type 0} (ops : Ops S) (c : Config) (x : ℕ) (h : Host S) (good : 
       ap (λ (z : Outcome (Host S)). about_heap (posted 0 j z.posted)) is
       ∙ heap_elsewhere h.memory.coherence.me 0 0 j h.memory.coherence.me (length h.history + 1)
       (request k) (λ home. absurd (good.memory.side.away away home))
+  home_quiet (carries_fetch fetch next is) j =
+      pages_posted j (fetch_of ops h fetch).posted (ap (λ (z : Outcome (Host S)). z.posted) is)
+      (carried-leaves ops h fetch good.memory.coherent).pages
 
 module _ {S : Type 0} {sends : Bool} (ops : Ops S) (laws : Laws ops) (c : Config)
     (config : IsConfig c) (o o' : FifoWorld (Host S)) (order : List Record)

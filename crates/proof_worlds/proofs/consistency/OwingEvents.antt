@@ -1,4 +1,4 @@
--- What each event of a node adds to the order of all records, but for a message of the heap. For
+-- What the events of a node add to the order of all records, but for a message of the heap. For
 -- every manager.
 use Rattle.std.proofs.Common.{◌≡◌, ◌⊎◌, ◌<◌, ℕ, ◌+◌, List, [], ◌∷◌, ◌++◌, length, Option, Some, None, refl, ap, sym, ◌∙◌, subst, inl, inr, true}
 use Rattle.std.proofs.lemmas.List.{append-nil}
@@ -8,7 +8,6 @@ use Rattle.ivy_model.specs.declared.Config.{Config}
 use Rattle.ivy_model.specs.declared.Call.{Call}
 use Rattle.ivy_model.specs.declared.Record.{Record}
 use Rattle.ivy_model.specs.declared.Reply.{Reply}
-use Rattle.ivy_model.specs.declared.Reply.TheVariants as reply
 use Rattle.ivy_model.specs.stated.Config.{IsConfig}
 use Rattle.ivy_model.specs.Memory.{IsSized, flat_page}
 use Rattle.ivy_model.specs.stated.Memory as model
@@ -29,41 +28,35 @@ use Rattle.ivy_coherence.specs.stated.MessageSteps.{handled}
 use Rattle.ivy_coherence.specs.stated.PageFaults.{Begun, along}
 use Rattle.ivy_coherence.proofs.keeping.Same.{handled-same}
 use Rattle.ivy_program.specs.stated.States.{State, first_state}
-use Rattle.ivy_program.specs.stated.InstructionSteps.{Local, Asks, step_of, at_state, AsksRow, along_of}
+use Rattle.ivy_program.specs.stated.InstructionSteps.{Local, Asks, step_of, at_state, AsksRow}
 use Rattle.ivy_program.proofs.running.Running.{runs_on, runs_answered, asked_legal}
 use Rattle.ivy_moves.specs.stated.Cores.{Outcome}
 use Rattle.ivy_moves.specs.stated.Explained.{StandTogether}
 use Rattle.ivy_memory.specs.declared.Asked.TheVariants as kinds
 use Rattle.ivy_memory.specs.stated.Asking.{asked_of}
-use Rattle.ivy_alloc.specs.stated.Heap.{HeapState}
 use Rattle.ivy_alloc.specs.declared.HeapCall.{HeapCall}
 use Rattle.ivy_alloc.specs.declared.HeapRequest.{HeapRequest}
 use Rattle.ivy_alloc.specs.declared.HeapRequest.TheVariants as heap_request
-use Rattle.ivy_alloc.specs.stated.HeapCalls.{HeapSide, kept, told_of, reply_told}
+use Rattle.ivy_alloc.specs.stated.HeapCalls.{HeapSide, reply_told}
 use Rattle.ivy_memory.specs.stated.Memories.{NodeMemory, first_reply, reply_of, reply_there, reply_at, taken_out, answered, needed}
-use Rattle.ivy_memory.specs.stated.Beside.{Beside, nothing_beside, gives_reply}
-use Rattle.ivy_memory.proofs.keeping.WellBehaved.{without-sound}
+use Rattle.ivy_memory.specs.stated.Beside.{Beside, gives_reply}
+use Rattle.ivy_host.specs.stated.Fetches.{Fetches}
 use Rattle.ivy_host.specs.stated.Hosts.{Host, number_of, recorded, begins_as, serving}
 use Rattle.ivy_memory.proofs.serving.Pages.{is_of_pages, no_heap_request_of}
 use Rattle.ivy_host.proofs.Pages.{page_serving}
 use Rattle.ivy_host.specs.stated.Sound.{IsSoundHost}
-use Rattle.proof_worlds.proofs.refinement.LiftedEvents.{WaitsAt, CarriesAll, SameRest, Tells, quiet, answers as is_answered, Starts, busy, hits, waits}
-use Rattle.proof_worlds.proofs.refinement.HostTurns.{asks as access, HostTurn, answers, tries_again, goes_on, refuses, asks_for, serves_heap, asks_heap, made_along, taken-heap_request, without_call}
-use Rattle.proof_worlds.proofs.refinement.HostTurns.{number_of as number_of_call}
-use Rattle.proof_worlds.proofs.consistency.Beside.{along-kept, along-more, beside-words, beside-prompt, beside-asks}
-use Rattle.ivy_program.proofs.running.Along.{asks_along}
-use Rattle.proof_worlds.proofs.refinement.LiftedHosts.{TurnTells}
+use Rattle.proof_worlds.proofs.refinement.LiftedEvents.{WaitsAt, CarriesAll, SameRest, Tells, quiet, answers as is_answered, Starts, busy, hits, waits, otherwise}
+use Rattle.proof_worlds.proofs.refinement.HostTurns.{asks as access, taken-heap_request}
+use Rattle.proof_worlds.proofs.consistency.Beside.{along-kept, along-more}
 use Rattle.ivy_memory.specs.Flat.{Answers}
-use Rattle.ivy_memory.proofs.serving.CallsServed.{refusal_served}
-use Rattle.proof_worlds.proofs.consistency.HeapServed.{memory_told, heap_served}
 use Rattle.proof_worlds.proofs.consistency.CarriedWords.{Copies, Came, came, CameAll, came_all, have-replies}
 use Rattle.proof_worlds.specs.consistency.Alone.{IsAlone, AreAlone}
 use Rattle.proof_worlds.proofs.consistency.Alone.{carries_alone, owed_alone, along_alone}
 use Rattle.proof_worlds.proofs.consistency.Owing.{owed, reply_owed, pending, told-owed, owed-unasked}
 use Rattle.proof_worlds.proofs.consistency.Owing.{owed-untold, owed-leads, owed-own, owed-other}
-use Rattle.proof_worlds.proofs.consistency.Owing.{owed_then, owed_along, along_owed, untold-along, then-alone, then-untold, none_pending, along-own, along-other, reply-given, IsReply, HaveReplies, AreWordsOf, taken_history, taken-pending, taken-running}
+use Rattle.proof_worlds.proofs.consistency.Owing.{owed_then, owed_along, along_owed, then-alone, then-untold, none_pending, along-own, along-other, reply-given, IsReply, HaveReplies, AreWordsOf, taken_history, taken-pending, taken-running}
 use Rattle.proof_worlds.proofs.consistency.Owing.{served_history, owing_history, IsWordOf, IsRunning, GoOn}
-use Rattle.proof_worlds.proofs.consistency.Owing.{blocks_stay, blocks_change, Adds}
+use Rattle.proof_worlds.proofs.consistency.Owing.{blocks_stay, Adds}
 use Rattle.proof_worlds.proofs.consistency.Adjacent.{none_together, added_together, grown_together, later_together}
 
 -- a program's calls are legal
@@ -85,7 +78,7 @@ module _ {S : Type 0} (ops : Ops S) (c : Config) (config : IsConfig c) (was : �
   here : number_of n < c.nodes
   here = subst (λ k. number_of n < k.nodes) good.config good.memory.coherent.here
 
-  same_pages : (flat : ℕ → List ℕ) → flat ≡ f → (p : ℕ) → p < c.pages → flat p ≡ flat_page c mem p
+  pub same_pages : (flat : ℕ → List ℕ) → flat ≡ f → (p : ℕ) → p < c.pages → flat p ≡ flat_page c mem p
   same_pages flat same p inside = ap (λ g. g p) same ∙ shows p inside
 
   -- node 0 was asked for nothing where no call is in progress, where that is one of a word, and
@@ -187,7 +180,7 @@ module _ {S : Type 0} (ops : Ops S) (c : Config) (config : IsConfig c) (was : �
   replied_free r None None is done there = absurd (none-some r there)
 
   -- the reply of the call in progress is recorded
-  records_reply : (called : Call) (r : Reply) → n.memory.asked ≡ Some called
+  pub records_reply : (called : Call) (r : Reply) → n.memory.asked ≡ Some called
       → reply_at n.memory ≡ Some r → (flat : ℕ → List ℕ) → flat ≡ f
       → Adds c was mem x n (recorded n (taken_out n.memory) called r) ms flat
   records_reply called r asked there flat same =
@@ -217,7 +210,7 @@ module _ {S : Type 0} (ops : Ops S) (c : Config) (config : IsConfig c) (was : �
       (ap (λ (z : HeapSide). z.heap) (taken-heap_request n.memory n.memory.along))
 
   -- the program goes on by itself
-  goes_alone : (s : State) → n.memory.asked ≡ None → step_of n.process ≡ Local s
+  pub goes_alone : (s : State) → n.memory.asked ≡ None → step_of n.process ≡ Local s
       → (flat : ℕ → List ℕ) → flat ≡ f
       → Adds c was mem x n (record n { process = at_state n.process s }) ms flat
   goes_alone s idle step flat same =
@@ -235,7 +228,7 @@ module _ {S : Type 0} (ops : Ops S) (c : Config) (config : IsConfig c) (was : �
       refl
 
   -- a call is answered at once: its record is the node's, and stands in the order
-  records_call : (m : NodeMemory S) (called : Call) (r : Reply) (new : model.Memory)
+  pub records_call : (m : NodeMemory S) (called : Call) (r : Reply) (new : model.Memory)
       → n.memory.asked ≡ None → step_of n.process ≡ Asks called → m.asked ≡ None → m.along ≡ []
       → m.coherence.locked ≡ None → Serves c mem called r new → (flat : ℕ → List ℕ)
       → ((p : ℕ) → p < c.pages → flat p ≡ flat_page c new p) → IsAlone c was (number_of n) called
@@ -323,7 +316,7 @@ module _ {S : Type 0} (ops : Ops S) (c : Config) (config : IsConfig c) (was : �
       (blocks_stay refl refl)
 
   -- node 0 is asked for a call of the heap
-  heap_request_waits : (called : Call) (k : HeapCall) (number : ℕ) (flat : ℕ → List ℕ) → flat ≡ f
+  pub heap_request_waits : (called : Call) (k : HeapCall) (number : ℕ) (flat : ℕ → List ℕ) → flat ≡ f
       → n.memory.asked ≡ None → step_of n.process ≡ Asks called → ms ≡ []
       → Adds c was mem x n
       (record n {
@@ -422,7 +415,7 @@ module _ {S : Type 0} (ops : Ops S) (c : Config) (config : IsConfig c) (was : �
         idle step refl refl (locked ∙ good.memory.locked idle) given flat pages alone
         (blocks_stay blocks refl))
 
-    starts_adds : (more : Beside) → AsksRow n.process (called ∷ more.calls)
+    pub starts_adds : (more : Beside) → AsksRow n.process (called ∷ more.calls)
         → AreWordsOf c page more.calls more.words → (more.calls ≡ []) ⊎ (gives_reply word ≡ true)
         → (e : Outcome (Host S)) (flat : ℕ → List ℕ) (number : ℕ)
         → begins_as n called
@@ -440,7 +433,7 @@ module _ {S : Type 0} (ops : Ops S) (c : Config) (config : IsConfig c) (was : �
         (sym (ap
         (λ d. begins_as n called (needed n.memory called more (length n.history + 1) begun_now d))
         needs) ∙ is)
-    starts_adds more asks are prompt e flat number is (waits needs same rest locked there) =
+    starts_adds more asks are prompt e flat number is (waits under needs same rest locked there) =
         let k : Coherent S = along more.words begun_now.after in
         let kept = along-kept more.words begun_now.after in
         subst (λ (z : Outcome (Host S)). Adds c was mem x n z.after ms flat)
@@ -465,7 +458,7 @@ module _ {S : Type 0} (ops : Ops S) (c : Config) (config : IsConfig c) (was : �
         (λ q w j lock waiting. (
         let at : page ≡ q = same_Some page q (sym locked ∙ sym kept.locked ∙ lock) in
         let one : word ≡ w =
-        one_word (entry_at begun_now.after.table page) word w number j there
+        one_word (entry_at begun_now.after.table page) word w under j there
         (subst (λ r. WaitsAt (entry_at begun_now.after.table r) w j) (sym at)
         (subst (λ t. WaitsAt (entry_at t q) w j) kept.table waiting)) in (
           subst (λ r. IsWordOf c called r w) at (subst (IsWordOf c called page) one of),
@@ -479,6 +472,72 @@ module _ {S : Type 0} (ops : Ops S) (c : Config) (config : IsConfig c) (was : �
         (sym (along-more more.words begun_now.after
         (rest.more ∙ good.memory.coherent.alone (good.memory.locked idle)))) are))
         (λ free. absurd (none-some page (sym free ∙ kept.locked ∙ locked))))
+    starts_adds more asks are prompt e flat number is (otherwise free lock needs after same) =
+        let locked : begun_now.after.locked ≡ n.memory.coherence.locked =
+        ap (λ (z : Coherent S). z.locked) after in
+        subst (λ (z : Outcome (Host S)). Adds c was mem x n z.after ms flat)
+        (same_Some
+        (record {
+          after =
+              record n {
+                memory =
+                    record n.memory {
+                      coherence = begun_now.after;
+                      asked = Some called;
+                      along = [];
+                      number = length n.history + 1;
+                    };
+              };
+          posted = begun_now.posted;
+        }) e
+        (sym (ap
+        (λ d. begins_as n called (needed n.memory called more (length n.history + 1) begun_now d))
+        needs) ∙ is))
+        (call_waits begun_now.after called [] flat idle (step, λ r. tt)
+        (ap (λ (z : Coherent S). z.done) after) (same_pages flat same)
+        (λ q w j at there. absurd
+        (none-some q (sym (good.memory.locked idle) ∙ sym locked ∙ at)))
+        (λ q at. absurd (none-some q (sym (good.memory.locked idle) ∙ sym locked ∙ at)))
+        (λ at. refl))
+
+  -- the node's coherence is this one then, and the call in progress waits for what it waited for
+  pub quiet_adds : (told : Coherent S) (fetches : Fetches) (flat : ℕ → List ℕ) → flat ≡ f
+      → told.me ≡ number_of n → SameRest n.memory.coherence told
+      → told.locked ≡ n.memory.coherence.locked
+      → ((q : ℕ) (word : Word) (number : ℕ) → n.memory.coherence.locked ≡ Some q
+      → WaitsAt (entry_at told.table q) word number
+      → WaitsAt (entry_at n.memory.coherence.table q) word number)
+      → Adds c was mem x n
+      (record n { memory = record n.memory { coherence = told }; fetches = fetches }) ms flat
+  quiet_adds told fetches flat same same_me rest locked waiting =
+      let now : Host S =
+      record n { memory = record n.memory { coherence = told }; fetches = fetches } in
+      let still : pending now ms ≡ pending n ms
+      = ap (λ me. owed me n.memory.asked (reply_owed n.memory.side.heap_request ms told.done)
+      ++ owed_then me n.memory.along told.done told.done_more) same_me
+      ∙ ap (λ d. owed (number_of n) n.memory.asked (reply_owed n.memory.side.heap_request ms d)
+      ++ owed_then (number_of n) n.memory.along d told.done_more) rest.done
+      ∙ ap (λ os. owed (number_of n) n.memory.asked
+      (reply_owed n.memory.side.heap_request ms n.memory.coherence.done)
+      ++ owed_then (number_of n) n.memory.along n.memory.coherence.done os) rest.done_more in
+      silent now flat same (ap (λ xs. n.history ++ xs) still) [] (sym still)
+      (record {
+        run = running.run;
+        makes = running.makes;
+        waits = λ called page word number asked lock there. running.waits called page word number
+            asked (sym locked ∙ lock) (waiting page word number (sym locked ∙ lock) there);
+        waits_along = λ page lock.
+            subst (AreWordsOf c page n.memory.along) (sym rest.more)
+            (running.waits_along page (sym locked ∙ lock));
+        prompt = λ page word number lock there. running.prompt page word number
+            (sym locked ∙ lock) (waiting page word number (sym locked ∙ lock) there);
+        idle = λ lock done. running.idle (sym locked ∙ lock) (sym rest.done ∙ done);
+        told = λ o done.
+            subst (λ os. (n.memory.along ≡ []) ⊎ (IsReply o × HaveReplies n.memory.along os))
+            (sym rest.done_more) (running.told o (sym rest.done ∙ done));
+      })
+      refl
+      refl
 
   -- a message
   module _ (source : ℕ) (m : Message) where
@@ -490,39 +549,6 @@ module _ {S : Type 0} (ops : Ops S) (c : Config) (config : IsConfig c) (was : �
 
     same_me : told.me ≡ number_of n
     same_me = (handled-same ops n.memory.coherence source m).me
-
-    quiet_adds : (flat : ℕ → List ℕ) → flat ≡ f → SameRest n.memory.coherence told
-        → told.locked ≡ n.memory.coherence.locked
-        → ((q : ℕ) (word : Word) (number : ℕ) → WaitsAt (entry_at told.table q) word number
-        → WaitsAt (entry_at n.memory.coherence.table q) word number)
-        → Adds c was mem x n told_host ms flat
-    quiet_adds flat same rest locked waiting =
-        let still : pending told_host ms ≡ pending n ms
-        = ap (λ me. owed me n.memory.asked (reply_owed n.memory.side.heap_request ms told.done)
-        ++ owed_then me n.memory.along told.done told.done_more) same_me
-        ∙ ap (λ d. owed (number_of n) n.memory.asked (reply_owed n.memory.side.heap_request ms d)
-        ++ owed_then (number_of n) n.memory.along d told.done_more) rest.done
-        ∙ ap (λ os. owed (number_of n) n.memory.asked
-        (reply_owed n.memory.side.heap_request ms n.memory.coherence.done)
-        ++ owed_then (number_of n) n.memory.along n.memory.coherence.done os) rest.done_more in
-        silent told_host flat same (ap (λ xs. n.history ++ xs) still) [] (sym still)
-        (record {
-          run = running.run;
-          makes = running.makes;
-          waits = λ called page word number asked lock there. running.waits called page word number
-              asked (sym locked ∙ lock) (waiting page word number there);
-          waits_along = λ page lock.
-              subst (AreWordsOf c page n.memory.along) (sym rest.more)
-              (running.waits_along page (sym locked ∙ lock));
-          prompt = λ page word number lock there. running.prompt page word number
-              (sym locked ∙ lock) (waiting page word number there);
-          idle = λ lock done. running.idle (sym locked ∙ lock) (sym rest.done ∙ done);
-          told = λ o done.
-              subst (λ os. (n.memory.along ≡ []) ⊎ (IsReply o × HaveReplies n.memory.along os))
-              (sym rest.done_more) (running.told o (sym rest.done ∙ done));
-        })
-        refl
-        refl
 
     -- the word that waited is carried out, and those that waited along
     answer_adds : (flat : ℕ → List ℕ) (page : ℕ) (word : Word) (number : ℕ) (out : Out)
@@ -623,7 +649,9 @@ module _ {S : Type 0} (ops : Ops S) (c : Config) (config : IsConfig c) (was : �
 
     told_adds : (flat : ℕ → List ℕ) → Tells (Copies {S = S} c) was c x f n.memory.coherence told flat
         → Adds c was mem x n told_host ms flat
-    told_adds flat (quiet same rest locked waiting) = quiet_adds flat same rest locked waiting
+    told_adds flat (quiet same rest locked waiting) =
+        quiet_adds told n.fetches flat same same_me rest locked
+        (λ q word number lock. waiting q word number)
     told_adds flat (is_answered page word number out lock there free none done carries) =
         answer_adds flat page word number out n.memory.asked refl lock there free done carries
 
@@ -633,137 +661,3 @@ module _ {S : Type 0} (ops : Ops S) (c : Config) (config : IsConfig c) (was : �
     message_adds about flat tells =
         subst (λ (z : Outcome (Host S)). Adds c was mem x n z.after ms flat)
         (sym (page_serving ops n source m about)) (told_adds flat tells)
-
--- the call in progress begins anew, as its word was not carried out or gave no reply
-again_adds : {S : Type 0} (c : Config) (was : ℕ → ℕ → Entry) (mem : model.Memory) (x : ℕ)
-    (n n' : Host S) (ms : List Message) (flat : ℕ → List ℕ)
-    → reply_owed n.memory.side.heap_request ms n.memory.coherence.done ≡ None → along_owed n ≡ []
-    → Adds c was mem x (without_call n) n' ms flat → Adds c was mem x n n' ms flat
-again_adds c was mem x n n' ms flat untold alone a = record {
-  more = a.more;
-  new = a.new;
-  legal = a.legal;
-  shows = a.shows;
-  own = a.own;
-  other = a.other;
-  alone = a.alone;
-  history =
-      a.history
-      ∙ ap (λ xs. (n.history ++ xs) ++ a.more)
-      (sym (none_pending _ (along_owed n)
-      (owed-untold (number_of n) n.memory.asked
-      (reply_owed n.memory.side.heap_request ms n.memory.coherence.done) untold) alone));
-  together = λ order s. a.together order (none_together order);
-  running = a.running;
-  program = a.program;
-  blocks = a.blocks;
-}
-
-module _ {S : Type 0} (ops : Ops S) (c : Config) (config : IsConfig c) (was : ℕ → ℕ → Entry) (x : ℕ)
-    (mem : model.Memory) (sized : IsSized c mem) (f : ℕ → List ℕ)
-    (shows : (p : ℕ) → p < c.pages → f p ≡ flat_page c mem p)
-    (n : Host S) (good : IsSoundHost ops c x n) (running : IsRunning c n) (ms : List Message)
-    (blocks : (h : HeapState) → n.memory.side.heap ≡ Some h → h.blocks ≡ mem.blocks)
-    (way : n.memory.side.heap ≡ None → n.memory.side.heap_request ≡ None → ms ≡ []) where
-  -- without its call in progress, where no word waits, the node is sound, and its program runs
-  good_without : n.memory.coherence.locked ≡ None → IsSoundHost ops c x (without_call n)
-  good_without free = record {
-    memory = without-sound n.memory good.memory free;
-    config = good.config;
-    me = good.me;
-    asking = λ called is. absurd (none-some called is);
-    numbered = λ called is. absurd (none-some called is);
-  }
-
-  -- of those made along none is owed then either
-  none_along : n.memory.side.heap_request ≡ None → reply_at n.memory ≡ None → along_owed n ≡ []
-  none_along none untold =
-      untold-along c n running
-      (sym (ap (λ e. first_reply (reply_told e) (reply_there n.memory.coherence.done)) none) ∙ untold)
-
-  running_without : n.memory.coherence.locked ≡ None → IsRunning c (without_call n)
-  running_without free = record {
-    run = running.run;
-    makes = λ called is. absurd (none-some called is);
-    waits = λ called page word number is. absurd (none-some called is);
-    waits_along = λ page lock. absurd (none-some page (sym free ∙ lock));
-    prompt = λ page word number lock. absurd (none-some page (sym free ∙ lock));
-    idle = λ lock done. refl;
-    told = λ o done. inl refl;
-  }
-
-  -- where no reply is there, and the call in progress is one of a word, none is owed
-  none_owed : (called : Call) (page : ℕ) (word : Word) → n.memory.asked ≡ Some called
-      → asked_of n.memory.coherence.config called ≡ kinds.Word page word → reply_at n.memory ≡ None
-      → reply_owed n.memory.side.heap_request ms n.memory.coherence.done ≡ None
-  none_owed called page word asked of untold =
-      let none : n.memory.side.heap_request ≡ None =
-      word_heap_request ops c config was x mem sized f shows n good running ms called page word asked
-      of in
-      ap (λ e. reply_owed e ms n.memory.coherence.done) none
-      ∙ sym (ap (λ e. first_reply (reply_told e) (reply_there n.memory.coherence.done)) none)
-      ∙ untold
-
-  same_flat : (flat : ℕ → List ℕ) → flat ≡ f → (p : ℕ) → p < c.pages → flat p ≡ flat_page c mem p
-  same_flat = same_pages ops c config was x mem sized f shows n good running ms
-
-  -- a turn
-  pub turn_adds : (e : Outcome (Host S)) (turn : HostTurn ops c n e) (flat : ℕ → List ℕ)
-      → TurnTells (Copies {S = S} c) was c x f n e turn flat → Adds c was mem x n e.after ms flat
-  turn_adds e (answers called r asked there is) flat tells =
-      subst (λ (z : Outcome (Host S)). Adds c was mem x n z.after ms flat) (sym is)
-      (records_reply ops c config was x mem sized f shows n good running ms called r asked there
-      flat tells)
-  turn_adds e (tries_again called page word asked untold free of inside lies is) flat tells =
-      again_adds c was mem x n e.after ms flat (none_owed called page word asked of untold)
-      (none_along
-      (word_heap_request ops c config was x mem sized f shows n good running ms called page word asked of)
-      untold)
-      (starts_adds ops c config was x mem sized f shows (without_call n) (good_without free)
-      (running_without free) ms called page word refl (running.makes called asked).0
-      (subst (λ k. IsWordOf k called page word) good.config of) nothing_beside
-      ((running.makes called asked).0, λ r. tt) tt (inl refl) e flat (length n.history + 1) is
-      tells)
-  turn_adds e (goes_on s idle step is) flat tells =
-      subst (λ (z : Outcome (Host S)). Adds c was mem x n z.after ms flat) (sym is)
-      (goes_alone ops c config was x mem sized f shows n good running ms s idle step flat tells)
-  turn_adds e (refuses called code idle step refusal is) flat tells =
-      subst (λ (z : Outcome (Host S)). Adds c was mem x n z.after ms flat) (sym is)
-      (records_call ops c config was x mem sized f shows n good running ms n.memory called
-      (reply.Refused code) mem idle step idle (good.memory.alone idle) (good.memory.locked idle)
-      (refusal_served c mem sized called code
-      (subst (λ k. asked_of k called ≡ kinds.Refused code) good.config refusal)) flat
-      (same_flat flat tells)
-      (λ page word is j ne.
-      (let two : kinds.Refused code ≡ kinds.Word page word =
-      sym (subst (λ k. asked_of k called ≡ kinds.Refused code) good.config refusal) ∙ is in absurd cc))
-      (blocks_stay refl refl))
-  turn_adds e (asks_for called page word idle step of inside lies few is) flat tells =
-      starts_adds ops c config was x mem sized f shows n good running ms called page word idle step
-      (subst (λ k. IsWordOf k called page word) good.config of) (made_along n page word)
-      (beside-asks n.memory.coherence.config page word n.process called (along_of n.process)
-      (number_of_call n) (asks_along n.process called step))
-      (subst (λ k. AreWordsOf k page (made_along n page word).calls (made_along n page word).words)
-      good.config
-      (beside-words n.memory.coherence.config page word (along_of n.process) (number_of_call n)))
-      (beside-prompt n.memory.coherence.config page word (along_of n.process) (number_of_call n))
-      e flat (length n.history + 1) is tells
-  turn_adds e (serves_heap called k heap idle step of there is) flat tells =
-      subst (λ (z : Outcome (Host S)). Adds c was mem x n z.after ms flat) (sym is)
-      (records_call ops c config was x mem sized f shows n good running ms
-      (record n.memory { side = kept n.memory.side heap (told_of heap k) }) called
-      (told_of heap k).reply (memory_told mem heap k) idle step idle (good.memory.alone idle)
-      (good.memory.locked idle)
-      (heap_served c mem heap ((good.memory.side.home heap there).0 ∙ good.config)
-      (blocks heap there) called k
-      (subst (λ d. asked_of d called ≡ kinds.Heap k) good.config of)) flat
-      (same_flat flat tells)
-      (λ page word is j ne.
-      (let two : kinds.Heap k ≡ kinds.Word page word =
-      sym (subst (λ d. asked_of d called ≡ kinds.Heap k) good.config of) ∙ is in absurd cc))
-      (blocks_change heap (told_of heap k) there refl refl))
-  turn_adds e (asks_heap called k idle step of away is) flat tells =
-      subst (λ (z : Outcome (Host S)). Adds c was mem x n z.after ms flat) (sym is)
-      (heap_request_waits ops c config was x mem sized f shows n good running ms called k
-      (length n.history + 1) flat tells idle step
-      (way away (idle_heap_request ops c config was x mem sized f shows n good running ms idle)))

@@ -28,7 +28,8 @@ use Rattle.ivy_alloc.specs.stated.HeapCalls.{reply_told}
 use Rattle.ivy_host.specs.stated.Hosts.{Host, number_of, answered_by, begins_as, serving, host_rules}
 use Rattle.ivy_host.specs.stated.Sound.{IsSoundHost}
 use Rattle.proof_worlds.specs.stated.HeapRequests.{heap_way}
-use Rattle.proof_worlds.proofs.refinement.HostTurns.{HostTurn, answers, tries_again, goes_on, refuses, asks_for, serves_heap, asks_heap, turn_cases, asks, without_call}
+use Rattle.proof_worlds.proofs.refinement.HostTurns.{HostTurn, answers, tries_again, goes_on, refuses, asks_for, serves_heap, asks_heap, carries_fetch, turn_cases, asks, without_call}
+use Rattle.proof_worlds.proofs.refinement.FetchTurns.{carried-leaves}
 use Rattle.proof_worlds.proofs.refinement.HostTurns as turns_of
 use Rattle.proof_worlds.proofs.consistency.Adjacent.{none_together, grown_together}
 use Rattle.proof_worlds.proofs.consistency.OwedCalls.{pending-calls}
@@ -140,8 +141,8 @@ module _ {S : Type 0} (ops : Ops S) (c : Config) where
       ∙ append-nil w.node.history ∙ ap (λ (x : Answered). x.history) w.same)
   untorn o order f i a (inr s) = inr s
 
--- A turn of a node with a call in progress, of which nothing is owed to it: it leaves the node as it
--- is, or the call, made alone, is answered.
+-- A turn of a node with a call in progress, of which nothing is owed to it: it leaves what the node
+-- was answered and has in progress, or the call, made alone, is answered.
 
 abbrev IsAnswered : {S : Type 0} → Host S → Call → Host S → Type 0
 IsAnswered n called n' = (r : Record) × (r.call ≡ called) × (n'.history ≡ n.history ++ r ∷ [])
@@ -154,9 +155,9 @@ module _ {S : Type 0} (ops : Ops S) (c : Config) (i : ℕ) (n : Host S) (called 
     (asked : n.memory.asked ≡ Some called) (good : IsSoundHost ops c i n) (running : IsRunning c n)
     (out : Outcome (Host S)) where
   abbrev Leaves : Type 0
-  Leaves = (n.memory.along ≡ []) × (((out.after.history ≡ n.history)
-      × (out.after.memory.asked ≡ Some called) × (out.after.memory.along ≡ []))
-      ⊎ IsAnswered n called out.after)
+  Leaves = ((out.after.history ≡ n.history) × (out.after.memory.asked ≡ Some called)
+      × (out.after.memory.along ≡ n.memory.along))
+      ⊎ ((n.memory.along ≡ []) × IsAnswered n called out.after)
 
   -- where it is tried again nothing was made along with it
   alone-as : (d : Option Out) → n.memory.coherence.done ≡ d → n.memory.coherence.locked ≡ None
@@ -173,18 +174,17 @@ module _ {S : Type 0} (ops : Ops S) (c : Config) (i : ℕ) (n : Host S) (called 
       → begins_as (without_call n) called (answered (without_call n).memory called number b r)
       ≡ Some out → Leaves
   had b None number alone is =
-      let e = sym (same_Some _ out is) in (
-        alone,
-        inl (
-          ap (λ (z : Outcome (Host S)). z.after.history) e,
-          ap (λ (z : Outcome (Host S)). z.after.memory.asked) e,
-          ap (λ (z : Outcome (Host S)). z.after.memory.along) e,
-        ),
+      let e = sym (same_Some _ out is) in
+      inl (
+        ap (λ (z : Outcome (Host S)). z.after.history) e,
+        ap (λ (z : Outcome (Host S)). z.after.memory.asked) e,
+        ap (λ (z : Outcome (Host S)). z.after.memory.along) e ∙ sym alone,
       )
   had b (Some r) number alone is =
-      let e = sym (same_Some _ out is) in (
+      let e = sym (same_Some _ out is) in
+      inr (
         alone,
-        inr (
+        (
           record { node = number_of n; call = called; reply = r },
           refl,
           ap (λ (z : Outcome (Host S)). z.after.history) e,
@@ -196,15 +196,20 @@ module _ {S : Type 0} (ops : Ops S) (c : Config) (i : ℕ) (n : Host S) (called 
       (needed (without_call n).memory called nothing_beside number b d) ≡ Some out → Leaves
   needs b (need.Have o) number alone is = had b (reply_of o) number alone is
   needs b need.Started number alone is =
-      let e = sym (same_Some _ out is) in (
-        alone,
-        inl (
-          ap (λ (z : Outcome (Host S)). z.after.history) e,
-          ap (λ (z : Outcome (Host S)). z.after.memory.asked) e,
-          ap (λ (z : Outcome (Host S)). z.after.memory.along) e,
-        ),
+      let e = sym (same_Some _ out is) in
+      inl (
+        ap (λ (z : Outcome (Host S)). z.after.history) e,
+        ap (λ (z : Outcome (Host S)). z.after.memory.asked) e,
+        ap (λ (z : Outcome (Host S)). z.after.memory.along) e ∙ sym alone,
       )
   needs b need.Busy number alone is = absurd (none-some out is)
+  needs b need.Fetched number alone is =
+      let e = sym (same_Some _ out is) in
+      inl (
+        ap (λ (z : Outcome (Host S)). z.after.history) e,
+        ap (λ (z : Outcome (Host S)). z.after.memory.asked) e,
+        ap (λ (z : Outcome (Host S)). z.after.memory.along) e ∙ sym alone,
+      )
 
   leaves : (ms : List Message) → pending n ms ≡ [] → HostTurn ops c n out → Leaves
   leaves ms none (answers k r there told is) =
@@ -234,6 +239,13 @@ module _ {S : Type 0} (ops : Ops S) (c : Config) (i : ℕ) (n : Host S) (called 
       absurd (none-some called (sym idle ∙ asked))
   leaves ms none (asks_heap k heap idle step of away is) =
       absurd (none-some called (sym idle ∙ asked))
+  leaves ms none (carries_fetch fetch next is) =
+      let left = carried-leaves ops n fetch good.memory.coherent in
+      inl (
+        ap (λ (z : Outcome (Host S)). z.after.history) is,
+        ap (λ (z : Outcome (Host S)). z.after.memory.asked) is ∙ left.asked ∙ asked,
+        ap (λ (z : Outcome (Host S)). z.after.memory.along) is ∙ left.along,
+      )
 
 -- A message leaves a node what it was answered, and what it has in progress.
 pub serve-keeps : {S : Type 0} (ops : Ops S) (n : Host S) (from : ℕ) (m : Message)
@@ -286,7 +298,7 @@ module _ {S : Type 0} {sends : Bool} (ops : Ops S) (c : Config) (o o' : FifoWorl
       (f.running i w.node w.there) out =
       leaves ops c i w.node w.call w.asked (f.sound.sound i w.node w.there)
       (f.running i w.node w.there) out (heap_way o 0 i) w.unowed turn in
-      elim l.1 [
+      elim l [
         | inl same ↦
             stayed out.after there
             (ap (λ h. record {
@@ -298,9 +310,9 @@ module _ {S : Type 0} {sends : Bool} (ops : Ops S) (c : Config) (o o' : FifoWorl
               asked = in_progress k out.after.memory.along;
             }) (same.1 ∙ sym w.asked)
             ∙ ap (λ ks. record { history = w.node.history; asked = in_progress w.node.memory.asked ks })
-            (same.2 ∙ sym l.0)
+            same.2
             ∙ w.same)
-        | inr done ↦ answered_alone w out.after there l.0 done
+        | inr done ↦ answered_alone w out.after there done.0 done.1
       ]
 
   -- an event of this node, or of another one

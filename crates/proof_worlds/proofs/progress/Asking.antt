@@ -15,12 +15,14 @@ use Rattle.ivy_alloc.specs.declared.CallProgress.TheVariants.{Given, Awaited, Un
 use Rattle.ivy_memory.specs.declared.Asked.{Asked}
 use Rattle.ivy_memory.specs.declared.Asked.TheVariants as kinds
 use Rattle.ivy_memory.specs.stated.Asking.{asked_of}
-use Rattle.ivy_memory.specs.stated.Memories.{NodeMemory, CallBegun, begun_as, call_begun, polled}
+use Rattle.ivy_memory.specs.stated.Memories.{NodeMemory, CallBegun, MemoryFetch, begun_as, call_begun, polled}
 use Rattle.ivy_memory.proofs.keeping.Polling.{polled-begun}
 use Rattle.ivy_memory.proofs.keeping.Same.{told-asked}
 use Rattle.ivy_memory.proofs.keeping.Begun.{call-begun, begun-one, begun-next}
 use Rattle.ivy_memory.specs.stated.Sound.{IsWordOfPage}
-use Rattle.ivy_host.specs.stated.Hosts.{Host, recorded, quietly, begins_with, begins_as, steps, turned_at, turn_of, serving}
+use Rattle.ivy_host.proofs.Turns.{either_turn, either_fetch}
+use Rattle.ivy_host.specs.stated.Fetches.{HandedFetch}
+use Rattle.ivy_host.specs.stated.Hosts.{Host, recorded, quietly, begins_with, begins_as, steps, fetch_of, fetched_with, turned_at, turn_of, serving}
 
 -- the call, if there is one, is not refused at once
 abbrev pub IsServed : Config → Option Call → Type 0
@@ -115,11 +117,19 @@ module _ {S : Type 0} (ops : Ops S) (c : Config) where
       ]) is
   at-served n None o config words served at is = steps-served n (step_of n.process) o config at is
 
+  -- a fetch leaves the call in progress
+  fetched-served : (n : Host S) (f : HandedFetch) → IsServable c n
+      → IsServable c (fetched_with n (fetch_of ops n f)).after
+  fetched-served n f served =
+      either_fetch ops (λ (x : MemoryFetch S). IsServable c (fetched_with n x).after) n f served
+      (λ inside below. served)
+
   -- a turn keeps it
   pub turn-served : (n : Host S) (o : Outcome (Host S)) → n.memory.coherence.config ≡ c
       → All (IsWordOfPage n.memory.coherence.config) n.memory.along → IsServable c n → turn_of ops n ≡ Some o → IsServable c o.after
-  unfolding turn_of
-  turn-served n o config words served is = at-served n n.memory.asked o config words served refl is
+  turn-served n o config words served is =
+      either_turn ops (λ (x : Outcome (Host S)). IsServable c x.after) n o
+      (at-served n n.memory.asked o config words served refl) (λ f. fetched-served n f served) is
 
   -- and so does a message
   pub serve-served : (n : Host S) (from : ℕ) (m : Message) → IsServable c n

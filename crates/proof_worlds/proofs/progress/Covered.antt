@@ -36,7 +36,7 @@ use Rattle.proof_table.proofs.routing.Owed.{IsOwed}
 use Rattle.proof_table.proofs.routing.OwedKept.{was_in}
 use Rattle.proof_table.proofs.routing.Remaining.{IsOnly, IsNothing, Remain, served_remain, begun_remain, freed_remain, installed_remain, taken_remain}
 use Rattle.proof_worlds.proofs.progress.Shares.{HasShare, has, IsOccupied, HasAccurateCopySets, IsShareOf, part_covered, share_stays, step_covered, stays_here}
-use Rattle.proof_worlds.proofs.progress.Sharing.{unmoved_covered, still_reads, given_up_covered, asked_covered, put_covered, only_no_share}
+use Rattle.proof_worlds.proofs.progress.Sharing.{joined_covered, unmoved_covered, still_reads, given_up_covered, asked_covered, put_covered, only_no_share}
 use Rattle.proof_worlds.proofs.progress.Giving.{sole_owner, empty_has, held_by, share_covered, give_covered}
 
 installed_covered : (n : Net) (x p : ℕ) (bytes : List ℕ) → HasAccurateCopySets n
@@ -304,6 +304,7 @@ module _ (c : Config) (config : IsConfig c) where
       (λ read. read)
   covered_by (Row.ends_copies r owner reader unwritten low out) order down owed after k =
       orders_covered c _ order k r owner unwritten after
+  covered_by (Row.joins r) order down owed after k = joined_covered c _ k r
 
 -- beside any claim under which nets are orderly, requests go down and whoever waits has its message
 pub covered-kept : {S : Type 0} {sends : Bool} (ops : Ops S) (c : Config) → IsConfig c → (Q : Claim S)

@@ -20,7 +20,8 @@ use Rattle.ivy_pagetable.specs.stated.Words.{carried_out}
 use Rattle.ivy_pagetable.specs.stated.Manager.{Ops}
 use Rattle.ivy_coherence.specs.stated.Several.{all_carried}
 use Rattle.ivy_coherence.specs.stated.Coherent.{Coherent}
-use Rattle.ivy_coherence.specs.stated.MessageSteps.{CoherenceEffect, is_none, is_order, copy_reply, sending, breach, unlocked, put_by, put_aside, sent_on}
+use Rattle.ivy_coherence.specs.stated.MessageSteps.{CoherenceEffect, is_none, is_order, copy_reply, sending, breach, word_unlocked, fetch_unlocked, unlocked, put_by, put_aside, sent_on}
+use Rattle.ivy_coherence.proofs.keeping.Fetched.{unlocked_by}
 use Rattle.ivy_coherence.specs.stated.MessageSteps.{asked, asked_reader, copy_came, owned_with}
 use Rattle.ivy_coherence.specs.stated.MessageSteps.{page_came, left_with, still_collecting, collected, acknowledged, after_serving, handled, handled_as}
 use Rattle.ivy_coherence.proofs.keeping.Changing.{entry_with}
@@ -107,15 +108,25 @@ module _ {S : Type 0} (ops : Ops S) (lost : ℕ) (k : Coherent S) (p : ℕ) wher
         → put_offs before ≡ s.put_off
         → Does origin call body (unlocked ops k from p idle reply bytes s)
     unlocked_does from idle reply bytes s origin call body free is =
-        less_does origin call body (unlocked ops k from p idle reply bytes s) (entry.Idle _)
-        (here _) (there _)
+        unlocked_by ops (Does origin call body) k from p idle reply bytes s
+        (λ lock. less_does origin call body (word_unlocked ops k from p idle reply bytes s)
+        (entry.Idle _) (here _) (there _)
         (let a =
         all_served_work ops lost k.me p (all_carried k.more (carried_out s.word bytes).bytes).bytes
         (serving idle (told ops from p k.manager reply) k.breaches []) s.put_off in
         let b : 1 ≤ heavy_of lost body = work_some lost body in
         let d : work_put lost p (put_offs before) ≡ work_put lost p s.put_off =
         ap (work_put lost p) is in
-        omega (arith, a, b, d, free))
+        omega (arith, a, b, d, free)))
+        (λ elsewhere. less_does origin call body (fetch_unlocked ops k from p idle reply bytes s)
+        (entry.Idle _) (here _) (there _)
+        (let a =
+        all_served_work ops lost k.me p bytes
+        (serving idle (told ops from p k.manager reply) k.breaches []) s.put_off in
+        let b : 1 ≤ heavy_of lost body = work_some lost body in
+        let d : work_put lost p (put_offs before) ≡ work_put lost p s.put_off =
+        ap (work_put lost p) is in
+        omega (arith, a, b, d, free)))
 
     -- it is put off
     put_does : (q : PutOff) (e : Entry) → before ≡ e

@@ -49,9 +49,10 @@ use Rattle.proof_worlds.proofs.consistency.Owing.{owed, reply_owed, along_owed, 
 use Rattle.proof_worlds.proofs.consistency.OwedCalls.{pending-calls}
 use Rattle.proof_worlds.specs.progress.Answering.{AreAllDelivered}
 use Rattle.proof_worlds.specs.stated.Settled.{HasNoAnswer, AreSettled}
-use Rattle.proof_worlds.specs.stated.Unblocked.{IsAnsweredNext, AsksForCountsNext, Stands, waits, replied, reached, AreUnblocked}
+use Rattle.proof_worlds.specs.stated.Unblocked.{IsHanded, IsAnsweredNext, AsksForCountsNext, IsDoneNext, Stands, waits, replied, reached, tried, AreUnblocked}
+use Rattle.proof_worlds.proofs.progress.Pursued.{IsPlain}
 use Rattle.proof_worlds.proofs.progress.Reached.{IsToldBy}
-use Rattle.proof_worlds.proofs.progress.Stopped.{IsAwait, await_is, replied_turn, await_answered, await_asks}
+use Rattle.proof_worlds.proofs.progress.Stopped.{IsAwait, await_is, replied_turn, await_answered, await_asks, word_turn}
 use Rattle.proof_worlds.proofs.progress.Unlocked.{IsAtRest}
 
 -- where all messages were delivered
@@ -204,6 +205,25 @@ module _ {S : Type 0} {sends : Bool} (ops : Ops S) (c : Config) (config : IsConf
             (heap_way o 0 i) (no_heap_request_way o all i 0) (no_heap_request_way o all 0 i) for
             (sound.heap_requests.each i n away there) untold.0
 
+        -- a word of a page is owed no record
+        none_owed : (page : ℕ) (w : Word) → asked_of c called ≡ kinds.Word page w
+            → pending n (heap_way o 0 i) ≡ []
+        none_owed page w of =
+            let heap_requests : n.memory.side.heap_request ≡ None =
+            no_heap_request_of n.memory.coherence.config n.memory.asked n.memory.side.heap_request
+            (λ k at h heap. absurd (
+            let f : kinds.Word page w ≡ kinds.Heap h =
+            sym of ∙ ap (λ d. asked_of d called) (sym good.config)
+            ∙ ap (asked_of n.memory.coherence.config) (same_Some called k (sym asked ∙ at)) ∙ heap
+            in cc
+            )) good.memory.side.heap_request in
+            none_pending _ (along_owed n)
+            (owed-untold (number_of n) n.memory.asked
+            (reply_owed n.memory.side.heap_request (heap_way o 0 i) n.memory.coherence.done)
+            (ap (λ e. reply_owed e (heap_way o 0 i) n.memory.coherence.done) heap_requests
+            ∙ untold.1))
+            (untold-along c n running untold.1)
+
         -- it is an await
         module _ (page offset least : ℕ)
             (of : asked_of c called ≡ kinds.Word page (word.Await offset least)) where
@@ -217,23 +237,6 @@ module _ {S : Type 0} {sends : Bool} (ops : Ops S) (c : Config) (config : IsConf
           await_alone =
               ap (λ a. in_progress a n.memory.along) asks_await
               ∙ ap (λ ks. Await await.count least ∷ ks) alone
-
-          -- no record is owed
-          none_owed : pending n (heap_way o 0 i) ≡ []
-          none_owed =
-              let heap_requests : n.memory.side.heap_request ≡ None =
-              no_heap_request_of n.memory.coherence.config n.memory.asked n.memory.side.heap_request
-              (λ k at h heap. absurd (
-              let f : kinds.Word page (word.Await offset least) ≡ kinds.Heap h =
-              sym of ∙ ap (λ d. asked_of d called) (sym good.config)
-              ∙ ap (asked_of n.memory.coherence.config) (same_Some called k (sym asked ∙ at)) ∙ heap
-              in cc
-              )) good.memory.side.heap_request in
-              none_pending _ (along_owed n)
-              (owed-untold (number_of n) n.memory.asked
-              (reply_owed n.memory.side.heap_request (heap_way o 0 i) n.memory.coherence.done)
-              (ap (λ e. reply_owed e (heap_way o 0 i) n.memory.coherence.done) heap_requests ∙ untold.1))
-              (untold-along c n running untold.1)
 
           -- a copy that the node may read has the count of the flat memory
           same_count : (v : ℕ) → slice_get memory.counts await.count ≡ Some v
@@ -299,11 +302,12 @@ module _ {S : Type 0} {sends : Bool} (ops : Ops S) (c : Config) (config : IsConf
             counted_stands false few =
                 waits
                 (subst (HasNoAnswer memory) (sym await_alone)
-                (count, counted, leb-false least count few)) (part_whole none_owed)
+                (count, counted, leb-false least count few))
+                (part_whole (none_owed page (word.Await offset least) of))
             counted_stands true enough =
                 reached await.count least count asks_await counted (leb-true least count enough)
                 (next_at enough (entry_at n.memory.coherence.table page) refl)
-                (part_whole none_owed)
+                (part_whole (none_owed page (word.Await offset least) of))
 
           await_stands : Stands ops i n order memory
           await_stands = elim (slice_get_cases memory.counts await.count).1 [
@@ -313,23 +317,61 @@ module _ {S : Type 0} {sends : Bool} (ops : Ops S) (c : Config) (config : IsConf
                 omega (arith, a, b, d))
           ]
 
-        -- whatever else asks for a word of a page would wait for it, or have the reply
-        word_stands : (page : ℕ) (w : Word) → asked_of c called ≡ kinds.Word page w
-            → Stands ops i n order memory
+        -- whatever else asks for a word of a page would wait for it, or have the reply, unless the
+        -- page was handed
+        tried_stands : (page : ℕ) (w : Word) → asked_of c called ≡ kinds.Word page w → IsPlain w
+            → IsHanded n page → Stands ops i n order memory
+        tried_stands page w of plain handed =
+            tried called page w asked (ap (λ d. asked_of d called) good.config ∙ of) handed
+            (by_entry (entry_at n.memory.coherence.table page) refl)
+            (part_whole (none_owed page w of))
+          where
+            by_idle : (s : IdleState) → entry_at n.memory.coherence.table page ≡ entry.Idle s
+                → IsDoneNext ops i n called page
+            by_idle s at =
+                elim (word_turn ops n called asked c good.config none free page w of s at
+                (λ offset least e. subst IsPlain e plain)) [
+                  | inl t ↦ inl (
+                    t.1,
+                    record {
+                      after = t.0;
+                      turned = t.2;
+                      history = t.3 ∙ ap (λ k. n.history
+                          ++ record { node = k; call = called; reply = t.1 } ∷ []) good.me;
+                      idle = λ alone. t.4;
+                    },
+                  )
+                  | inr t ↦ inr t
+                ]
+
+            by_entry : (e : Entry) → entry_at n.memory.coherence.table page ≡ e
+                → IsDoneNext ops i n called page
+            by_entry (entry.Idle s) at = by_idle s at
+            by_entry (entry.AwaitRead s) at =
+                absurd (let f : true ≡ false = ap is_locked (sym at) ∙ idle page in cc)
+            by_entry (entry.AwaitWrite s) at =
+                absurd (let f : true ≡ false = ap is_locked (sym at) ∙ idle page in cc)
+            by_entry (entry.AwaitAcks s) at =
+                absurd (let f : true ≡ false = ap is_locked (sym at) ∙ idle page in cc)
+
+        word_stands : (page : ℕ) (w : Word) → asked_of c called ≡ kinds.Word page w → Stands ops i n order memory
         word_stands page (word.Await offset least) of = await_stands page offset least of
         word_stands page w of =
-            absurd (pursued i n there called page _ asked of tt free untold.1)
+            tried_stands page _ of tt
+            ((pursued i n there).pursued called page _ asked of tt free untold.1)
 
         untold_stands : (kind : Asked) → asked_of c called ≡ kind → Stands ops i n order memory
         untold_stands (kinds.Refused code) is = absurd (servable i n there called code asked is)
         untold_stands (kinds.Heap k) is = absurd (no_heap k is)
         untold_stands (kinds.Word page w) is = word_stands page w is
 
-      asked_stands : (r : Option Reply) → reply_at n.memory ≡ r → Stands ops i n order memory
+      asked_stands : (r : Option Reply) → reply_at n.memory ≡ r
+          → Stands ops i n order memory
       asked_stands (Some r) is = replied_stands r is
       asked_stands None is = untold_stands is (asked_of c called) refl
 
-    stands : (a : Option Call) → n.memory.asked ≡ a → Stands ops i n order memory
+    stands : (a : Option Call) → n.memory.asked ≡ a
+        → Stands ops i n order memory
     stands (Some called) is = asked_stands called is (reply_at n.memory) refl
     stands None is =
         waits (subst (HasNoAnswer memory) (sym (ap (λ a. in_progress a n.memory.along) is)) tt)
@@ -368,6 +410,10 @@ module _ {S : Type 0} (ops : Ops S) (c : Config) (nodes : List (Host S))
       absurd (no_answer i n (Await k least) (Value count) none next)
   left i n none (reached k least count asked there enough (inr next) whole) =
       absurd (none-some next.outcome (sym none ∙ next.turned))
+  left i n none (tried called page w asked of handed (inl next) whole) =
+      absurd (no_answer i n called next.0 none next.1)
+  left i n none (tried called page w asked of handed (inr next) whole) =
+      absurd (none-some next.0 (sym none ∙ next.1))
 
   pub unblocked_settled : AreSettled c (map (λ (n : Host S). answered_by n) nodes)
   unblocked_settled = record {

@@ -16,10 +16,13 @@ use Rattle.ivy_wire.specs.stated.Posts.{parcel_to}
 use Rattle.proof_table.specs.stated.Letters.{Letter, Net, Underway, Aside, content_of, letter_of}
 use Rattle.proof_table.specs.transitions.Letters.{goes_on}
 use Rattle.proof_table.specs.stated.Orderly.{reads, OwnerPlace, At, IsOwned, IsExpectedAs, IsOrderly}
-use Rattle.proof_table.specs.transitions.TableSteps.{letter, Served, Begins, PutsOff}
+use Rattle.proof_table.specs.transitions.TableSteps.{letter, Served, Begins, Joins, PutsOff}
 use Rattle.proof_table.proofs.transitions.Needs.{page_of, collects_owner}
 use Rattle.proof_table.proofs.transitions.Places.{served}
-use Rattle.proof_table.proofs.transitions.Parcels.{IsThe, answer_step, ask_step}
+use Rattle.proof_table.proofs.transitions.Parcels.{IsThe, IsNone, answer_step, ask_step, stay_step}
+use Rattle.proof_table.proofs.transitions.RowsJoined.{joined_still, joined_kept, joined_stays}
+use Rattle.ivy_coherence.specs.stated.Fetching.{joined_by}
+use Rattle.ivy_pagetable.specs.declared.Word.{Word}
 use Rattle.proof_table.proofs.transitions.RowsAsked.{put_same, put_no_page}
 use Rattle.proof_table.proofs.transitions.Sole.{first_fits, owned_here}
 use Rattle.proof_table.proofs.transitions.NetSteps.{IsStep}
@@ -203,6 +206,54 @@ module _ (c : Config) (n : Net) (k : HasAccurateCopySets n) (r : Begins c n) (z 
             (λ here q read. has (reads
             (ap (λ v. readable (asking_net.entry v p)) here ∙ ap readable asks.after
             ∙ reader read)))
+            (λ l gone. absurd gone) share);
+      }) k
+
+-- a word joins the fetch of its page
+joined_occupied : (e : Entry) (w : Word) → IsOccupied e → IsOccupied (joined_by e w)
+joined_occupied (entry.Idle s) w h = h
+joined_occupied (entry.AwaitRead s) w h = h
+joined_occupied (entry.AwaitWrite s) w h = h
+joined_occupied (entry.AwaitAcks s) w h = h
+
+joined_reads : (e : Entry) (w : Word) → readable (joined_by e w) ≡ readable e
+joined_reads (entry.Idle s) w = refl
+joined_reads (entry.AwaitRead s) w = refl
+joined_reads (entry.AwaitWrite s) w = refl
+joined_reads (entry.AwaitAcks s) w = refl
+
+module _ (c : Config) (n : Net) (k : HasAccurateCopySets n) (r : Joins c n) where
+  open r use {node as x, page as p, word as w, before as e, loose, is}
+
+  abbrev joined_net : Net
+  joined_net = goes_on n x p (joined_by e w) [] []
+
+  joins : IsStep n joined_net x p e (joined_by e w) served IsNone
+  joins = stay_step n x p e (joined_by e w) is (joined_kept e w)
+
+  joins_remain : Remain n joined_net IsNothing
+  joins_remain = begun_remain n x p e (joined_by e w) [] [] is loose (joined_stays e w)
+
+  pub joined_covered : HasAccurateCopySets joined_net
+  joined_covered =
+      step_covered n joined_net x p e (joined_by e w) served IsNone joins IsNothing joins_remain
+      (record {
+        about = λ l gone. absurd gone;
+        new_about = λ a l new. absurd new;
+        entry = joined_occupied e w (subst IsOccupied is (k.occupied x p));
+        here = stays_here n joined_net x p e (joined_by e w) served IsNone joins IsNothing
+            joins_remain
+            (record {
+              owner = λ q h. (joined_still e w).owner h;
+              moved = λ a l bits bytes new brings. new;
+            }) k
+            (λ i y s b h held share.
+            share_stays n joined_net x p e (joined_by e w) served IsNone joins IsNothing
+            joins_remain
+            i y p
+            (λ here q read. has (reads
+            (ap (λ v. readable (joined_net.entry v p)) here ∙ ap readable joins.after
+            ∙ joined_reads e w ∙ read)))
             (λ l gone. absurd gone) share);
       }) k
 

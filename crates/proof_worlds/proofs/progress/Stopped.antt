@@ -1,6 +1,6 @@
 -- The turn of a node at which no word waits, where a call is in progress: it records the reply, or
 -- tries the word of the call again; and what a word is that gives no reply.
-use Rattle.std.proofs.Common.{◌≡◌, ◌<◌, ◌*◌, ℕ, Bool, true, false, nat_le, nat_lt, List, [], ◌∷◌, ◌++◌, if◌then◌else◌, Option, Some, None, Ok, Err, refl, sym, ap, ◌∙◌, subst}
+use Rattle.std.proofs.Common.{◌≡◌, ◌⊎◌, ◌<◌, ◌*◌, ℕ, Bool, true, false, nat_le, nat_lt, List, [], ◌∷◌, ◌++◌, if◌then◌else◌, Option, Some, None, Ok, Err, refl, sym, ap, ◌∙◌, subst, inl, inr}
 use Rattle.std.proofs.lemmas.Bool.{ltb-true}
 use Rattle.std.proofs.lemmas.Option.{none-some}
 use Rattle.ivy_model.specs.declared.Config.{Config}
@@ -30,7 +30,9 @@ use Rattle.ivy_memory.specs.stated.Beside.{nothing_beside}
 use Rattle.ivy_memory.specs.stated.Memories.{NodeMemory, reply_of, reply_at, taken_out, without_call, answered, needed, again, again_unless, tried_as, polled_as}
 use Rattle.ivy_memory.proofs.keeping.Polling.{polled_so}
 use Rattle.ivy_moves.specs.stated.Cores.{Outcome}
-use Rattle.ivy_host.specs.stated.Hosts.{Host, number_of, recorded, begins_as, turned_at, turn_of}
+use Rattle.ivy_host.proofs.Turns.{none-due}
+use Rattle.ivy_host.specs.stated.Fetches.{HandedFetch}
+use Rattle.ivy_host.specs.stated.Hosts.{Host, number_of, recorded, begins_as, asks_reply, due, or_fetches, turned_at, turned_by, turn_of}
 
 -- a word is not answered: it is an await, and the number there is below the least
 pub record IsUnanswered (w : Word) (bytes : List ℕ) : Type 0 where
@@ -116,14 +118,32 @@ module _ {S : Type 0} (ops : Ops S) (n : Host S) (called : Call)
   abbrev m : NodeMemory S
   m = n.memory
 
-  polls : turn_of ops n ≡ begins_as n called (polled_as ops m called (reply_at m))
+  -- the call comes before a fetch that is due
+  by_due : (d : Option HandedFetch) (o : Outcome (Host S))
+      → begins_as n called (polled_as ops m called (reply_at m)) ≡ Some o
+      → turned_by ops n d ≡ Some o
+  by_due None o is =
+      ap (turned_at ops n) asked ∙ ap (begins_as n called) (polled_so ops m called asked) ∙ is
+  by_due (Some f) o is =
+      ap (or_fetches ops n f)
+      (ap (asks_reply ops n) asked ∙ ap (begins_as n called) (polled_so ops m called asked) ∙ is)
+
+  polls : (o : Outcome (Host S))
+      → begins_as n called (polled_as ops m called (reply_at m)) ≡ Some o → turn_of ops n ≡ Some o
   unfolding turn_of
-  polls = ap (turned_at ops n) asked ∙ ap (begins_as n called) (polled_so ops m called asked)
+  polls o is = by_due (due n) o is
+
+  -- where none is due, it is the turn
+  polls-undue : due n ≡ None
+      → turn_of ops n ≡ begins_as n called (polled_as ops m called (reply_at m))
+  polls-undue undue =
+      none-due ops n undue ∙ ap (turned_at ops n) asked
+      ∙ ap (begins_as n called) (polled_so ops m called asked)
 
   -- a reply that is there is recorded
   pub replied_turn : (r : Reply) → reply_at m ≡ Some r
       → turn_of ops n ≡ Some (record { after = recorded n (taken_out m) called r; posted = [] })
-  replied_turn r is = polls ∙ ap (λ o. begins_as n called (polled_as ops m called o)) is
+  replied_turn r is = polls _ (ap (λ o. begins_as n called (polled_as ops m called o)) is)
 
   -- Without one, where no word waits at the node, the word of the call is tried again.
   module _ (c : Config) (config : m.coherence.config ≡ c) (none : reply_at m ≡ None)
@@ -140,20 +160,36 @@ module _ {S : Type 0} (ops : Ops S) (n : Host S) (called : Call)
     unfolding begun
     begun_free = ap (begun_at ops (without_call m).coherence page w m.number) free
 
-    pub tries : (s : IdleState) (b : Bool) → entry_at m.coherence.table page ≡ entry.Idle s
+    tried_so : (s : IdleState) (b : Bool) → entry_at m.coherence.table page ≡ entry.Idle s
         → suffices s.access w ≡ b
-        → turn_of ops n
+        → begins_as n called (polled_as ops m called (reply_at m))
         ≡ tried
         (if b then hit ops (without_call m).coherence page w
         else faulted ops (without_call m).coherence page w m.number s)
-    tries s b idle enough =
-        polls ∙ ap (λ o. begins_as n called (polled_as ops m called o)) none
+    tried_so s b idle enough =
+        ap (λ o. begins_as n called (polled_as ops m called o)) none
         ∙ ap (λ d. begins_as n called (tried_as ops m called (asked_of d called))) config
         ∙ ap (λ k. begins_as n called (tried_as ops m called k)) of ∙ ap tried begun_free
         ∙ ap (λ e. tried (accessed ops (without_call m).coherence page w m.number e)) idle
         ∙ ap (λ v. tried
         (if v then hit ops (without_call m).coherence page w
         else faulted ops (without_call m).coherence page w m.number s)) enough
+
+    pub tries : (s : IdleState) (b : Bool) → entry_at m.coherence.table page ≡ entry.Idle s
+        → suffices s.access w ≡ b → (o : Outcome (Host S))
+        → tried
+        (if b then hit ops (without_call m).coherence page w
+        else faulted ops (without_call m).coherence page w m.number s) ≡ Some o
+        → turn_of ops n ≡ Some o
+    tries s b idle enough o is = polls o (tried_so s b idle enough ∙ is)
+
+    pub tries-undue : due n ≡ None → (s : IdleState) (b : Bool)
+        → entry_at m.coherence.table page ≡ entry.Idle s → suffices s.access w ≡ b
+        → turn_of ops n
+        ≡ tried
+        (if b then hit ops (without_call m).coherence page w
+        else faulted ops (without_call m).coherence page w m.number s)
+    tries-undue undue s b idle enough = polls-undue undue ∙ tried_so s b idle enough
 
   module _ (c : Config) (config : m.coherence.config ≡ c) (none : reply_at m ≡ None)
       (free : m.coherence.locked ≡ None) (page offset least : ℕ)
@@ -176,9 +212,9 @@ module _ {S : Type 0} (ops : Ops S) (n : Host S) (called : Call)
         × (after.memory.asked ≡ None)
     await_answered read count is enough = (
       _,
-      tries c config none free page (word.Await offset least) of s true idle read
-          ∙ ap (λ v. given (awaited v least)) is
-          ∙ ap (λ b. given (if b then out.Value count else out.NotYet)) enough,
+      tries c config none free page (word.Await offset least) of s true idle read _
+          (ap (λ v. given (awaited v least)) is
+          ∙ ap (λ b. given (if b then out.Value count else out.NotYet)) enough),
       refl,
       refl,
     )
@@ -189,8 +225,61 @@ module _ {S : Type 0} (ops : Ops S) (n : Host S) (called : Call)
         × (p.message.content ≡ content.ReadReq page)
     await_asks unread = (
       _,
-      tries c config none free page (word.Await offset least) of s false idle unread,
+      tries c config none free page (word.Await offset least) of s false idle unread _ refl,
       _,
       refl,
       refl,
     )
+
+  -- A word that is no await, at an entry where none waits: the next turn records a reply, or the
+  -- word waits there from then on.
+  module _ (c : Config) (config : m.coherence.config ≡ c) (none : reply_at m ≡ None)
+      (free : m.coherence.locked ≡ None) (page : ℕ) (w : Word)
+      (of : asked_of c called ≡ kinds.Word page w) (s : IdleState)
+      (idle : entry_at m.coherence.table page ≡ entry.Idle s) where
+    -- what comes of it that the word has this reply
+    abbrev replying : Option Reply → Option (Outcome (Host S))
+    replying r =
+        begins_as n called
+        (again_unless m
+        (answered (without_call m) called m.number (hit ops (without_call m).coherence page w) r) r)
+
+    abbrev Replies : Type 0
+    Replies =
+        (after : Host S) × (r : Reply)
+        × (turn_of ops n ≡ Some (record { after = after; posted = [] }))
+        × (after.history
+        ≡ n.history ++ record { node = number_of n; call = called; reply = r } ∷ [])
+        × (after.memory.asked ≡ None)
+
+    abbrev WaitsThen : Type 0
+    WaitsThen =
+        (o : Outcome (Host S)) × (turn_of ops n ≡ Some o)
+        × (o.after.memory.coherence.locked ≡ Some page)
+
+    replies_by : suffices s.access w ≡ true → (r : Option Reply)
+        → reply_of (carried_out w (page_at m.coherence.table page)).out ≡ r
+        → (r ≡ None → ⊥) → Replies
+    replies_by enough None is never = absurd (never refl)
+    replies_by enough (Some r) is never = (
+      _,
+      r,
+      tries c config none free page w of s true idle enough _ (ap replying is),
+      refl,
+      refl,
+    )
+
+    either_turn : (reply_of (carried_out w (page_at m.coherence.table page)).out ≡ None → ⊥)
+        → (b : Bool) → suffices s.access w ≡ b → Replies ⊎ WaitsThen
+    either_turn never true enough =
+        inl (replies_by enough (reply_of (carried_out w (page_at m.coherence.table page)).out) refl
+        never)
+    either_turn never false short =
+        inr (_, tries c config none free page w of s false idle short _ refl, refl)
+
+    pub word_turn : ((offset least : ℕ) → w ≡ word.Await offset least → ⊥) → Replies ⊎ WaitsThen
+    word_turn plain =
+        either_turn
+        (λ none. let u = unanswered w (page_at m.coherence.table page) none in
+        plain u.offset u.least u.is)
+        (suffices s.access w) refl

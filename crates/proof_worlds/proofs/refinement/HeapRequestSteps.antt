@@ -36,7 +36,8 @@ use Rattle.proof_worlds.specs.stated.HeapRequests.{about_heap, heap_way, call_me
 use Rattle.proof_worlds.proofs.refinement.Led.{get_set}
 use Rattle.proof_worlds.proofs.refinement.HeapWays.{IsWithin, heap_there, heap_elsewhere, way_turned, way_still, way_other, way_page, way_taken}
 use Rattle.proof_worlds.proofs.refinement.HeapDeliveries.{HeapDelivery, serves, learns}
-use Rattle.proof_worlds.proofs.refinement.HostTurns.{HostTurn, answers, tries_again, goes_on, refuses, asks_for, serves_heap, asks_heap, number_of, without_call, made_along, taken-heap_request, asked_posted, asked_side}
+use Rattle.proof_worlds.proofs.refinement.HostTurns.{HostTurn, answers, tries_again, goes_on, refuses, asks_for, serves_heap, asks_heap, carries_fetch, number_of, without_call, made_along, taken-heap_request, asked_posted, asked_side}
+use Rattle.proof_worlds.proofs.refinement.FetchTurns.{carried-leaves}
 use Rattle.ivy_memory.specs.stated.Beside.{nothing_beside}
 
 -- What a turn of node x does to its request of the heap: it posts about pages alone and leaves the request of the heap, or
@@ -104,6 +105,10 @@ module _ {S : Type 0} {ops : Ops S} {c : Config} {x : ℕ} {h : Host S} (good : 
         (begins k (number_of h) (λ e. good.memory.side.away none (good.me ∙ e))
         (rests (idle_side h.memory good.memory idle)) refl
         (ap (λ i. parcel_to i 0 i (number_of h) (request k) ∷ []) good.me))
+    turn_heap_request out (carries_fetch fetch next is) =
+        let left = carried-leaves ops h fetch good.memory.coherent in
+        subst (λ (z : Outcome (Host S)). TurnHeapRequest x h.memory.side.heap_request z.after.memory.side.heap_request
+        z.posted) (sym is) (leaves left.pages (ap (λ z. z.heap_request) left.side))
 
 -- the heap answers a call with a reply that the call can have
 some_reply : (c : Config) (size : ℕ) (r : Reply) → IsAllocReply c size r → CanHave (Alloc size) r

@@ -15,6 +15,7 @@ use Rattle.ivy_coherence.specs.declared.Need.TheVariants as need
 use Rattle.ivy_coherence.specs.stated.Coherent.{Coherent}
 use Rattle.ivy_coherence.specs.stated.PageFaults.{Begun, along, begun}
 use Rattle.ivy_alloc.specs.stated.Heap.{HeapState}
+use Rattle.ivy_program.specs.stated.Programs.{Program, Written, Called}
 use Rattle.ivy_program.specs.stated.States.{State}
 use Rattle.ivy_program.specs.stated.InstructionSteps.{Step, Local, Asks, Ends, step_of, at_state, along_of}
 use Rattle.ivy_program.proofs.running.Running.{asked_legal}
@@ -28,14 +29,16 @@ use Rattle.ivy_alloc.specs.declared.HeapRequest.TheVariants as heap_request
 use Rattle.ivy_memory.specs.stated.Asking.{asked_of}
 use Rattle.ivy_memory.specs.Asking.{CanAsk}
 use Rattle.ivy_alloc.specs.stated.HeapCalls.{HeapBegun, told_of, kept, closed, request, number_in, heap_begun_at}
-use Rattle.ivy_memory.specs.stated.Memories.{NodeMemory, CallBegun, answered, needed, again_unless, again, heap_answered, begun_as, call_begun, tried_as, polled_as, reply_of, reply_at, taken_with, taken_out}
+use Rattle.ivy_memory.specs.stated.Memories.{NodeMemory, CallBegun, in_progress, answered, needed, again_unless, again, heap_answered, begun_as, call_begun, tried_as, polled_as, reply_of, reply_at, taken_with, taken_out}
 use Rattle.ivy_memory.specs.stated.Memories.{without_call as without_asked}
 use Rattle.ivy_memory.specs.stated.Beside.{Beside, nothing_beside, beside}
 use Rattle.ivy_memory.proofs.serving.Asking.{can_ask}
 use Rattle.ivy_memory.proofs.keeping.WellBehaved.{Begins, begun-begins, needed-posted}
 use Rattle.ivy_memory.proofs.keeping.Polling.{polled_so}
 use Rattle.proof_worlds.proofs.refinement.LiftedEvents.{SameNet}
-use Rattle.ivy_host.specs.stated.Hosts.{Host, recorded, quietly, begins_with, begins_as, begins, steps, turned_at, turn_of}
+use Rattle.ivy_host.proofs.Turns.{asks-turned}
+use Rattle.ivy_host.specs.stated.Fetches.{Fetches, HandedFetch, next_fetch, if_reached, due_of}
+use Rattle.ivy_host.specs.stated.Hosts.{Host, recorded, quietly, begins_with, begins_as, begins, steps, due, fetch_of, fetched_with, asks_reply, or_fetches, turned_at, turned_by, turn_of}
 use Rattle.ivy_host.specs.stated.Sound.{IsSoundHost}
 
 -- the number of the call that a node begins
@@ -60,13 +63,41 @@ abbrev pub without_call : {S : Type 0} → Host S → Host S
 without_call h = record h { memory = without_asked h.memory }
 
 pub along-net : {S : Type 0} (words : List Word) (k : Coherent S) → SameNet (along words k) k
-along-net [] k = record { me = refl; manager = refl; table = refl; locked = refl; breaches = refl }
-along-net (w ∷ ws) k = record { me = refl; manager = refl; table = refl; locked = refl; breaches = refl }
+along-net [] k = record {
+  me = refl;
+  manager = refl;
+  table = refl;
+  locked = refl;
+  fetched = refl;
+  breaches = refl;
+}
+along-net (w ∷ ws) k = record {
+  me = refl;
+  manager = refl;
+  table = refl;
+  locked = refl;
+  fetched = refl;
+  breaches = refl;
+}
 
 pub taken-net : {S : Type 0} (m : NodeMemory S) (calls : List Call)
     → SameNet (taken_with m calls).coherence m.coherence
-taken-net m [] = record { me = refl; manager = refl; table = refl; locked = refl; breaches = refl }
-taken-net m (k ∷ ks) = record { me = refl; manager = refl; table = refl; locked = refl; breaches = refl }
+taken-net m [] = record {
+  me = refl;
+  manager = refl;
+  table = refl;
+  locked = refl;
+  fetched = refl;
+  breaches = refl;
+}
+taken-net m (k ∷ ks) = record {
+  me = refl;
+  manager = refl;
+  table = refl;
+  locked = refl;
+  fetched = refl;
+  breaches = refl;
+}
 
 -- no call of the heap is asked for, or told of, then
 pub taken-heap_request : {S : Type 0} (m : NodeMemory S) (calls : List Call)
@@ -77,7 +108,8 @@ taken-heap_request m (k ∷ ks) = refl
 -- The turns of a node: the reply of its call in progress is there; the word of that call is tried
 -- again; the program goes on by itself; its call is refused; it asks for a word; or it makes a call
 -- of the heap, which node 0 serves at once, and for which any other node asks node 0. Such a call
--- in progress makes no turn before its reply is there.
+-- in progress makes no turn before its reply is there, but one that carries out a fetch that was
+-- handed, as any node may.
 pub data HostTurn {S : Type 0} (ops : Ops S) (c : Config) (h : Host S)
     (out : Outcome (Host S)) : Type 0 where
   answers : (called : Call) (r : Reply) → h.memory.asked ≡ Some called → reply_at h.memory ≡ Some r
@@ -123,6 +155,25 @@ pub data HostTurn {S : Type 0} (ops : Ops S) (c : Config) (h : Host S)
         posted =
             parcel_to h.memory.coherence.me 0 h.memory.coherence.me (number_of h) (request k) ∷ [];
       } → HostTurn ops c h out
+  carries_fetch : (fetch : HandedFetch) → next_fetch h.fetches ≡ Some fetch
+      → out ≡ fetched_with h (fetch_of ops h fetch) → HostTurn ops c h out
+
+-- a fetch that is due is the next one
+handed_if : (b : Bool) (next fetch : HandedFetch)
+    → (if b then None else Some next) ≡ Some fetch → Some next ≡ Some fetch
+handed_if true next fetch is = absurd (none-some fetch is)
+handed_if false next fetch is = is
+
+reached_next : (count : ℕ) (next : Option HandedFetch) (fetch : HandedFetch)
+    → if_reached count next ≡ Some fetch → next ≡ Some fetch
+reached_next count None fetch is = is
+reached_next count (Some next) fetch is = handed_if (nat_lt count next.after) next fetch is
+
+due_next : (p : Program) (count : ℕ) (fetches : Fetches) (fetch : HandedFetch)
+    → due_of p count fetches ≡ Some fetch → next_fetch fetches ≡ Some fetch
+due_next (Written instructions) count fetches fetch is = absurd (none-some fetch is)
+due_next (Called rows) count fetches fetch is =
+    reached_next count (next_fetch fetches) fetch is
 
 -- what a call of the heap comes to where node 0 is asked, and where there is no such request
 abbrev heap_sent : {S : Type 0} → NodeMemory S → HeapCall → ℕ → HeapBegun
@@ -224,6 +275,7 @@ module _ {S : Type 0} (ops : Ops S) (c : Config) (x : ℕ) (h : Host S) (good : 
     again-cases a b (need.Have o) bs needs is = (bs.free o needs, unless-cases a (reply_of o) is)
     again-cases a b need.Started bs needs is = (bs.start needs, is)
     again-cases a b need.Busy bs needs is = absurd (none-some out is)
+    again-cases a b need.Fetched bs needs is = absurd (none-some out is)
 
     tried-cases : (kind : Asked) → reply_at h.memory ≡ None
         → asked_of h.memory.coherence.config called ≡ kind → CanAsk h.memory.coherence.config kind
@@ -266,10 +318,28 @@ module _ {S : Type 0} (ops : Ops S) (c : Config) (x : ℕ) (h : Host S) (good : 
       (ap (begins_as h called) (sym (polled_so ops h.memory called asked)) ∙ is)
   at-cases None asked is = steps-cases (step_of h.process) asked refl is
 
+  -- by what the call in progress comes to that is asked for its reply
+  reply-cases : (fetch : HandedFetch) → next_fetch h.fetches ≡ Some fetch
+      → (r : Option (Outcome (Host S))) → asks_reply ops h h.memory.asked ≡ r
+      → or_fetches ops h fetch r ≡ Some out → HostTurn ops c h out
+  reply-cases fetch next (Some o) is e =
+      at-cases h.memory.asked refl (asks-turned ops h h.memory.asked o is ∙ e)
+  reply-cases fetch next None is e =
+      carries_fetch fetch next (sym (same_Some (fetched_with h (fetch_of ops h fetch)) out e))
+
+  due-cases : (d : Option HandedFetch) → due h ≡ d → turned_by ops h d ≡ Some out
+      → HostTurn ops c h out
+  due-cases None none e = at-cases h.memory.asked refl e
+  due-cases (Some fetch) is e =
+      reply-cases fetch
+      (due_next h.process.program
+      (h.process.state.place + length (in_progress h.memory.asked h.memory.along)) h.fetches fetch is)
+      (asks_reply ops h h.memory.asked) refl e
+
   -- each turn of a sound node is one of these
   pub turn_cases : turn_of ops h ≡ Some out → HostTurn ops c h out
   unfolding turn_of
-  turn_cases is = at-cases h.memory.asked refl is
+  turn_cases is = due-cases (due h) refl is
 
 module _ {S : Type 0} (ops : Ops S) (h : Host S) (called : Call) (more : Beside) (page : ℕ)
     (word : Word) where
@@ -297,6 +367,7 @@ module _ {S : Type 0} (ops : Ops S) (h : Host S) (called : Call) (more : Beside)
     manager = ap (λ (z : Coherent S). z.manager) is;
     table = ap (λ (z : Coherent S). z.table) is;
     locked = ap (λ (z : Coherent S). z.locked) is;
+    fetched = ap (λ (z : Coherent S). z.fetched) is;
     breaches = ap (λ (z : Coherent S). z.breaches) is;
   }
 
@@ -307,6 +378,8 @@ module _ {S : Type 0} (ops : Ops S) (h : Host S) (called : Call) (more : Beside)
       same_net _ _ (answered_coherence (asks ops h page word) (reply_of o))
   needed_coherence need.Started is = along-net more.words (asks ops h page word).after
   needed_coherence need.Busy is = same_net _ _ (sym (marks.busy is))
+  needed_coherence need.Fetched is =
+      same_net (asks ops h page word).after (asks ops h page word).after refl
 
   answered_side : (b : Begun S) (r : Option Reply)
       → (answered h.memory called (number_of h) b r).after.side ≡ h.memory.side
@@ -318,6 +391,7 @@ module _ {S : Type 0} (ops : Ops S) (h : Host S) (called : Call) (more : Beside)
   needed_side b (need.Have o) = answered_side b (reply_of o)
   needed_side b need.Started = refl
   needed_side b need.Busy = refl
+  needed_side b need.Fetched = refl
 
   -- the node's coherence, but for what waits along, and what it posted are those of the access
   pub asked_coherence : (out : Outcome (Host S))

@@ -11,6 +11,7 @@ use Rattle.ivy_pagetable.specs.declared.Entry.TheVariants as entry
 use Rattle.ivy_pagetable.specs.declared.Out.{Out}
 use Rattle.ivy_pagetable.specs.declared.Word.{Word}
 use Rattle.ivy_pagetable.specs.stated.States.{IdleState}
+use Rattle.ivy_pagetable.specs.stated.Entries.{is_locked}
 use Rattle.ivy_pagetable.specs.stated.Tables.{entry_at, page_at}
 use Rattle.ivy_pagetable.specs.stated.Words.{IsWord, carried_out}
 use Rattle.ivy_pagetable.specs.stated.Manager.{Ops}
@@ -45,13 +46,14 @@ pub record ComesTo {S : Type 0} (m : ℕ → S) (n : Net) (x : ℕ) (k : Coheren
   pub delivered : (i j : ℕ) → n'.delivered i j ≡ n.delivered i j
   pub loose : n'.loose ≡ []
 
--- the same node, entries, bytes, manager, lock and count: only what waits along and what was answered
--- may differ
+-- the same node, entries, bytes, manager, locks and count: only what waits along and what was
+-- answered may differ
 pub record SameNet {S : Type 0} (k j : Coherent S) : Type 0 where
   pub me : k.me ≡ j.me
   pub manager : k.manager ≡ j.manager
   pub table : k.table ≡ j.table
   pub locked : k.locked ≡ j.locked
+  pub fetched : k.fetched ≡ j.fetched
   pub breaches : k.breaches ≡ j.breaches
 
 -- an event leads there too, then
@@ -127,8 +129,9 @@ pub data Tells {S : Type 0} (P : (ℕ → S) → Net → (ℕ → List ℕ) → 
       → k'.done ≡ Some out
       → CarriesAll P was c x f page (word ∷ k.more) (out ∷ k'.done_more) flat → Tells P was c x f k k' flat
 
--- What an access did: it cannot begin, since another word waits; it was carried out at once; or it
--- waits.
+-- What an access did: it cannot begin, since another word waits; it was carried out at once; it
+-- waits at its page's entry, under the number of the request; or at none, as its page is fetched
+-- otherwise.
 pub data Starts {S : Type 0} (P : (ℕ → S) → Net → (ℕ → List ℕ) → Type 0) (was : ℕ → ℕ → Entry)
     (c : Config) (x : ℕ) (f : ℕ → List ℕ) (page : ℕ) (word : Word) (call : ℕ) (k : Coherent S) (needs : Need)
     (k' : Coherent S) (flat : ℕ → List ℕ) : Type 0 where
@@ -136,8 +139,11 @@ pub data Starts {S : Type 0} (P : (ℕ → S) → Net → (ℕ → List ℕ) →
       → Starts P was c x f page word call k needs k' flat
   hits : (out : Out) → needs ≡ need.Have out → SameRest k k' → k'.locked ≡ k.locked
       → Carries P was c x f page word out flat → Starts P was c x f page word call k needs k' flat
-  waits : needs ≡ need.Started → flat ≡ f → SameRest k k' → k'.locked ≡ Some page
-      → WaitsAt (entry_at k'.table page) word call → Starts P was c x f page word call k needs k' flat
+  waits : (number : ℕ) → needs ≡ need.Started → flat ≡ f → SameRest k k' → k'.locked ≡ Some page
+      → WaitsAt (entry_at k'.table page) word number
+      → Starts P was c x f page word call k needs k' flat
+  otherwise : k.locked ≡ None → is_locked (entry_at k.table page) ≡ true → needs ≡ need.Fetched
+      → k' ≡ k → flat ≡ f → Starts P was c x f page word call k needs k' flat
 
 -- what an event of node x at page p comes to
 pub record Ended {S : Type 0} (P : (ℕ → S) → Net → (ℕ → List ℕ) → Type 0) (m : ℕ → S) (n : Net)

@@ -1,5 +1,5 @@
 -- What each row keeps, each step of a FIFO world keeps; and what the flat memory is told by it.
-use Rattle.std.proofs.Common.{◌≡◌, ℕ, Bool, true, false, List, [], ◌∷◌, None, refl, sym, ap, ◌∙◌, subst, arith, if◌then◌else◌}
+use Rattle.std.proofs.Common.{◌≡◌, ℕ, ◌<◌, ◌+◌, Bool, true, false, List, [], ◌∷◌, length, None, refl, sym, ap, ◌∙◌, subst, arith, if◌then◌else◌}
 use Rattle.ivy_model.specs.declared.Config.{Config}
 use Rattle.ivy_wire.specs.stated.Data.{Parcel}
 use Rattle.ivy_wire.specs.stated.Posts.{parcel_to}
@@ -13,14 +13,17 @@ use Rattle.ivy_alloc.specs.stated.HeapCalls.{request}
 use Rattle.ivy_memory.specs.stated.Beside.{Beside, nothing_beside}
 use Rattle.ivy_alloc.proofs.HeapSides.{request_heap}
 use Rattle.ivy_memory.proofs.serving.Pages.{is_of_pages}
-use Rattle.ivy_host.specs.stated.Hosts.{Host, host_rules}
+use Rattle.ivy_memory.specs.stated.Memories.{MemoryFetch}
+use Rattle.ivy_host.proofs.Turns.{either_fetch}
+use Rattle.ivy_host.specs.stated.Fetches.{HandedFetch}
+use Rattle.ivy_host.specs.stated.Hosts.{Host, host_rules, fetch_of, fetched_with}
 use Rattle.proof_table.specs.stated.Letters.{Net}
 use Rattle.proof_table.specs.transitions.TableSteps.{IsPreservedBy}
 use Rattle.proof_worlds.proofs.refinement.HeapDeliveries.{HeapDelivery}
 use Rattle.proof_worlds.proofs.refinement.LiftedEvents.{Tells, Starts}
 use Rattle.proof_worlds.proofs.refinement.LiftedWorlds.{net_of, managers_of, pages_among, IsSoundWorldBy, fits_heap}
-use Rattle.proof_worlds.proofs.refinement.LiftedSteps.{kept-delivers, kept-heap, kept-still, kept-begins}
-pub use Rattle.proof_worlds.proofs.refinement.HostTurns.{number_of, asks, asked_for, without_call, HostTurn, answers, tries_again, goes_on, refuses, asks_for, serves_heap, asks_heap, turn_cases}
+use Rattle.proof_worlds.proofs.refinement.LiftedSteps.{kept-delivers, kept-heap, kept-still, kept-begins, kept-fetches}
+pub use Rattle.proof_worlds.proofs.refinement.HostTurns.{number_of, asks, asked_for, without_call, HostTurn, answers, tries_again, goes_on, refuses, asks_for, serves_heap, asks_heap, carries_fetch, turn_cases}
 use Rattle.proof_worlds.proofs.refinement.HostTurns.{made_along, taken-net, marks, asked_coherence, asked_posted}
 
 -- what a turn tells the flat memory
@@ -40,6 +43,7 @@ TurnTells {ops = ops} P was c x f h out (asks_for called page word idle step of 
     (asks ops h page word).after flat
 TurnTells P was c x f h out (serves_heap called k heap idle step of there is) flat = flat ≡ f
 TurnTells P was c x f h out (asks_heap called k idle step of none is) flat = flat ≡ f
+TurnTells P was c x f h out (carries_fetch fetch next is) flat = flat ≡ f
 
 -- What a step of the FIFO world tells the flat memory's pages: one in which a message of the
 -- heap is delivered, nothing.
@@ -78,6 +82,19 @@ module _ {S : Type 0} {sends : Bool} {ops : Ops S} {P : (ℕ → S) → Net → 
       (ap (λ (z : Outcome (Host S)). z.after.memory.coherence.breaches) is ∙ breaches)
       (ap (λ (z : Outcome (Host S)). pages_among z.posted) is ∙ none)
 
+  -- a fetch is carried out
+  fetch-then : (x : ℕ) (t : Turns (host_rules ops) o x o') (fetch : HandedFetch)
+      → t.outcome ≡ fetched_with t.core (fetch_of ops t.core fetch) → Then f
+  fetch-then x t fetch =
+      either_fetch ops (λ (z : MemoryFetch S). t.outcome ≡ fetched_with t.core z → Then f) t.core
+      fetch (λ is. still x t _ [] is refl refl refl refl refl)
+      (λ inside below is.
+      kept-fetches laws c kept spare o o' f w h x t fetch.page fetch.write
+      (length t.core.history + 1)
+      (subst (λ d. fetch.page < d.pages) (w.sound x t.core t.there).config inside)
+      (omega arith) (ap (λ (z : Outcome (Host S)). z.after.memory.coherence) is)
+      (ap (λ (z : Outcome (Host S)). z.posted) is))
+
   pub kept-turns : (x : ℕ) (t : Turns (host_rules ops) o x o')
       (turn : HostTurn ops c t.core t.outcome)
       → (flat : ℕ → List ℕ) × Then flat × TurnTells P (net_of o).entry c x f t.core t.outcome turn flat
@@ -111,6 +128,8 @@ module _ {S : Type 0} {sends : Bool} {ops : Ops S} {P : (ℕ → S) → Net → 
       (omega arith)
       (after.me ∙ (marks ops (without_call t.core) called nothing_beside page word).same.me) after
       (asked_posted ops (without_call t.core) called nothing_beside page word t.outcome is)
+  kept-turns x t (carries_fetch fetch next is) =
+      (f, fetch-then x t fetch is, refl)
 
   -- each step of a sound world keeps what each row keeps
   pub kept-steps : Steps (host_rules ops) o o'

@@ -11,7 +11,6 @@ use Rattle.ivy_wire.specs.stated.Data.{Content, Message, Parcel}
 use Rattle.ivy_wire.specs.stated.Spelling.{FitsContent, FitsMessage}
 use Rattle.ivy_pagetable.specs.declared.Entry.{Entry}
 use Rattle.ivy_pagetable.specs.declared.Entry.TheVariants as entry
-use Rattle.ivy_pagetable.specs.declared.Out.{Out}
 use Rattle.ivy_pagetable.specs.declared.PutOff.{PutOff}
 use Rattle.ivy_pagetable.specs.declared.Request.{Request}
 use Rattle.ivy_pagetable.specs.declared.Request.TheVariants as request
@@ -19,26 +18,29 @@ use Rattle.ivy_pagetable.specs.declared.Word.{Word}
 use Rattle.ivy_pagetable.specs.stated.NodeSets.{Nodes, nodes_with}
 use Rattle.ivy_pagetable.specs.stated.States.{IdleState, WaitingState, AwaitWriteState, AwaitAcksState}
 use Rattle.ivy_pagetable.specs.stated.Entries.{is_locked, is_owner, can_put_off, with_put_off, copying, owning}
-use Rattle.ivy_pagetable.specs.stated.Tables.{entry_at, page_at, with_entry, with_page}
+use Rattle.ivy_pagetable.specs.stated.Tables.{entry_at, page_at, with_entry}
 use Rattle.ivy_pagetable.specs.stated.Words.{IsWord, needs_write, carried_out}
 use Rattle.ivy_pagetable.specs.stated.Manager.{Ops}
 use Rattle.ivy_pagetable.specs.Manager.{Laws}
 use Rattle.ivy_pagetable.proofs.Bits.{with_below}
 use Rattle.ivy_coherence.specs.stated.Coherent.{Coherent}
+use Rattle.ivy_coherence.specs.stated.Fetching.{without_page}
+use Rattle.ivy_coherence.proofs.keeping.Fetched.{unlocked_by}
 use Rattle.ivy_coherence.specs.stated.Serving.{Serving, serving, put_off_served}
 use Rattle.ivy_coherence.specs.stated.Serving as served
-use Rattle.ivy_coherence.specs.stated.MessageSteps.{CoherenceEffect, is_none, is_order, copy_reply, sending, breach, unlocked, put_aside, sent_on, asked, copy_came, owned_with, page_came, left_with, acknowledged, handled, handled_as}
+use Rattle.ivy_coherence.specs.stated.MessageSteps.{CoherenceEffect, is_none, is_order, copy_reply, sending, breach, word_unlocked, fetch_unlocked, unlocked, put_aside, sent_on, asked, copy_came, owned_with, page_came, left_with, acknowledged, handled, handled_as}
 use Rattle.ivy_coherence.specs.stated.Several.{AllCarried, all_carried}
 use Rattle.ivy_coherence.specs.stated.IdleSound.{CanBeServed}
 use Rattle.ivy_coherence.specs.stated.Sound.{Waits, WaitAlong, IsSoundEntry, IsSound}
 use Rattle.ivy_coherence.proofs.keeping.IdleServing.{IsServing}
 use Rattle.ivy_coherence.proofs.batches.Along.{length-all_carried}
-use Rattle.ivy_coherence.proofs.keeping.Changing.{entry_with, page_with, place}
+use Rattle.ivy_coherence.proofs.keeping.Changing.{entry_with, place}
 use Rattle.ivy_coherence.proofs.keeping.SoundEntries.{entry_is}
 use Rattle.ivy_coherence.proofs.keeping.Keeping.{idle-start, copy-start, page-start, last-start}
 use Rattle.proof_table.specs.stated.Letters.{Letter, Net, content_of, letter_of}
 use Rattle.proof_table.specs.stated.Orderly.{AwaitsCopy, AwaitsPage, Collects}
 use Rattle.proof_table.specs.transitions.TableSteps.{letter, IsFull, IsHop, Misfits, Served as AtEntry, Comes, Row, IsPreservedBy}
+use Rattle.proof_worlds.proofs.refinement.EndedEntries.{entry_ended, page_ended}
 use Rattle.proof_worlds.proofs.refinement.LiftedNets.{told-again, reached, Stands, written_here}
 use Rattle.proof_worlds.proofs.refinement.LiftedRows.{goes, goes_quietly, comes, comes_quietly, IsCarried, owner_suffices, carried_all_at, dropped_at, hop_here}
 use Rattle.proof_worlds.proofs.refinement.LiftedServing.{served_at, all_served-at}
@@ -74,86 +76,6 @@ abbrev pub GoesTo : {S : Type 0} → ((ℕ → S) → Net → (ℕ → List ℕ)
     → (ℕ → List ℕ) → Coherent S → ℕ → Coherent S → List Parcel → Type 0
 GoesTo P m n f k p k' ps =
     (flat : ℕ → List ℕ) × Ended P m n k.me p k k' ps flat × Tells P n.entry k.config k.me f k k' flat
-
-module _ {S : Type 0} {ops : Ops S} {P : (ℕ → S) → Net → (ℕ → List ℕ) → Type 0} (m : ℕ → S)
-    (n : Net) (k : Coherent S) (sound : IsSound ops k) (p : ℕ) (inside : p < k.config.pages) where
-  -- the state after an event that writes the entry of the page, and maybe its bytes
-  pub entry_ended : (z : Entry) (s : S) (lock : Option ℕ) (more : List Word)
-      (answer : Option Out) (others : List Out) (broken : ℕ) (ps : List Parcel) (flat : ℕ → List ℕ)
-      → Stands P m n k.me p flat z (page_at k.table p) s broken ps []
-      → Ended P m n k.me p k
-      (record {
-        config = k.config;
-        me = k.me;
-        sends_on = k.sends_on;
-        table = with_entry k.table p z;
-        manager = s;
-        locked = lock;
-        more = more;
-        done = answer;
-        done_more = others;
-        breaches = broken;
-      }) ps flat
-  entry_ended z s lock more answer others broken ps flat h =
-      let within : p < length k.table.entries =
-      (let e = sound.entries in omega (arith, inside, e)) in
-      record {
-        stands =
-            subst (λ e. Stands P m n k.me p flat e (page_at k.table p) s broken ps [])
-            (elim (entry_with k.table p z p within) [ inl y ↦ sym y.1 | inr y ↦ absurd (y.0 refl) ])
-            h;
-        entries =
-            λ q ne. elim (entry_with k.table p z q within) [
-              | inl y ↦ absurd (ne y.0)
-              | inr y ↦
-                  y.1
-            ];
-        pages = λ q ne. refl;
-      }
-
-  pub page_ended : (z : Entry) (bytes : List ℕ) (s : S) (lock : Option ℕ) (more : List Word)
-      (answer : Option Out) (others : List Out) (broken : ℕ) (ps : List Parcel) (flat : ℕ → List ℕ)
-      → Stands P m n k.me p flat z bytes s broken ps []
-      → Ended P m n k.me p k
-      (record {
-        config = k.config;
-        me = k.me;
-        sends_on = k.sends_on;
-        table = with_page (with_entry k.table p z) p bytes;
-        manager = s;
-        locked = lock;
-        more = more;
-        done = answer;
-        done_more = others;
-        breaches = broken;
-      }) ps flat
-  page_ended z bytes s lock more answer others broken ps flat h =
-      let within : p < length k.table.entries =
-      (let e = sound.entries in omega (arith, inside, e)) in
-      let long : p < length k.table.pages = (let e = sound.pages in omega (arith, inside, e)) in
-      record {
-        stands =
-            subst (λ e. Stands P m n k.me p flat e (page_at (with_page k.table p bytes) p) s broken
-            ps []) (elim (entry_with k.table p z p within) [
-              | inl y ↦ sym y.1
-              | inr y ↦
-                  absurd (y.0 refl)
-            ])
-            (subst (λ d. Stands P m n k.me p flat z d s broken ps [])
-            (elim (page_with k.table p bytes p long) [
-              | inl y ↦ sym y.1
-              | inr y ↦
-                  absurd (y.0 refl)
-            ]) h);
-        entries =
-            λ q ne. elim (entry_with k.table p z q within) [
-              | inl y ↦ absurd (ne y.0)
-              | inr y ↦
-                  y.1
-            ];
-        pages = λ q ne.
-            elim (page_with k.table p bytes q long) [ inl y ↦ absurd (ne y.0) | inr y ↦ y.1 ];
-      }
 
 -- what waits then, where the entry of the page was written
 pub waits_still : {S : Type 0} {ops : Ops S} (k : Coherent S) → IsSound ops k → (p : ℕ)
@@ -247,8 +169,8 @@ module _ {S : Type 0} {sends : Bool} {ops : Ops S} {P : (ℕ → S) → Net → 
       either-goes (can_put_off e) _ _
       (λ room. (
         f,
-        entry_ended m n k sound p inside (with_put_off e q) k.manager k.locked k.more k.done k.done_more k.breaches []
-            f
+        entry_ended m n k sound p inside (with_put_off e q) k.manager k.locked k.fetched k.more
+            k.done k.done_more k.breaches [] f
             (goes_quietly kept h tt k.manager (λ j. refl) _ [] (Row.puts_off (record {
               node = k.me;
               page = p;
@@ -285,8 +207,8 @@ module _ {S : Type 0} {sends : Bool} {ops : Ops S} {P : (ℕ → S) → Net → 
   write_asked-goes request.Invalidate o call a is other sender h =
       let z : Entry = entry.AwaitWrite (record { had_copy = false; waiting = a.waiting }) in (
         f,
-        entry_ended m n k sound p inside z (ops.on_invalidated k.manager p o) k.locked k.more k.done k.done_more
-            k.breaches _ f
+        entry_ended m n k sound p inside z (ops.on_invalidated k.manager p o) k.locked k.fetched
+            k.more k.done k.done_more k.breaches _ f
             (goes kept h sound.here _ (told-again m k.me k.manager (λ z. ops.on_invalidated z p o))
             z _ []
             (Row.gives_up (record {
@@ -352,8 +274,8 @@ module _ {S : Type 0} {sends : Bool} {ops : Ops S} {P : (ℕ → S) → Net → 
   sent_on-goes request.Read o call w is on asks other h =
       let z : Entry = entry.AwaitRead (sending w) in (
         f,
-        entry_ended m n k sound p inside z (ops.on_forward k.manager p false o) k.locked k.more
-            k.done k.done_more k.breaches _ f
+        entry_ended m n k sound p inside z (ops.on_forward k.manager p false o) k.locked k.fetched
+            k.more k.done k.done_more k.breaches _ f
             (goes kept h (sound.here, hop_here ops m k.me k.manager p) _
             (told-again m k.me k.manager (λ z. ops.on_forward z p false o)) z _ []
             (Row.reader_sends_on_read (reading w content.ReadReq o call other) _ on (away w is))),
@@ -363,8 +285,8 @@ module _ {S : Type 0} {sends : Bool} {ops : Ops S} {P : (ℕ → S) → Net → 
   sent_on-goes request.Write o call w is on asks other h =
       let z : Entry = entry.AwaitRead (sending w) in (
         f,
-        entry_ended m n k sound p inside z (ops.on_forward k.manager p true o) k.locked k.more
-            k.done k.done_more k.breaches _ f
+        entry_ended m n k sound p inside z (ops.on_forward k.manager p true o) k.locked k.fetched
+            k.more k.done k.done_more k.breaches _ f
             (goes kept h (sound.here, hop_here ops m k.me k.manager p) _
             (told-again m k.me k.manager (λ z. ops.on_forward z p true o)) z _ []
             (Row.reader_sends_on_write (reading w content.WriteReq o call other) _ on (away w is))),
@@ -385,8 +307,8 @@ module _ {S : Type 0} {sends : Bool} {ops : Ops S} {P : (ℕ → S) → Net → 
       let v : Serving S =
       put_off_served ops k.me o p (page_at k.table p) i k.manager k.breaches None (q ∷ []) in (
         f,
-        entry_ended m n k sound p inside (entry.Idle v.idle) v.manager k.locked k.more k.done k.done_more v.breaches
-            v.posted f
+        entry_ended m n k sound p inside (entry.Idle v.idle) v.manager k.locked k.fetched k.more
+            k.done k.done_more v.breaches v.posted f
             (served_at laws k.config kept m n k.me p sound.here inside f (page_at k.table p)
             k.manager (place k p (page_at k.table p) sound inside (sound.sized p inside))
             (serving i k.manager k.breaches []) from q [] (idle-start k p i sound inside is) can
@@ -410,15 +332,16 @@ module _ {S : Type 0} {sends : Bool} {ops : Ops S} {P : (ℕ → S) → Net → 
 
   -- what a word waits for came: it is carried out, with those that wait along, and what was put off is
   -- served
-  unlocked-goes : (i : IdleState) (reply : Option Request) (bytes : List ℕ) (w : WaitingState)
+  word_unlocked-goes : (i : IdleState) (reply : Option Request) (bytes : List ℕ) (w : WaitingState)
       → Stands P m n k.me p f (entry.Idle i) bytes (served.told ops from p k.manager reply)
       k.breaches [] (map (letter_of k.me p) w.put_off)
       → IsServing ops k.config k.me p k.manager
       (serving i (served.told ops from p k.manager reply) k.breaches [])
       → All (IsCarried k.config i) (w.word ∷ k.more) → length bytes ≡ k.config.page_size
-      → All (CanBeServed k.config k.me) w.put_off → is_locked (entry_at k.table p) ≡ true
-      → WaitsAt (entry_at k.table p) w.word w.call → Goes (unlocked ops k from p i reply bytes w)
-  unlocked-goes i reply bytes w h start words sized can lock waits =
+      → All (CanBeServed k.config k.me) w.put_off → k.locked ≡ Some p
+      → WaitsAt (entry_at k.table p) w.word w.call
+      → Goes (word_unlocked ops k from p i reply bytes w)
+  word_unlocked-goes i reply bytes w h start words sized can lock waits =
       let all : AllCarried = all_carried (w.word ∷ k.more) bytes in
       let long : length all.bytes ≡ k.config.page_size =
       length-all_carried (w.word ∷ k.more) bytes k.config.page_size sized
@@ -429,24 +352,57 @@ module _ {S : Type 0} {sends : Bool} {ops : Ops S} {P : (ℕ → S) → Net → 
       put_off_served ops k.me from p all.bytes i k.manager k.breaches reply w.put_off in
       let after = carried_all_at kept sound.here inside (w.word ∷ k.more) h words in (
         after.0,
-        page_ended m n k sound p inside (entry.Idle v.idle) all.bytes v.manager None []
+        page_ended m n k sound p inside (entry.Idle v.idle) all.bytes v.manager None k.fetched []
             (Some (carried_out w.word bytes).out)
             (all_carried k.more (carried_out w.word bytes).bytes).outs v.breaches v.posted after.0
             (all_served-at laws k.config kept m n k.me p sound.here inside after.0 all.bytes
             k.manager (place k p all.bytes sound inside long) (serving i s k.breaches []) w.put_off
             start can after.1),
-        answers p w.word w.call (carried_out w.word bytes).out (sound.others p lock) waits refl refl
-            refl after.2,
+        answers p w.word w.call (carried_out w.word bytes).out lock waits refl refl refl after.2,
       )
 
+  -- where the page was fetched no word is carried out
+  fetch_unlocked-goes : (i : IdleState) (reply : Option Request) (bytes : List ℕ) (w : WaitingState)
+      → Stands P m n k.me p f (entry.Idle i) bytes (served.told ops from p k.manager reply)
+      k.breaches [] (map (letter_of k.me p) w.put_off)
+      → IsServing ops k.config k.me p k.manager
+      (serving i (served.told ops from p k.manager reply) k.breaches [])
+      → length bytes ≡ k.config.page_size → All (CanBeServed k.config k.me) w.put_off
+      → Goes (fetch_unlocked ops k from p i reply bytes w)
+  fetch_unlocked-goes i reply bytes w h start sized can =
+      let s : S = served.told ops from p k.manager reply in
+      let v : Serving S =
+      put_off_served ops k.me from p bytes i k.manager k.breaches reply w.put_off in (
+        f,
+        page_ended m n k sound p inside (entry.Idle v.idle) bytes v.manager k.locked
+            (without_page p k.fetched) k.more k.done k.done_more v.breaches v.posted f
+            (all_served-at laws k.config kept m n k.me p sound.here inside f bytes
+            k.manager (place k p bytes sound inside sized) (serving i s k.breaches []) w.put_off
+            start can h),
+        quiet refl (record { more = refl; done = refl; done_more = refl }) refl
+            (waits_still k sound p inside (entry.Idle v.idle) (λ word c w. absurd w)),
+      )
+
+  unlocked-goes : (i : IdleState) (reply : Option Request) (bytes : List ℕ) (w : WaitingState)
+      → Stands P m n k.me p f (entry.Idle i) bytes (served.told ops from p k.manager reply)
+      k.breaches [] (map (letter_of k.me p) w.put_off)
+      → IsServing ops k.config k.me p k.manager
+      (serving i (served.told ops from p k.manager reply) k.breaches [])
+      → (k.locked ≡ Some p → All (IsCarried k.config i) (w.word ∷ k.more))
+      → length bytes ≡ k.config.page_size
+      → All (CanBeServed k.config k.me) w.put_off
+      → WaitsAt (entry_at k.table p) w.word w.call → Goes (unlocked ops k from p i reply bytes w)
+  unlocked-goes i reply bytes w h start words sized can waits =
+      unlocked_by ops Goes k from p i reply bytes w
+      (λ here. word_unlocked-goes i reply bytes w h start (words here) sized can here waits)
+      (λ elsewhere. fetch_unlocked-goes i reply bytes w h start sized can)
+
   -- the words that wait along with the one at this entry are carried out with it
-  more_carried : (e : Entry) (i : IdleState) → entry_at k.table p ≡ e → is_locked e ≡ true
+  more_carried : (e : Entry) (i : IdleState) → entry_at k.table p ≡ e → k.locked ≡ Some p
       → ((words : List Word) → WaitAlong k.config e words → All (IsCarried k.config i) words)
       → All (IsCarried k.config i) k.more
   more_carried e i is lock all =
-      all k.more
-      (subst (λ z. WaitAlong k.config z k.more) is
-      (sound.along p (sound.others p (ap is_locked is ∙ lock))))
+      all k.more (subst (λ z. WaitAlong k.config z k.more) is (sound.along p lock))
 
   -- with a copy those that only read, with the page all
   carried_reading : (words : List Word) → All (Waits k.config false) words
@@ -499,10 +455,10 @@ module _ {S : Type 0} {sends : Bool} {ops : Ops S} {P : (ℕ → S) → Net → 
       (λ same. unlocked-goes copying (copy_reply w) bytes w
       (copy_told call bytes w w.sent_on refl h (eqb-true w.call call same))
       (copy-start laws k p from w.sent_on sound inside (ap is_owner is) below foreign)
-      (All-cons (IsCarried k.config copying) w.word k.more
+      (λ here. All-cons (IsCarried k.config copying) w.word k.more
       (word.0, ap (λ b. if b then false else true) word.1)
-      (more_carried (entry.AwaitRead w) copying is refl carried_reading))
-      sized good.put_off (ap is_locked is)
+      (more_carried (entry.AwaitRead w) copying is here carried_reading))
+      sized good.put_off
       (subst (λ z. WaitsAt z w.word w.call) (sym is) (refl, refl)))
       (λ other. bad_copy call bytes (entry.AwaitRead w) is h
       (λ a. absurd (let g : true ≡ false = sym (eq-eqb w.call call a) ∙ other in cc)))
@@ -544,14 +500,15 @@ module _ {S : Type 0} {sends : Bool} {ops : Ops S} {P : (ℕ → S) → Net → 
       (coming entry.AwaitWrite a (λ q. content.WriteRep q copies bytes) call) same
       (none_left (nodes_with copies) none)))
       (page-start laws k p from sound inside below)
-      (All-cons (IsCarried k.config owning) a.waiting.word k.more
+      (λ here. All-cons (IsCarried k.config owning) a.waiting.word k.more
       (word.0, owner_suffices (needs_write a.waiting.word))
-      (more_carried (entry.AwaitWrite a) owning is refl carried_owning))
-      sized good.put_off (ap is_locked is)
+      (more_carried (entry.AwaitWrite a) owning is here carried_owning))
+      sized good.put_off
       (subst (λ e. WaitsAt e a.waiting.word a.waiting.call) (sym is) (refl, refl)))
       (λ some. (
         f,
-        page_ended m n k sound p inside z bytes (ops.on_replied k.manager p true from) k.locked k.more k.done k.done_more k.breaches _ f
+        page_ended m n k sound p inside z bytes (ops.on_replied k.manager p true from) k.locked
+            k.fetched k.more k.done k.done_more k.breaches _ f
             (comes kept h sound.here _
             (told-again m k.me k.manager (λ z. ops.on_replied z p true from)) z _ [] bytes
             (Row.page_comes_shared copies bytes
@@ -610,14 +567,15 @@ module _ {S : Type 0} {sends : Bool} {ops : Ops S} {P : (ℕ → S) → Net → 
       (Row.acknowledges_last (coming entry.AwaitAcks a content.InvalAck call) same missing
       (none_left (set.remove a.left from) none)))
       (last-start laws k p from sound inside)
-      (All-cons (IsCarried k.config owning) a.waiting.word k.more
+      (λ here. All-cons (IsCarried k.config owning) a.waiting.word k.more
       (word.0, owner_suffices (needs_write a.waiting.word))
-      (more_carried (entry.AwaitAcks a) owning is refl carried_owning))
-      (sound.sized p inside) good.put_off (ap is_locked is)
+      (more_carried (entry.AwaitAcks a) owning is here carried_owning))
+      (sound.sized p inside) good.put_off
       (subst (λ e. WaitsAt e a.waiting.word a.waiting.call) (sym is) (refl, refl)))
       (λ some. (
         f,
-        entry_ended m n k sound p inside z k.manager k.locked k.more k.done k.done_more k.breaches [] f
+        entry_ended m n k sound p inside z k.manager k.locked k.fetched k.more k.done k.done_more
+            k.breaches [] f
             (goes_quietly kept h tt k.manager (λ j. refl) z []
             (Row.acknowledges (coming entry.AwaitAcks a content.InvalAck call) same missing
             (some_left (set.remove a.left from) some))),

@@ -10,13 +10,13 @@ use Rattle.ivy_pagetable.specs.stated.Manager.{Ops}
 use Rattle.ivy_pagetable.specs.Manager.{Laws}
 use Rattle.ivy_coherence.specs.stated.Coherent.{Coherent}
 use Rattle.ivy_coherence.specs.stated.MessageSteps.{handled}
-use Rattle.ivy_coherence.specs.stated.PageFaults.{begun}
-use Rattle.ivy_coherence.proofs.keeping.Same.{handled-same}
+use Rattle.ivy_coherence.specs.stated.PageFaults.{begun, fetch}
+use Rattle.ivy_coherence.proofs.keeping.Same.{handled-same, fetch-same}
 use Rattle.ivy_memory.proofs.keeping.WellBehaved.{with_done-sound}
 use Rattle.ivy_moves.specs.stated.FifoWorld.{FifoWorld, Turns, Delivers, one_more}
 use Rattle.ivy_alloc.specs.stated.HeapCalls.{told_of, answer_to}
 use Rattle.ivy_alloc.proofs.HeapSides.{answer_heap}
-use Rattle.ivy_memory.proofs.serving.Pages.{is_of_pages, handled-pages, begun-pages}
+use Rattle.ivy_memory.proofs.serving.Pages.{is_of_pages, handled-pages, begun-pages, fetch-pages}
 use Rattle.ivy_host.specs.stated.Hosts.{Host, host_rules, serving}
 use Rattle.ivy_moves.specs.stated.Cores.{Outcome}
 use Rattle.ivy_wire.specs.stated.Data.{Message}
@@ -28,7 +28,7 @@ use Rattle.proof_table.specs.transitions.TableSteps.{taken, Row, IsPreservedBy}
 use Rattle.proof_table.proofs.transitions.Alike.{alike_holds}
 use Rattle.proof_worlds.proofs.refinement.LiftedEvents.{IsNode, ComesTo, SameNet, comes_alike, Tells, Starts}
 use Rattle.proof_worlds.proofs.refinement.LiftedMessages.{kept-handled}
-use Rattle.proof_worlds.proofs.refinement.LiftedTurns.{kept-begun, kept-quiet}
+use Rattle.proof_worlds.proofs.refinement.LiftedTurns.{kept-begun, kept-fetch, kept-quiet}
 use Rattle.proof_worlds.proofs.refinement.HeapWays.{within_taken}
 use Rattle.proof_worlds.proofs.refinement.HeapDeliveries.{HeapDelivery, serves, learns}
 use Rattle.proof_worlds.proofs.refinement.LiftedWorlds.{net_with, net_of, managers_of, pages_among, all_pages, node_of, leads_to, letter_first, letter_taken, heap_taken, IsSent, IsSoundWorldBy}
@@ -201,3 +201,25 @@ module _ {S : Type 0} {sends : Bool} {ops : Ops S} {P : (ℕ → S) → Net → 
             (t.posted ∙ ap (extended o.posted) posts) t.delivered w.within))),
         all.2,
       )
+
+  -- a turn in which a page is fetched
+  pub kept-fetches : (x : ℕ) (t : Turns (host_rules ops) o x o') (page : ℕ) (writes : Bool)
+      (number : ℕ) → page < c.pages → 1 ≤ number
+      → t.outcome.after.memory.coherence ≡ (fetch ops t.core.memory.coherence page writes number).after
+      → t.outcome.posted ≡ (fetch ops t.core.memory.coherence page writes number).posted → Then f
+  kept-fetches x t page writes number inside numbered after posts =
+      let k : Coherent S = t.core.memory.coherence in
+      let good : IsSoundHost ops c x t.core = w.sound x t.core t.there in
+      let node : IsNode (managers_of spare o) (net_of o) x k =
+      node_of spare o o.delivered [] x t.core t.there good.me in
+      kept-fetch c x (managers_of spare o) (net_of o) f k page writes number good.config good.me
+      kept good.memory.coherent node refl h inside numbered (managers_of spare o') (net_of o')
+      (subst (λ (z : Coherent S). ComesTo (managers_of spare o) (net_of o) x z
+      (fetch ops k page writes number).posted (managers_of spare o') (net_of o')) after
+      (subst (λ ps. ComesTo (managers_of spare o) (net_of o) x t.outcome.after.memory.coherence ps
+      (managers_of spare o') (net_of o'))
+      (all_pages (fetch ops k page writes number).posted (fetch-pages ops k page writes number))
+      (leads_to spare o o' o.delivered [] x t.core t.outcome.after
+      (fetch ops k page writes number).posted t.there t.cores
+      (ap (λ (z : Coherent S). z.me) after ∙ (fetch-same ops k page writes number).me ∙ good.me)
+      (t.posted ∙ ap (extended o.posted) posts) t.delivered w.within)))

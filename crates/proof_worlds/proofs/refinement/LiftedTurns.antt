@@ -1,7 +1,5 @@
 -- An access of a node's program: what each row keeps, the access keeps.
-use Rattle.std.proofs.Common.{◌≡◌, ◌<◌, ◌≤◌, ℕ, Bool, true, false, List, [], length, Option, Some, None, refl, sym, ap, ◌∙◌, subst, inl, inr, arith, if◌then◌else◌}
-use Rattle.std.proofs.lemmas.Option.{none-some}
-use Rattle.std.proofs.lemmas.Bool.{cases_eq}
+use Rattle.std.proofs.Common.{◌≡◌, ◌<◌, ◌≤◌, ℕ, Bool, true, false, List, [], ◌∷◌, ◌++◌, length, Option, Some, None, refl, sym, ap, ◌∙◌, subst, inl, inr, arith, if◌then◌else◌}
 use Rattle.ivy_model.specs.declared.Config.{Config}
 use Rattle.ivy_pagetable.specs.declared.Entry.{Entry}
 use Rattle.ivy_pagetable.specs.declared.Entry.TheVariants as entry
@@ -11,22 +9,45 @@ use Rattle.ivy_pagetable.specs.stated.Accesses.{reads, writes, suffices}
 use Rattle.ivy_pagetable.specs.stated.Entries.{is_locked, is_owner}
 use Rattle.ivy_wire.specs.stated.Data.{Parcel}
 use Rattle.ivy_pagetable.specs.stated.Tables.{entry_at, page_at, with_entry, with_page}
-use Rattle.ivy_coherence.specs.declared.need.Need.TheVariants as need
-use Rattle.ivy_pagetable.specs.stated.Words.{IsWord, needs_write, carried_out}
+use Rattle.ivy_pagetable.specs.stated.Words.{IsWord, needs_write, carried_out, fetch_word}
 use Rattle.ivy_pagetable.specs.stated.Manager.{Ops}
 use Rattle.ivy_coherence.specs.stated.Coherent.{Coherent}
-use Rattle.ivy_coherence.specs.stated.PageFaults.{Begun, hit, faulted, busy, accessed, begun_at, begun}
+use Rattle.ivy_coherence.specs.stated.PageFaults.{Begun, Fetch, waiting_from, fault_entry, fault_posted, fetchable, fetched_as, fetch, started, hit, faulted, busy, taken_up, waits_beside, joined, accessed, begun_at, begun}
+use Rattle.ivy_coherence.specs.stated.Fetching.{without_page, suits, joined_by}
 use Rattle.ivy_coherence.specs.stated.IdleSound.{IsSoundIdle}
 use Rattle.ivy_coherence.specs.stated.Sound.{IsSound}
+use Rattle.ivy_coherence.proofs.keeping.Accesses.{fetch_word-fits}
 use Rattle.ivy_coherence.proofs.keeping.Changing.{entry_with, page_with}
+use Rattle.ivy_coherence.proofs.keeping.EventTable.{fetchable_is}
 use Rattle.ivy_coherence.proofs.keeping.SoundEntries.{entry_is}
 use Rattle.proof_table.specs.stated.Letters.{Net}
-use Rattle.proof_table.specs.transitions.Letters.{written}
 use Rattle.proof_table.specs.transitions.TableSteps.{with_manager, with_flat_page as with_flat, IsHop, Begins, Row, IsPreservedBy}
-use Rattle.proof_worlds.proofs.refinement.LiftedNets.{reached, Stands, written_here, written-page, written-node}
+use Rattle.proof_worlds.proofs.refinement.LiftedNets.{reached, Stands, written_here, written-node}
 use Rattle.proof_worlds.proofs.refinement.LiftedRows.{goes, carried_at, hop_here}
-use Rattle.proof_worlds.proofs.refinement.LiftedEvents.{IsNode, ComesTo, WaitsAt, Starts, busy as is_busy, hits, waits, Ended, stands-first, ended-leads}
-use Rattle.proof_worlds.proofs.refinement.LiftedMessages.{entry_ended}
+use Rattle.proof_worlds.proofs.refinement.LiftedEvents.{IsNode, ComesTo, WaitsAt, Starts, busy as is_busy, hits, waits, otherwise, Ended, stands-first, ended-leads}
+use Rattle.proof_worlds.proofs.refinement.EndedEntries.{entry_ended}
+
+-- a word that joins waits at the entry, under the number that it had
+joined_waits : (e : Entry) (w : Word) → is_locked e ≡ true
+    → (number : ℕ) × WaitsAt (joined_by e w) w number
+joined_waits (entry.Idle s) w lock = absurd (let f : false ≡ true = lock in cc)
+joined_waits (entry.AwaitRead s) w lock = (s.call, (refl, refl))
+joined_waits (entry.AwaitWrite s) w lock = (s.waiting.call, (refl, refl))
+joined_waits (entry.AwaitAcks s) w lock = (s.waiting.call, (refl, refl))
+
+-- the word of a fault waits at the entry, under its number
+fault-waits : (w : Word) (call : ℕ) (i : IdleState) → WaitsAt (fault_entry w call i) w call
+fault-waits w call i = by_kind (needs_write w) i.owner
+  where
+    by_kind : (write own : Bool)
+        → WaitsAt (if write
+        then (if own
+        then entry.AwaitAcks (record { left = i.copies; waiting = waiting_from w call })
+        else entry.AwaitWrite (record { had_copy = reads i.access; waiting = waiting_from w call }))
+        else entry.AwaitRead (waiting_from w call)) w call
+    by_kind true true = (refl, refl)
+    by_kind true false = (refl, refl)
+    by_kind false own = (refl, refl)
 
 false_unless : (b : Bool) → (b ≡ true → ⊥) → b ≡ false
 false_unless true h = absurd (h refl)
@@ -43,12 +64,16 @@ module _ {S : Type 0} {sends : Bool} {ops : Ops S} {P : (ℕ → S) → Net → 
       (flat : ℕ → List ℕ) × Ended P m n k.me p k b.after b.posted flat
       × Starts P n.entry k.config k.me f p w call k b.need b.after flat
 
-  -- before the access, at an idle entry
-  first : (i : IdleState) → entry_at k.table p ≡ entry.Idle i
-      → Stands P m n k.me p f (entry.Idle i) (page_at k.table p) k.manager k.breaches [] []
-  first i is =
+  -- before the access, at such an entry
+  first_at : (e : Entry) → entry_at k.table p ≡ e
+      → Stands P m n k.me p f e (page_at k.table p) k.manager k.breaches [] []
+  first_at e is =
       subst (λ e. Stands P m n k.me p f e (page_at k.table p) k.manager k.breaches [] []) is
       (stands-first kept m n k.me p k node f [] loose h)
+
+  first : (i : IdleState) → entry_at k.table p ≡ entry.Idle i
+      → Stands P m n k.me p f (entry.Idle i) (page_at k.table p) k.manager k.breaches [] []
+  first i is = first_at (entry.Idle i) is
 
   busy-goes : (q : ℕ) → k.locked ≡ Some q → Goes (busy ops k)
   busy-goes q lock = (
@@ -101,22 +126,9 @@ module _ {S : Type 0} {sends : Bool} {ops : Ops S} {P : (ℕ → S) → Net → 
             }),
       )
 
-  -- no word waits at this node
-  free : (i : IdleState) → k.locked ≡ None → (q : ℕ)
-      → is_locked (written n.entry k.me p (entry.Idle i) k.me q) ≡ false
-  free i none q = elim (cases_eq q p) [
-    | inl y ↦
-        subst (λ r. is_locked (written n.entry k.me p (entry.Idle i) k.me r) ≡ false) (sym y)
-        (ap is_locked (written_here n.entry k.me p (entry.Idle i)))
-    | inr ne ↦
-        ap is_locked (written-page n.entry k.me p (entry.Idle i) q ne ∙ node.entries q)
-        ∙ false_unless (is_locked (entry_at k.table q))
-        (λ l. none-some q (sym none ∙ sound.others q l))
-  ]
-
-  abbrev begins : (i : IdleState) → k.locked ≡ None
+  abbrev begins : (i : IdleState)
       → Begins k.config (reached n k.me p (entry.Idle i) (page_at k.table p) k.breaches [] [])
-  begins i none = record {
+  begins i = record {
     node = k.me;
     page = p;
     call = call;
@@ -126,7 +138,6 @@ module _ {S : Type 0} {sends : Bool} {ops : Ops S} {P : (ℕ → S) → Net → 
     inside = inside;
     numbered = numbered;
     loose = refl;
-    free = free i none;
     is = written_here n.entry k.me p (entry.Idle i);
   }
 
@@ -138,64 +149,131 @@ module _ {S : Type 0} {sends : Bool} {ops : Ops S} {P : (ℕ → S) → Net → 
   -- the word waits at this entry, and these are posted
   waiting : (z : Entry) (ps : List Parcel)
       → Stands P m n k.me p f z (page_at k.table p) k.manager k.breaches ps [] → WaitsAt z w call
-      → Goes (record {
-        need = need.Started;
-        after = record k { table = with_entry k.table p z; locked = Some p };
-        posted = ps;
-      })
+      → Goes (started ops k p z ps)
   waiting z ps stands waits_there =
       let within : p < length k.table.entries =
       (let e = sound.entries in omega (arith, inside, e)) in (
         f,
-        entry_ended m n k sound p inside z k.manager (Some p) k.more k.done k.done_more k.breaches ps f
-            stands,
-        waits refl refl (record { more = refl; done = refl; done_more = refl }) refl
+        entry_ended m n k sound p inside z k.manager (Some p) k.fetched k.more k.done k.done_more
+            k.breaches ps f stands,
+        waits call refl refl (record { more = refl; done = refl; done_more = refl }) refl
             (subst (λ e. WaitsAt e w call)
             (elim (entry_with k.table p z p within) [ inl y ↦ sym y.1 | inr y ↦ absurd (y.0 refl) ])
             waits_there),
       )
 
-  -- by whether the word writes, and whether this node owns the page
-  faulted-at : (i : IdleState) (write own : Bool) → entry_at k.table p ≡ entry.Idle i
-      → k.locked ≡ None → needs_write w ≡ write → i.owner ≡ own → suffices i.access w ≡ false
-      → Goes (faulted ops k p w call i)
-  faulted-at i true true is none write own short =
+  -- what a fault leads to, by whether the word writes, and whether this node owns the page
+  fault-stands : (i : IdleState) (write own : Bool) → entry_at k.table p ≡ entry.Idle i
+      → needs_write w ≡ write → i.owner ≡ own → suffices i.access w ≡ false
+      → Stands P m n k.me p f (fault_entry w call i) (page_at k.table p) k.manager k.breaches
+      (fault_posted ops k p w call i) []
+  fault-stands i true true is write own short =
       let good : IsSoundIdle k.config k.me i = (entry_is k p (entry.Idle i) sound is).idle i refl in
       let unwritten : writes i.access ≡ false = rw write at short in
-      rw (write, own) (waiting _ _
-      (goes kept (first i is) tt k.manager (λ j. refl) _ _ []
-      (Row.ends_copies (begins i none) own (good.owned own) unwritten good.copies.below
+      rw (write, own) (goes kept (first i is) tt k.manager (λ j. refl) _ _ []
+      (Row.ends_copies (begins i) own (good.owned own) unwritten good.copies.below
       good.copies.apart))
-      (refl, refl))
-  faulted-at i true false is none write own short =
-      rw (write, own) (waiting _ _
-      (goes kept (first i is) (sound.here, hop_here ops m k.me k.manager p) k.manager (λ j. refl) _
-      _ []
-      (Row.asks_page (begins i none) _ own (hop i is own))) (refl, refl))
-  faulted-at i false own is none write owns short =
+  fault-stands i true false is write own short =
+      rw (write, own) (goes kept (first i is) (sound.here, hop_here ops m k.me k.manager p)
+      k.manager (λ j. refl) _ _ []
+      (Row.asks_page (begins i) _ own (hop i is own)))
+  fault-stands i false own is write owns short =
       let good : IsSoundIdle k.config k.me i = (entry_is k p (entry.Idle i) sound is).idle i refl in
       let unread : reads i.access ≡ false = rw write at short in
       let plain : i.owner ≡ false =
       false_unless i.owner
       (λ own. absurd (let g : true ≡ false = sym (good.owned own) ∙ unread in cc)) in
-      rw write (waiting _ _
-      (goes kept (first i is) (sound.here, hop_here ops m k.me k.manager p) k.manager (λ j. refl) _
-      _ []
-      (Row.asks_copy (begins i none) _ plain unread (hop i is plain))) (refl, refl))
+      rw write (goes kept (first i is) (sound.here, hop_here ops m k.me k.manager p) k.manager
+      (λ j. refl) _ _ []
+      (Row.asks_copy (begins i) _ plain unread (hop i is plain)))
+
+  faulted-goes : (i : IdleState) → entry_at k.table p ≡ entry.Idle i → suffices i.access w ≡ false
+      → Goes (faulted ops k p w call i)
+  faulted-goes i is short =
+      waiting (fault_entry w call i) (fault_posted ops k p w call i)
+      (fault-stands i (needs_write w) i.owner is refl refl short) (fault-waits w call i)
+
+  -- a fetch
+  pub fetched-goes : (i : IdleState) → entry_at k.table p ≡ entry.Idle i
+      → suffices i.access w ≡ false
+      → Ended P m n k.me p k
+      (record k {
+        table = with_entry k.table p (fault_entry w call i);
+        fetched = k.fetched ++ p ∷ [];
+      })
+      (fault_posted ops k p w call i) f
+  fetched-goes i is short =
+      entry_ended m n k sound p inside (fault_entry w call i) k.manager k.locked
+      (k.fetched ++ p ∷ []) k.more k.done k.done_more k.breaches (fault_posted ops k p w call i) f
+      (fault-stands i (needs_write w) i.owner is refl refl short)
+
+  pub unfetched-goes : Ended P m n k.me p k k [] f
+  unfetched-goes = record {
+    stands = stands-first kept m n k.me p k node f [] loose h;
+    entries = λ q ne. refl;
+    pages = λ q ne. refl;
+  }
 
   either-goes : (b : Bool) (x y : Begun S) → (b ≡ true → Goes x) → (b ≡ false → Goes y)
       → Goes (if b then x else y)
   either-goes true x y so other = so refl
   either-goes false x y so other = other refl
 
+  -- the page is fetched: the word joins, or waits at no entry
+  joined-goes : (e : Entry) → entry_at k.table p ≡ e → is_locked e ≡ true
+      → Goes (taken_up ops k p w e)
+  joined-goes e is lock =
+      let within : p < length k.table.entries =
+      (let e = sound.entries in omega (arith, inside, e)) in
+      let there = joined_waits e w lock in (
+        f,
+        entry_ended m n k sound p inside (joined_by e w) k.manager (Some p)
+            (without_page p k.fetched) k.more k.done k.done_more k.breaches [] f
+            (goes kept (first_at e is) tt k.manager (λ j. refl) _ _ []
+            (Row.joins (record {
+              node = k.me;
+              page = p;
+              word = w;
+              before = e;
+              here = sound.here;
+              inside = inside;
+              loose = refl;
+              is = written_here n.entry k.me p e;
+            }))),
+        waits there.0 refl refl (record { more = refl; done = refl; done_more = refl }) refl
+            (subst (λ z. WaitsAt z w there.0)
+            (elim (entry_with k.table p (joined_by e w) p within) [
+              | inl y ↦ sym y.1
+              | inr y ↦ absurd (y.0 refl)
+            ])
+            there.1),
+      )
+
+  beside-goes : k.locked ≡ None → is_locked (entry_at k.table p) ≡ true → Goes (waits_beside ops k)
+  beside-goes none lock = (
+    f,
+    record {
+      stands = stands-first kept m n k.me p k node f [] loose h;
+      entries = λ q ne. refl;
+      pages = λ q ne. refl;
+    },
+    otherwise none lock refl refl refl,
+  )
+
+  join-goes : (e : Entry) → entry_at k.table p ≡ e → k.locked ≡ None → is_locked e ≡ true
+      → Goes (joined ops k p w e)
+  join-goes e is none lock =
+      either-goes (suits e (needs_write w)) _ _ (λ fits. joined-goes e is lock)
+      (λ unfit. beside-goes none (ap is_locked is ∙ lock))
+
   accessed-goes : (e : Entry) → entry_at k.table p ≡ e → k.locked ≡ None
       → Goes (accessed ops k p w call e)
   accessed-goes (entry.Idle i) is none =
       either-goes (suffices i.access w) _ _ (λ enough. hit-goes i is enough)
-      (λ short. faulted-at i (needs_write w) i.owner is none refl refl short)
-  accessed-goes (entry.AwaitRead i) is none = busy-goes p (sound.others p (ap is_locked is))
-  accessed-goes (entry.AwaitWrite i) is none = busy-goes p (sound.others p (ap is_locked is))
-  accessed-goes (entry.AwaitAcks i) is none = busy-goes p (sound.others p (ap is_locked is))
+      (λ short. faulted-goes i is short)
+  accessed-goes (entry.AwaitRead s) is none = join-goes (entry.AwaitRead s) is none refl
+  accessed-goes (entry.AwaitWrite s) is none = join-goes (entry.AwaitWrite s) is none refl
+  accessed-goes (entry.AwaitAcks s) is none = join-goes (entry.AwaitAcks s) is none refl
 
   at-goes : (o : Option ℕ) → k.locked ≡ o → Goes (begun_at ops k p w call o)
   at-goes None none = accessed-goes (entry_at k.table p) refl none
@@ -232,6 +310,52 @@ kept-begun {sends = sends} {ops = ops} {P = P} c x m n f k page word call config
           (begun ops k page word call).posted goes.0 m' n' goes.1 leads),
       goes.2,
     ))))
+
+-- What a fetch leads to at node x, P holds of, and of the same flat memory.
+abbrev pub KeepsFetch : {S : Type 0} → Bool → Ops S → ((ℕ → S) → Net → (ℕ → List ℕ) → Type 0) → (ℕ → S)
+    → Net → (ℕ → List ℕ) → Coherent S → Config → ℕ → ℕ → Bool → ℕ → Type 0
+KeepsFetch sends ops P m n f k c x page writes call =
+    IsPreservedBy sends ops c P → IsSound ops k → IsNode m n x k → n.loose ≡ [] → P m n f → page < c.pages
+    → 1 ≤ call → (m' : ℕ → _) (n' : Net)
+    → ComesTo m n x (fetch ops k page writes call).after (fetch ops k page writes call).posted m' n'
+    → P m' n' f
+
+module _ {S : Type 0} {sends : Bool} {ops : Ops S} {P : (ℕ → S) → Net → (ℕ → List ℕ) → Type 0}
+    (m : ℕ → S) (n : Net) (f : ℕ → List ℕ) (k : Coherent S)
+    (kept : IsPreservedBy sends ops k.config P)
+    (sound : IsSound ops k) (node : IsNode m n k.me k) (loose : n.loose ≡ []) (h : P m n f) (p : ℕ)
+    (writes_it : Bool) (call : ℕ) (inside : p < k.config.pages) (numbered : 1 ≤ call) where
+  abbrev EndedBy : Fetch S → Type 0
+  EndedBy b = Ended P m n k.me p k b.after b.posted f
+
+  is_word : IsWord k.config.page_size (fetch_word writes_it)
+  is_word = fetch_word-fits k.config writes_it sound.limits
+
+  by_fetchable : (o : Option IdleState) → fetchable k p writes_it ≡ o
+      → EndedBy (fetched_as ops k p writes_it call o)
+  by_fetchable None is =
+      unfetched-goes m n f k kept sound node loose h p (fetch_word writes_it) call inside is_word
+      numbered
+  by_fetchable (Some i) is =
+      let may = fetchable_is k p writes_it i is in
+      fetched-goes m n f k kept sound node loose h p (fetch_word writes_it) call inside is_word
+      numbered i may.is may.short
+
+  fetch-goes : EndedBy (fetch ops k p writes_it call)
+  unfolding fetch
+  fetch-goes = by_fetchable (fetchable k p writes_it) refl
+
+pub kept-fetch : {S : Type 0} {sends : Bool} {ops : Ops S}
+    {P : (ℕ → S) → Net → (ℕ → List ℕ) → Type 0} → (c : Config) (x : ℕ) (m : ℕ → S) (n : Net) (f : ℕ → List ℕ) (k : Coherent S) (page : ℕ)
+    (writes_it : Bool) (call : ℕ) → k.config ≡ c → k.me ≡ x
+    → KeepsFetch sends ops P m n f k c x page writes_it call
+kept-fetch {sends = sends} {ops = ops} {P = P} c x m n f k page writes_it call config me =
+    subst (λ d. KeepsFetch sends ops P m n f k d x page writes_it call) config
+    (subst (λ y. KeepsFetch sends ops P m n f k k.config y page writes_it call) me
+    (λ kept sound node loose h inside numbered m' n' leads.
+    ended-leads kept m n k.me page k node (fetch ops k page writes_it call).after
+    (fetch ops k page writes_it call).posted f m' n'
+    (fetch-goes m n f k kept sound node loose h page writes_it call inside numbered) leads))
 
 -- What changes nothing of the net: where nothing but the answer is taken out, say.
 pub kept-quiet : {S : Type 0} {sends : Bool} {ops : Ops S}

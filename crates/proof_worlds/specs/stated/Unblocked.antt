@@ -12,13 +12,22 @@ use Rattle.ivy_model.specs.stated.Legal.{ServesAll}
 use Rattle.ivy_model.specs.stated.Explains.{part}
 use Rattle.ivy_wire.specs.declared.Content.TheVariants.{ReadReq}
 use Rattle.ivy_wire.specs.stated.Data.{Parcel}
+use Rattle.ivy_pagetable.specs.declared.Word as words
 use Rattle.ivy_pagetable.specs.stated.Entries.{readable}
 use Rattle.ivy_pagetable.specs.stated.Manager.{Ops}
 use Rattle.ivy_pagetable.specs.stated.Tables.{entry_at}
 use Rattle.ivy_moves.specs.stated.Cores.{Outcome}
+use Rattle.ivy_memory.specs.declared.Asked.TheVariants.{Word}
+use Rattle.ivy_memory.specs.stated.Asking.{asked_of}
 use Rattle.ivy_memory.specs.stated.Memories.{in_progress}
+use Rattle.ivy_host.specs.stated.Fetches.{HandedFetch}
 use Rattle.ivy_host.specs.stated.Hosts.{Host, turn_of}
 use Rattle.proof_worlds.specs.stated.Settled.{HasNoAnswer}
+
+-- the node was handed a fetch of the page
+abbrev pub IsHanded : {S : Type 0} → Host S → ℕ → Type 0
+IsHanded n page = (k : ℕ) × (fetch : HandedFetch)
+    × (slice_get n.fetches.handed k ≡ Some fetch) × (fetch.page ≡ page)
 
 module _ {S : Type 0} (ops : Ops S) (i : ℕ) (n : Host S) where
   -- node i's record of this reply to the call
@@ -42,6 +51,13 @@ module _ {S : Type 0} (ops : Ops S) (i : ℕ) (n : Host S) where
     pub posted : outcome.posted ≡ parcel ∷ []
     pub asks : parcel.message.content ≡ ReadReq 0
 
+  -- the next turn records a reply to the call, as `IsAnsweredNext` says, or the call waits at the
+  -- page's entry from then on
+  abbrev pub IsDoneNext : Call → ℕ → Type 0
+  IsDoneNext called page = ((reply : Reply) × IsAnsweredNext called reply)
+      ⊎ ((outcome : Outcome (Host S)) × (turn_of ops n ≡ Some outcome)
+      × (outcome.after.memory.coherence.locked ≡ Some page))
+
   -- How the node stands by an order of records and the flat memory that it leads to.
   pub data Stands (order : List Record) (last : Memory) : Type 0 where
     -- no call is in progress, or a count is awaited that is below the least value
@@ -59,6 +75,11 @@ module _ {S : Type 0} (ops : Ops S) (i : ℕ) (n : Host S) where
         → slice_get last.counts k ≡ Some count → least ≤ count
         → IsAnsweredNext (Await k least) (Value count) ⊎ AsksForCountsNext
         → part i order ≡ n.history → Stands order last
+    -- a word of a page is asked for that the node was handed to fetch: it could not join the fetch,
+    -- and the next turn answers it, or has to ask for the page first
+    tried : (called : Call) (page : ℕ) (word : words.Word) → n.memory.asked ≡ Some called
+        → asked_of n.memory.coherence.config called ≡ Word page word → IsHanded n page
+        → IsDoneNext called page → part i order ≡ n.history → Stands order last
 
 -- By some legal order, and the flat memory that it leads to, each node stands so.
 pub record AreUnblocked {S : Type 0} (ops : Ops S) (c : Config) (nodes : List (Host S)) : Type 0

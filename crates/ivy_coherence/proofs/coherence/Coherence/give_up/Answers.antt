@@ -1,13 +1,11 @@
 use Rattle.ivy_pagetable.specs.declared.Request.TheVariants as request
-use Rattle.ivy_pagetable.proofs.LockedEntries.{room_alone}
-use Rattle.ivy_coherence.proofs.keeping.Opened.{alone_waiting, giving_sound}
+use Rattle.ivy_coherence.proofs.keeping.Opened.{room_waiting, giving_sound}
 use Rattle.ivy_coherence.proofs.coherence.Coherence.give_up.Goals as goal
 
 pub set_entry-requires-clause-room : goal.set_entry-requires-clause-room
 set_entry-requires-clause-room g c = λ locked.
-    room_alone c.self.inside.table c.args.page
-    (alone_waiting _ _ c.self.view_is c.self.invariant.0 c.args.page request.Write c.args.waiting
-    c.requires.waits)
+    room_waiting _ _ c.self.view_is c.self.invariant.0 c.args.page request.Write c.args.waiting
+    c.requires.waits
 
 pub invariant_of-self : goal.invariant_of-self
 invariant_of-self g c = (

@@ -1,7 +1,6 @@
 use Rattle.std.proofs.Common.{◌∙◌}
 use Rattle.ivy_pagetable.specs.declared.Request.TheVariants as request
-use Rattle.ivy_pagetable.proofs.LockedEntries.{room_alone}
-use Rattle.ivy_coherence.proofs.keeping.Opened.{alone_waiting, others_few, others_fit, collect_sound, spare_after, entries_then}
+use Rattle.ivy_coherence.proofs.keeping.Opened.{room_waiting, others_few, others_fit, collect_sound, spare_after, entries_then}
 use Rattle.ivy_coherence.proofs.coherence.Coherence.owned_with.Goals as goal
 
 pub invalidate-requires-clause-few : goal.invalidate-requires-clause-few
@@ -16,9 +15,8 @@ invalidate-requires-clause-fits g c =
 
 pub set_entry-requires-clause-room : goal.set_entry-requires-clause-room
 set_entry-requires-clause-room g c = λ locked.
-    room_alone c.self.inside.table c.args.page
-    (alone_waiting _ _ c.self.view_is c.self.invariant.0 c.args.page request.Write c.args.waiting
-    c.requires.waits)
+    room_waiting _ _ c.self.view_is c.self.invariant.0 c.args.page request.Write c.args.waiting
+    c.requires.waits
 
 pub invariant_of-self-2 : goal.invariant_of-self-2
 invariant_of-self-2 g c = (

@@ -1,8 +1,7 @@
 use Rattle.std.proofs.Common.{List, rules, ap, ◌∙◌, subst}
 use Rattle.ivy_wire.specs.stated.Data.{Parcel}
 use Rattle.ivy_pagetable.specs.declared.Request.TheVariants as request
-use Rattle.ivy_pagetable.proofs.LockedEntries.{room_alone}
-use Rattle.ivy_coherence.proofs.keeping.Opened.{alone_waiting, sending_fits, sending_sound, sending_then, sending_posts}
+use Rattle.ivy_coherence.proofs.keeping.Opened.{room_waiting, sending_fits, sending_sound, sending_then, sending_posts}
 use Rattle.ivy_coherence.proofs.coherence.Coherence.send_on.Goals as goal
 
 pub serve_put_off-requires-clause-fits : goal.serve_put_off-requires-clause-fits
@@ -13,9 +12,8 @@ serve_put_off-requires-clause-fits g c =
 
 pub set_entry-requires-clause-room : goal.set_entry-requires-clause-room
 set_entry-requires-clause-room g c = λ locked.
-    room_alone c.self.inside.table c.args.page
-    (alone_waiting _ _ c.self.view_is c.self.invariant.0 c.args.page request.Read c.args.waiting
-    c.requires.waits)
+    room_waiting _ _ c.self.view_is c.self.invariant.0 c.args.page request.Read c.args.waiting
+    c.requires.waits
 
 pub invariant_of-self-2 : goal.invariant_of-self-2
 invariant_of-self-2 g c = (

@@ -1,12 +1,10 @@
-use Rattle.ivy_pagetable.proofs.LockedEntries.{room_alone}
-use Rattle.ivy_coherence.proofs.keeping.Opened.{alone_free, fault_sound}
+use Rattle.ivy_coherence.proofs.keeping.Opened.{room_free, fault_sound}
 use Rattle.ivy_coherence.proofs.coherence.Coherence.start.Goals as goal
 
 pub set_entry-requires-clause-room : goal.set_entry-requires-clause-room
 set_entry-requires-clause-room g c = λ locked.
-    room_alone c.self.inside.table c.args.page
-    (alone_free _ _ c.self.view_is c.self.invariant.0 (rw (← c.self.view_is) at c.requires.free)
-    c.args.page)
+    room_free _ _ c.self.view_is c.self.invariant.0 (rw (← c.self.view_is) at c.requires.free)
+    c.args.page
 
 pub invariant_of-self : goal.invariant_of-self
 invariant_of-self g c = (

@@ -18,7 +18,7 @@ serve_put_off-requires-clause-fits g c =
     ≡ (carried_out c.args.waiting.now.word (page_at c.self.inside.table c.args.page)).bytes =
     rw (c.word.ensures, c.in_ok-fill.ensures.ok, c.page.ensures.bytes) at c.carry_out-first.ensures.bytes in
     all_fits g.met.M.Manager.laws _ _ c.self.view_is c.self.invariant.0 c.args.from c.args.page
-    c.bytes.result.now c.args.waiting.now _ _ _ _ c.requires.page c.requires.waits
+    c.bytes.result.now c.args.waiting.now _ _ _ _ c.requires.here c.requires.page c.requires.waits
     (c.bytes.ensures ∙ c.carry.ensures.bytes
     ∙ ap (λ (b : List ℕ). (all_carried c.self.inside.rest.words b).bytes) first)
     c.owned.ensures c.put_offs-messages.ensures.list c.requires.post.config c.requires.post.node
@@ -40,7 +40,7 @@ invariant_of-self-2 g c =
     ∙ ap (λ (x : Coherent _). x.config.page_size) c.self.view_is in (
       rw c.end.ensures (all_sound g.met.M.Manager.laws _ _ c.self.view_is c.self.invariant.0
           c.args.from c.args.page c.bytes.result.now c.args.waiting.now c.owned.result _
-          c.put_offs-messages.result.now _ _ _ _ _ c.requires.page c.requires.waits all
+          c.put_offs-messages.result.now _ _ _ _ _ c.requires.here c.requires.page c.requires.waits all
           c.owned.ensures c.put_offs-messages.ensures.list c.in_ok-after.ensures.idle
           (rw (c.set_entry.ensures, ← c.bytes.ensures) at c.exchange.ensures.page)
           c.in_ok-after.ensures.manager out

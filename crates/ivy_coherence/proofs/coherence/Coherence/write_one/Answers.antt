@@ -11,8 +11,7 @@ pub serve_put_off-requires-clause-fits : goal.serve_put_off-requires-clause-fits
 serve_put_off-requires-clause-fits g c =
     let inside = pages_inside _ _ c.self.view_is c.self.invariant.0 c.args.page c.requires.page in
     last_fits g.met.M.Manager.laws _ _ c.self.view_is c.self.invariant.0 c.args.from c.args.page _
-    c.args.waiting.now _ _ _ _ (ap (λ (x : Coherent _). x.more) c.self.view_is ∙ c.requires.alone)
-    c.requires.page c.requires.waits
+    c.args.waiting.now _ _ _ _ c.requires.page c.requires.waits
     (c.page.ensures.bytes
     ∙ page_then c.self.inside.table c.carry_out.new.self c.args.page _
     (rw c.word-word.ensures at c.in_ok-out.ensures.bytes) inside) c.owned.ensures
@@ -71,7 +70,7 @@ invariant_of-self-2 g c =
     c.in_ok-out.ensures.bytes inside in (
       rw c.clear.ensures (last_sound g.met.M.Manager.laws _ _ c.self.view_is c.self.invariant.0 c.args.from c.args.page
           c.page.result.now c.args.waiting.now c.owned.result _ c.put_offs-messages.result.now _ _ _
-          _ (ap (λ (x : Coherent _). x.more) c.self.view_is ∙ c.requires.alone) c.requires.page c.requires.waits
+          _ c.requires.here c.requires.page c.requires.waits
           (c.page.ensures.bytes
           ∙ page_then c.self.inside.table c.carry_out.new.self c.args.page _ now inside)
           c.owned.ensures c.put_offs-messages.ensures.list c.in-Ok.ensures.idle

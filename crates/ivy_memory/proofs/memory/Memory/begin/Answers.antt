@@ -108,6 +108,26 @@ invariant_of-self-in-Started g c =
           c.in_ok-out-in-Word.ensures.ok,
     )
 
+pub invariant_of-self-in-Fetched : goal.invariant_of-self-in-Fetched
+invariant_of-self-in-Fetched g c =
+    let at : IsBeginning g.M.Manager.ops _ _ c.config.result c.args.call c.args.number
+    c.in-Word.page c.in-Word.word =
+    record {
+      same = c.self.view_is;
+      sound = c.self.invariant.0;
+      config = c.config.ensures;
+      idle = no_call _ _ c.self.view_is c.is_some.ensures c.if-is_some.false;
+      legal = c.requires.width;
+      least = c.requires.number;
+      most = omega arith;
+      asks = sym c.asked_of.ensures.is ∙ c.in-Word.is;
+    } in (
+      started_memory g.met.M.Manager.laws _ _ _ _ _ _ _ at c.need.new.self
+          c.in_ok-out-in-Word.ensures.ok,
+      begun_size g.M.Manager.ops c.self.inside.coherence _ _ _ c.need.new.self _ c.self.invariant.1
+          c.in_ok-out-in-Word.ensures.ok,
+    )
+
 pub invariant_of-self-in-Busy : goal.invariant_of-self-in-Busy
 invariant_of-self-in-Busy g c =
     let at : IsBeginning g.M.Manager.ops _ _ c.config.result c.args.call c.args.number
@@ -204,6 +224,10 @@ returns-in-None-clause-few g c =
 
 pub returns-in-Started-clause-few : goal.returns-in-Started-clause-few
 returns-in-Started-clause-few g c =
+    few_posted _ _ c.self.view_is c.self.invariant.0 c.args.call c.args.number
+
+pub returns-in-Fetched-clause-few : goal.returns-in-Fetched-clause-few
+returns-in-Fetched-clause-few g c =
     few_posted _ _ c.self.view_is c.self.invariant.0 c.args.call c.args.number
 
 pub invariant_of-self-in_default : goal.invariant_of-self-in_default

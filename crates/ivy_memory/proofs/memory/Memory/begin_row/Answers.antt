@@ -121,6 +121,7 @@ returns-in_err-need_row-clause-sure g c =
       most = c.requires.numbers;
     } in
     row_asks g.met.M.Manager.laws _ _ _ _ _ _ c.args.bytes.now _ _ at c.from_residual.result
+    c.in_err-need_row.ensures.idle
 
 pub invariant_of-self-2 : goal.invariant_of-self-2
 invariant_of-self-2 g c =

@@ -5,7 +5,7 @@ use Rattle.ivy_memory.specs.Asking.{MakesPages}
 use Rattle.ivy_memory.specs.stated.Memories.{CallBegun, NodeMemory}
 use Rattle.ivy_memory.specs.BatchedCalls.{CallsAlong}
 use Rattle.ivy_memory.proofs.keeping.Beginning.{err_refuses}
-use Rattle.ivy_memory.proofs.keeping.Polling.{polled-waits, IsRetry, retry_can, given_is, quiet_is, starts_is, waits_is, poll_memory, poll_posts, retry_asks, polled-few}
+use Rattle.ivy_memory.proofs.keeping.Polling.{polled-waits, IsRetry, retry_can, given_is, quiet_is, starts_is, waits_is, beside_is, poll_memory, poll_posts, retry_asks, polled-few}
 use Rattle.ivy_memory.proofs.keeping.Same.{begun_size, returned_size}
 use Rattle.ivy_memory.proofs.memory.Memory.poll_reply.Goals as goal
 
@@ -282,6 +282,52 @@ returns-in-Busy g c =
     } in
     let is = waits_is g.met.M.Manager.laws _ _ _ _ _ _ at c.need.new.self c.in_ok-out.field-0
     c.in_ok-out.ensures.ok c.in_ok-out.ensures.need c.in-Busy.is in
+    let posts = poll_posts g.met.M.Manager.laws _ _ _ _ _ _ at in
+    record {
+      few = polled-few _ _ _ c.self.view_is c.self.invariant.0;
+      reply = sym (ap (λ (x : CallBegun _). x.answer) is);
+      ok = sym (ap (λ (x : CallBegun _). x.after) is);
+      posted = c.in_ok-out.ensures.posted ∙ ap (g.P.Post.ops.after c.args.post.now) posts;
+      took = subst (g.P.Post.ops.takes c.args.post.now) posts c.in_ok-out.ensures.took;
+      err = search rules;
+      fault = search rules;
+      sure = search rules;
+      want = search rules;
+    }
+
+pub invariant_of-self-in-Fetched : goal.invariant_of-self-in-Fetched
+invariant_of-self-in-Fetched g c =
+    let at : IsRetry g.M.Manager.ops _ _ c.config.result c.in-Some.call c.in-Word.page
+    c.in-Word.word =
+    record {
+      same = c.self.view_is;
+      sound = c.self.invariant.0;
+      config = c.config.ensures;
+      called = c.in-Some.is;
+      untold = sym c.reply.ensures ∙ c.in_default-reply.is;
+      asks = sym c.asked_of.ensures.is ∙ c.in-Word.is;
+    } in
+    let is = beside_is g.met.M.Manager.laws _ _ _ _ _ _ at c.need.new.self c.in_ok-out.field-0
+    c.in_ok-out.ensures.ok c.in_ok-out.ensures.need c.in-Fetched.is in (
+      poll_memory g.met.M.Manager.laws _ _ _ _ _ _ at _ _ _ _ _ is,
+      begun_size g.M.Manager.ops c.self.inside.coherence _ _ _ c.need.new.self _ c.self.invariant.1
+          c.in_ok-out.ensures.ok,
+    )
+
+pub returns-in-Fetched : goal.returns-in-Fetched
+returns-in-Fetched g c =
+    let at : IsRetry g.M.Manager.ops _ _ c.config.result c.in-Some.call c.in-Word.page
+    c.in-Word.word =
+    record {
+      same = c.self.view_is;
+      sound = c.self.invariant.0;
+      config = c.config.ensures;
+      called = c.in-Some.is;
+      untold = sym c.reply.ensures ∙ c.in_default-reply.is;
+      asks = sym c.asked_of.ensures.is ∙ c.in-Word.is;
+    } in
+    let is = beside_is g.met.M.Manager.laws _ _ _ _ _ _ at c.need.new.self c.in_ok-out.field-0
+    c.in_ok-out.ensures.ok c.in_ok-out.ensures.need c.in-Fetched.is in
     let posts = poll_posts g.met.M.Manager.laws _ _ _ _ _ _ at in
     record {
       few = polled-few _ _ _ c.self.view_is c.self.invariant.0;

@@ -1,4 +1,4 @@
-use Rattle.std.proofs.Common.{rules, ap, sym, ◌∷◌, [], ◌++◌, ◌∙◌}
+use Rattle.std.proofs.Common.{refl, rules, ap, sym, ◌∷◌, [], ◌++◌, ◌∙◌}
 use Rattle.ivy_moves.specs.Marks.{Turn}
 use Rattle.ivy_memory.proofs.keeping.Beginning.{err_there}
 use Rattle.ivy_site.specs.Inside.{host_of}
@@ -7,13 +7,13 @@ use Rattle.ivy_site.proofs.site.Site.poll.Goals as goal
 
 pub returns-in-Ended-clause-done : goal.returns-in-Ended-clause-done
 returns-in-Ended-clause-done g c =
-    ended_turn _ _ c.self.view_is c.in_ok-next.field-0 c.next.new.self c.reserve.new.self.records _
+    ended_turn _ _ c.self.view_is refl c.in_ok-next.field-0 c.next.new.self c.reserve.new.self.records _
     (sym c.asked.ensures ∙ c.in_default.is) c.in_ok-next.ensures.step c.in-Ended.is
     c.in_ok-reserve.ensures.records c.in_ok-reserve-2.ensures.same
 
 pub returns-in-Local-clause-done : goal.returns-in-Local-clause-done
 returns-in-Local-clause-done g c =
-    local_turn _ _ c.self.view_is c.in_ok-next.field-0 c.next.new.self c.reserve.new.self.records _
+    local_turn _ _ c.self.view_is refl c.in_ok-next.field-0 c.next.new.self c.reserve.new.self.records _
     (sym c.asked.ensures ∙ c.in_default.is) c.in_ok-next.ensures.step c.in-Local.is
     c.in_ok-reserve.ensures.records
     (c.push_turn-in-Local.ensures.marks ∙ ap (λ ms. ms ++ Turn ∷ []) c.in_ok-reserve-2.ensures.same)
@@ -52,14 +52,14 @@ pub returns-in_err-changed-clause-spent : goal.returns-in_err-changed-clause-spe
 returns-in_err-changed-clause-spent g c =
     err_there c.from_residual-in_err-changed.result _ _ c.from_residual-in_err-changed.ensures.1
     (spent_turn _ _ c.self.view_is _ _
-    (ap (host_of _ _) c.in_ok-reserve.ensures.records)
+    (ap (host_of _ _ _) c.in_ok-reserve.ensures.records)
     c.in_err-changed.ensures.spent)
 
 pub returns-then-not-changed-clause-done : goal.returns-then-not-changed-clause-done
 returns-then-not-changed-clause-done g c =
     idle_turn _ _ c.self.view_is _ _ c.poll.new.outbox
     _
-    (ap (host_of _ _) c.in_ok-reserve.ensures.records)
+    (ap (host_of _ _ _) c.in_ok-reserve.ensures.records)
     (not_turned c.in_ok-changed.changed (search rules) _ _ _ _ c.in_ok-changed.ensures.ok)
     c.in_ok-reserve-2.ensures.same
 
@@ -67,7 +67,7 @@ pub invariant_of-self-in-Some : goal.invariant_of-self-in-Some
 invariant_of-self-in-Some g c = (
   called_site _ _ _ c.poll.new.outbox _ _
       c.self.invariant.0
-      (ap (host_of _ _) c.in_ok-reserve.ensures.records)
+      (ap (host_of _ _ _) c.in_ok-reserve.ensures.records)
       (has_turned c.in_ok-changed.changed (search rules) _ _ _ _ c.in_ok-changed.ensures.ok)
       c.in_ok-reserve-2.ensures.same c.push_turn.ensures.marks,
   (
@@ -80,7 +80,7 @@ pub returns-in-Some-clause-done : goal.returns-in-Some-clause-done
 returns-in-Some-clause-done g c =
     called_turn _ _ c.self.view_is _ _
     c.poll.new.outbox _ _
-    (ap (host_of _ _) c.in_ok-reserve.ensures.records)
+    (ap (host_of _ _ _) c.in_ok-reserve.ensures.records)
     (has_turned c.in_ok-changed.changed (search rules) _ _ _ _ c.in_ok-changed.ensures.ok)
     c.in_ok-reserve-2.ensures.same c.push_turn.ensures.marks
 

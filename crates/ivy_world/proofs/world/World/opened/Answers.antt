@@ -1,4 +1,4 @@
-use Rattle.std.proofs.Common.{rules}
+use Rattle.std.proofs.Common.{arith, rules}
 use Rattle.ivy_model.specs.stated.Config.{IsConfig}
 use Rattle.ivy_world.proofs.Worlds.{first_running-of, first_run-of}
 use Rattle.ivy_world.specs.WorldSites.{world_of}
@@ -9,7 +9,8 @@ pub invariant_of-result : goal.invariant_of-result
 invariant_of-result g c =
     let config : IsConfig c.args.config = c.in_ok-check_wide.ensures.accepted.0 (search rules) in (
       first_running-of c.args.opening c.args.config c.args.programs.items c.in_ok-sites.sites.items
-          c.new.result.items config (search rules) c.in_ok-sites.ensures.first
+          c.new.result.items config
+          (omega (arith, c.len.ensures, c.from.ensures, c.if-len-from.false)) c.in_ok-sites.ensures.first
           c.new.ensures.items,
       passed_none c.args.config (world_of c.in_ok-sites.sites.items c.new.result.items),
     )
@@ -22,5 +23,8 @@ returns-clause-opens g c =
 
 pub returns-clause-bad : goal.returns-clause-bad
 returns-clause-bad g c =
-    let config : IsConfig c.args.config = c.in_ok-check_wide.ensures.accepted.0 (search rules) in
-    (λ e both. search rules, λ n. absurd (n (config, search rules)))
+    let config : IsConfig c.args.config = c.in_ok-check_wide.ensures.accepted.0 (search rules) in (
+      λ e both. search rules,
+      λ n. absurd
+          (n (config, omega (arith, c.len.ensures, c.from.ensures, c.if-len-from.false))),
+    )
