@@ -35,6 +35,13 @@ int ivy_in_has_frame(ivy_process *p) {
   return ivy_next_frame(&p->node, &none, 0, &len, &to) == IVY_SHORT_BUFFER;
 }
 
+/* A new string goes to a peer. */
+static void count_sent(ivy_process *p, uint32_t to) {
+  p->counts.sent++;
+  p->is_fresh = 1;
+  if (!p->peers[to].asked) p->peers[to].asked = JUST_NOW;
+}
+
 /* The strings that wait go, once the log has what they follow from. */
 static void send_frames(ivy_process *p, int is_new) {
   size_t len;
@@ -43,17 +50,49 @@ static void send_frames(ivy_process *p, int is_new) {
     if (p->log) ivy_in_flush_log(p);
     if (p->error == IVY_LOG_FULL) return;
     if (to >= p->config.nodes) continue;
-    if (!is_new) p->counts.again++;
-    else {
-      p->counts.sent++;
-      p->is_fresh = 1;
-      if (!p->peers[to].asked) p->peers[to].asked = JUST_NOW;
-    }
+    if (is_new) count_sent(p, to);
+    else p->counts.again++;
     ivy_in_send(p, p->room, FRAME, to, HEAD + len);
   }
 }
 
 void ivy_in_send_frames(ivy_process *p) { send_frames(p, 1); }
+
+/* Short strings to one peer, each behind its length. */
+enum { MOST_TOGETHER = 512 };
+typedef struct { uint8_t bytes[MOST_TOGETHER]; size_t len; uint32_t to, many; } bundle;
+
+/* One alone goes as any other. */
+static void send_bundle(ivy_process *p, bundle *b) {
+  size_t skipped = b->many == 1 ? LENGTH : 0;
+  if (!b->many) return;
+  memcpy(ivy_in_room(p) + HEAD, b->bytes + skipped, b->len - skipped);
+  ivy_in_send(p, p->room, b->many == 1 ? FRAME : FRAMES, b->to, HEAD + b->len - skipped);
+  b->len = b->many = 0;
+}
+
+/* What has no room here waits on, and goes alone. */
+void ivy_in_send_together(ivy_process *p) {
+  bundle b;
+  uint8_t *at = b.bytes;
+  size_t len;
+  uint32_t to;
+  b.len = b.many = 0;
+  while (b.len + LENGTH < MOST_TOGETHER && ivy_next_frame(&p->node, at + LENGTH, MOST_TOGETHER - b.len - LENGTH, &len, &to) == IVY_DONE) {
+    ivy_in_put32(at, (uint32_t)len);
+    count_sent(p, to);
+    if (b.many && to != b.to) {
+      send_bundle(p, &b);
+      memmove(b.bytes, at, LENGTH + len);
+    }
+    b.to = to;
+    b.many++;
+    b.len += LENGTH + len;
+    at = b.bytes + b.len;
+  }
+  send_bundle(p, &b);
+  send_frames(p, 1);
+}
 
 void ivy_in_pulse(ivy_process *p, uint32_t to) {
   send_frames(p, 1);

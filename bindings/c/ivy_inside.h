@@ -18,15 +18,19 @@ enum { KIND_AT = 0, FROM_AT = 1, TO_AT = 2, RUN_AT = 3, DRAW_AT = RUN_AT + DRAW,
 
 /* A frame of a node, or a word of the runtime: a process that is in no run yet; the run, with the draws of all; who is in it;
  * all is done; somebody is dead; a sign of life; no, another process has that number. Then, of mapped memory: a sign of life of
- * who has mapped it, with the others of whom it knows that; it may ask for these pages; it has heard so. */
-enum { FRAME = 1, HELLO, RUN, HERE, DONE, DEAD, ALIVE, REFUSED, MAPPED, MAY_ASK, HEARD };
+ * who has mapped it, with the others of whom it knows that; it may ask for these pages; it has heard so. And short frames, each
+ * behind its length. */
+enum { FRAME = 1, HELLO, RUN, HERE, DONE, DEAD, ALIVE, REFUSED, MAPPED, MAY_ASK, HEARD, FRAMES };
 
 /* What is not said again later is said so often at once, since a transport may lose it. */
 enum { REPEATS = 5 };
 
 /* A frame: where its source, its destination and the number of its message stand, and so far above what was delivered a string
  * is kept, as a node does it. */
-enum { FRAME_HEAD = 24, SOURCE = 4, DESTINATION = 5, NUMBER = 8, MOST_AHEAD = 32 };
+enum { FRAME_HEAD = 24, SOURCE = 4, DESTINATION = 5, NUMBER = 8, MOST_AHEAD = 32, LENGTH = 4 };
+
+/* A node fetches no more pages at once. */
+enum { MOST_FETCHED = 7 };
 
 /* The bytes at the end of a string by which who has the key knows that it was sent so. */
 enum { TAG = 16, MOST_KEY = 64 };
@@ -53,6 +57,7 @@ struct ivy_process {
   uint8_t *room; /* of the transport, where it was given and nothing was sent from it yet */
   ivy_progress progress;
   uint32_t me, all;
+  uint32_t ahead;    /* so many pages at most are fetched ahead of need */
   ivy_counts counts; /* but for the hits, which are the other calls */
   uint64_t roots;    /* where they are, or 0 */
 
@@ -180,6 +185,8 @@ int ivy_in_is_needed(const ivy_process *p, uint32_t peer);
 int ivy_in_has_frame(ivy_process *p);
 /* Sends the strings that wait, once the log has what they follow from. */
 void ivy_in_send_frames(ivy_process *p);
+/* The same where pages were fetched, which no log has: those that are short and go to one peer go in one. */
+void ivy_in_send_together(ivy_process *p);
 void ivy_in_hear_frame(ivy_process *p, const uint8_t *bytes, size_t len);
 /* Gives a string to the node: IVY_DONE, IVY_WANTED, or another status where it is none. */
 uint32_t ivy_in_deliver(ivy_process *p, const uint8_t *bytes, size_t len);
@@ -267,6 +274,11 @@ uint32_t ivy_in_call(ivy_process *p, const call *c, uint64_t *value);
 void ivy_in_end_call(ivy_process *p);
 /* Whether the run is over, and calls in progress get no reply. */
 static inline int ivy_in_is_over(const ivy_process *p) { return p->dead || p->error == IVY_LOG_FULL; }
+
+/* ---- ivy_start.c -------------------------------------------------------------------------------------------------------- */
+
+/* How many pages are fetched ahead, by the environment. Whether that says nothing, or a number that can be used. */
+int ivy_in_find_ahead(ivy_process *p);
 
 /* ---- ivy_places.c ----------------------------------------------------------------------------------------------------- */
 

@@ -136,6 +136,7 @@ static uint32_t open_node(ivy_process *p, const ivy_start *start) {
   const ivy_config *c = &start->config;
   if (!start->transport.receive) return IVY_NO_TRANSPORT;
   if (!ivy_in_find_key(p)) return IVY_NO_KEY;
+  if (!ivy_in_find_ahead(p)) return IVY_BAD_ARGUMENT;
   if (ivy_version() != IVY_VERSION) return IVY_BAD_VERSION;
   uint32_t status = ivy_open_by(&p->node, c->nodes, c->pages, c->page_size, c->manager, start->me);
   if (status == IVY_BAD_CONFIG || status == IVY_BAD_ARGUMENT) tell_limit(start);

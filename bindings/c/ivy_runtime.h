@@ -72,7 +72,7 @@ int ivy_exit_status(uint32_t status);
  * dynamic or fixed), IVY_PROGRESS (thread, or calls), IVY_START_MS (10000), IVY_DEATH_MS (5000), IVY_LOG (none, or the folder of logs),
  * IVY_LOST, IVY_TWICE and IVY_LATE (0, as for ivy_udp), IVY_HOSTS and IVY_BIND (none; else over UDP between machines, as for
  * ivy_open_hosts: IVY_NODES is how many hosts there are, and each process is told its IVY_NODE), IVY_KEY or IVY_KEY_FILE (none), IVY_REPORT (1: ivy_finalize prints the
- * counts of the process on stderr). */
+ * counts of the process on stderr), IVY_AHEAD (7: so many pages at most are fetched ahead of need; 0: none). */
 
 /* Joins; null, with a line on stderr, where that fails. No word of the command line is read yet. */
 ivy_process *ivy_init(int *argc, char ***argv);
@@ -199,9 +199,19 @@ uint32_t ivy_wait_until(ivy_process *process, uint32_t width, uint64_t address, 
  * of a page that is here, or that comes, at once. Others may write meanwhile wherever the page changes or has to be waited
  * for. In the buffer each word has its highest byte first. IVY_DONE; IVY_BAD_ARGUMENT where `len` is no multiple of 8, and
  * nothing was done; or the refusal of the first word that was refused, and those before it were carried out; or the status of
- * a failure. Where a log is written they go word by word, so that it has lines for each call. */
+ * a failure. Where a log is written they go word by word, so that it has lines for each call.
+ *
+ * Where bytes lie on several pages, and one is not here, those behind it are fetched while it is waited for, IVY_AHEAD at most:
+ * to be read by ivy_read, and by ivy_write to be written. A log has no line for that, so where there is one nothing is. */
 uint32_t ivy_read(ivy_process *process, uint64_t address, void *into, size_t len);
 uint32_t ivy_write(ivy_process *process, uint64_t address, const void *from, size_t len);
+
+/* A hint: so many bytes from an address on, of any alignment, will be read soon. The pages that they lie on come while the program
+ * goes on, as many as are free: a node fetches seven at once, and IVY_AHEAD says how many are asked for here at most. It waits for
+ * no page, nor for the call of another thread where ivy_use_threads was said. What becomes of it is seen only in how long later
+ * calls take. Nothing is asked for where there is a log, or where memory is mapped. IVY_DONE; IVY_RESERVED or IVY_OUT_OF_RANGE where not all of the bytes are of the heap, and nothing was done;
+ * or the status of a failure. */
+uint32_t ivy_prefetch(ivy_process *process, uint64_t address, uint64_t bytes);
 
 /* ---- Addresses ---------------------------------------------------------------------------------------------------------
  *

@@ -26,6 +26,15 @@ static int is_said(const char *name, const char *word) {
   return said && !strcmp(said, word);
 }
 
+/* Else as many as a node takes. */
+int ivy_in_find_ahead(ivy_process *p) {
+  p->ahead = MOST_FETCHED;
+  if (!read_number("IVY_AHEAD", &p->ahead)) return 0;
+  if (p->ahead <= MOST_FETCHED) return 1;
+  fprintf(stderr, "ivy: IVY_AHEAD is %u, and not 0 to %d\n", p->ahead, MOST_FETCHED);
+  return 0;
+}
+
 /* ---- A process alone: nothing comes, and nothing is sent --------------------------------------------------------------- */
 
 static uint8_t *alone_room(void *state) { return (uint8_t *)state; }

@@ -197,20 +197,31 @@ static void hear_word(ivy_process *p, uint32_t from, const uint8_t *bytes, size_
   if (kind != REFUSED && p->is_fixed && !memcmp(bytes + RUN_AT, p->names[from], 2 * DRAW)) hear_member(p, from, bytes);
 }
 
+static void hear_frame(ivy_process *p, uint32_t from, const uint8_t *bytes, size_t len) {
+  if (len < FRAME_HEAD || bytes[SOURCE] != from) return;
+  p->peers[from].heard = p->now;
+  p->here |= 1u << from;
+  p->known_here |= 1u << from;
+  ivy_in_hear_frame(p, bytes, len);
+}
+
+static void hear_frames(ivy_process *p, uint32_t from, const uint8_t *bytes, size_t len) {
+  for (size_t at = LENGTH, its; at < len && (its = ivy_in_get32(bytes + at - LENGTH)) <= len - at; at += its + LENGTH)
+    hear_frame(p, from, bytes + at, its);
+}
+
 /* A frame is looked at where it names the run and its sender, as a word is. */
 void ivy_in_hear(ivy_process *p, const uint8_t *bytes, size_t len) {
   if (p->key_length && !ivy_in_has_tag(p, bytes, len)) return;
   if (p->key_length) len -= TAG;
   if (len < HEAD || bytes[TO_AT] != p->me || bytes[FROM_AT] == p->me || bytes[FROM_AT] >= MOST_NODES) return;
   uint32_t from = bytes[FROM_AT];
-  if (bytes[KIND_AT] != FRAME) {
+  uint8_t kind = bytes[KIND_AT];
+  if (kind != FRAME && kind != FRAMES) {
     hear_word(p, from, bytes, len);
     return;
   }
   if (!p->is_fixed || from >= p->config.nodes || memcmp(bytes + RUN_AT, p->names[from], 2 * DRAW)) return;
-  if (len < HEAD + FRAME_HEAD || bytes[HEAD + SOURCE] != from) return;
-  p->peers[from].heard = p->now;
-  p->here |= 1u << from;
-  p->known_here |= 1u << from;
-  ivy_in_hear_frame(p, bytes + HEAD, len - HEAD);
+  if (kind == FRAME) hear_frame(p, from, bytes + HEAD, len - HEAD);
+  else hear_frames(p, from, bytes + HEAD, len - HEAD);
 }

@@ -59,6 +59,7 @@ def _library():
         "me": [process], "nodes": [process], "use_threads": [process], "error": [process], "forget": [process],
         "call": [process, u32, u32, u64, u64, u64, to64], "await_for": [process, u64, u64, ctypes.c_long, to64],
         "get": [process, u64, buffer, size], "put": [process, u64, buffer, size], "text": [u32],
+        "prefetch": [process, u64, u64],
         "add_double": [process, u64, ctypes.c_double], "counts_of": [process], "page_of": [process, u64],
         "wait_until": [process, u32, u64, ctypes.c_int, u64, ctypes.c_long, to64], "is_here": [process, u64],
         "give_root": [process, u32, u64], "root_for": [process, u32, ctypes.c_long, to64],
@@ -260,6 +261,10 @@ class Process:
         """The same into a bytearray, an array or one of numpy."""
         room, size = _bytes_of(buffer)
         _done(_lib.ivy_get(self._at, address, room, size))
+
+    def prefetch(self, address, size):
+        """A hint: so many bytes from an address on will be read soon. Nothing is waited for."""
+        _done(_lib.ivy_prefetch(self._at, address, size))
 
     def put(self, address, data):
         """Puts the bytes of anything that has some."""

@@ -17,6 +17,7 @@ def main():
         ivy.use_threads()
         ivy.put(2 * PAGE + 8 * MANY * ivy.me, array.array("d", [ivy.me + 0.5] * MANY))
         meet(ivy, 1)
+        ivy.prefetch(2 * PAGE, 8 * MANY * ivy.nodes)
         row, sums = array.array("d", [0.0] * MANY), [0.0] * MANY
         for node in range(ivy.nodes):
             ivy.get_into(2 * PAGE + 8 * MANY * node, row)
@@ -33,6 +34,11 @@ def main():
             raise AssertionError("a load that is not aligned")
         except Refused as refused:
             assert refused.status == 3
+        try:
+            ivy.prefetch(15 * PAGE, PAGE + 1)
+            raise AssertionError("a hint past the memory")
+        except Refused as refused:
+            assert refused.status == 4
         meet(ivy, 2)
         found = array.array("d", [0.0])
         ivy.get_into(PAGE, found)

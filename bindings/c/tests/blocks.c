@@ -1,4 +1,4 @@
-/* Blocks against words: drawn blocks and words at two nodes, beside the bytes that they should find. A block that hits goes
+/* Blocks against words: drawn blocks and words at two nodes, and pages fetched ahead, beside the bytes that they should find. A block that hits goes
  * as far as its page and its buffer do; one that does nothing has a word whose call waits or is refused. */
 #include "ivy.h"
 #include <stdio.h>
@@ -8,6 +8,7 @@ enum { NODES = 2, PAGES = 4, PAGE = 256, HEAP = PAGES * PAGE, TIMES = 200000, RO
 
 static ivy_node node[NODES];
 static uint8_t should[HEAP];
+static unsigned long waited; /* so many blocks */
 
 static uint64_t seed = 88172645463325252ull;
 static uint32_t draw(uint32_t n) {
@@ -126,15 +127,36 @@ static int closed(void) {
          || ivy_store_block(&none, PAGE, bytes, 8, &words) != IVY_CLOSED;
 }
 
+/* A block that waits, also where its page is fetched to be read: all its words come with the page. Where nothing has to wait, or
+ * the page is fetched to be written, nothing is done. */
+static int check_waiting(int i, uint64_t address, size_t len) {
+  uint8_t bytes[ROOM] = { 0 };
+  size_t words = 1000, most = words_in(address, len);
+  uint32_t status = ivy_begin_load_block(&node[i], address, bytes, len, &words);
+  if (status == IVY_DONE) return words ? 12 : 0;
+  if (status != IVY_PENDING || words != most || carry()) return 13;
+  if (ivy_take_load_block(&node[i], address, bytes, len, &words) != IVY_DONE || words != most) return 14;
+  waited++;
+  return memcmp(should + address, bytes, 8 * words) != 0;
+}
+
+/* A page is asked for beside what is done next. */
+static int fetch(int i, uint32_t page) {
+  uint32_t begun;
+  return ivy_fetch(&node[i], page, 1 + draw(2), &begun) != IVY_DONE || begun > 1;
+}
+
 static int drawn(void) {
   int status = 0;
   for (int k = 0; !status && k < TIMES; k++) {
     int i = (int)draw(NODES);
     uint64_t found, address = PAGE + 8 * draw((HEAP - PAGE) / 8);
-    if (draw(3) == 0) status = check_word(i, address);
+    if (draw(4) == 0 && fetch(i, draw(PAGES))) return 11;
+    if (draw(4) == 0) status = check_waiting(i, address, 8 + draw(ROOM - 8));
+    else if (draw(3) == 0) status = check_word(i, address);
     else if (draw(2)) status = check_block(i, address, draw(ROOM), 0);
     else {
-      if (call(i, IVY_STORE, 8, address, 1, &found) != IVY_DONE) return 9;
+      if (carry() || call(i, IVY_STORE, 8, address, 1, &found) != IVY_DONE) return 9; /* no fetch takes the page then */
       put_number(should + address, 1);
       status = check_block(i, address, draw(ROOM), 1);
     }
@@ -154,6 +176,6 @@ int main(void) {
     if ((status = drawn())) return printf("drawn: %d\n", status), 1;
     for (int i = 0; i < NODES; i++) ivy_close(&node[i]);
   }
-  puts("done");
+  printf("blocks: %lu waited\n", waited);
   return 0;
 }

@@ -117,11 +117,17 @@ typedef struct {
 } channel_node;
 
 enum { CHANNEL_PAGE = 256 };
+#ifndef CHANNEL_PAGES
+#define CHANNEL_PAGES 4
+#endif
+
+/* The log of node 1, if it is to have one. */
+static FILE *channel_log;
 
 static inline void *channel_run(void *argument) {
   channel_node *n = (channel_node *)argument;
-  const ivy_start start = { { n->nodes, 4, CHANNEL_PAGE, IVY_DYNAMIC }, n->me, n->transport, n->progress, 5000, n->death_ms,
-                            NULL, 0 };
+  const ivy_start start = { { n->nodes, CHANNEL_PAGES, CHANNEL_PAGE, IVY_DYNAMIC }, n->me, n->transport, n->progress, 5000, n->death_ms,
+                            n->me ? channel_log : NULL, 0 };
   ivy_process *ivy;
   should_be("the status of a start", ivy_join_as(&start, &ivy), IVY_DONE);
   n->work(ivy, n->me);

@@ -18,13 +18,14 @@ static uint32_t draw(uint32_t n) {
 static int bad_arguments(void) {
   ivy_node node = IVY_NONE;
   uint64_t value = 0;
-  uint32_t what, dest;
+  uint32_t what, dest, begun;
   size_t len;
   uint8_t small[1];
   if (ivy_begin(&node, IVY_LOAD, 8, 256, 0, 0, &value) != IVY_CLOSED || ivy_reply(&node, &value) != IVY_CLOSED) return 1;
   if (ivy_deliver(&node, small, 1, &what) != IVY_CLOSED || ivy_pulse(&node, 1) != IVY_CLOSED) return 2;
   if (ivy_next_frame(&node, small, 1, &len, &dest) != IVY_CLOSED || ivy_turns(&node, &value) != IVY_CLOSED) return 3;
   if (ivy_kept_set(&node, &what) != IVY_CLOSED || ivy_owed_set(&node, &what) != IVY_CLOSED) return 15;
+  if (ivy_fetch(&node, 1, IVY_TO_READ, &begun) != IVY_CLOSED || ivy_fetch(&node, 99, 99, &begun) != IVY_CLOSED) return 19;
   if (ivy_open(&node, 1, 16, 256, 0, 0) != IVY_BAD_CONFIG || ivy_open(&node, 257, 16, 256, 0, 0) != IVY_BAD_CONFIG) return 4;
   if (ivy_open(&node, 2, 16, 100, 0, 0) != IVY_BAD_CONFIG || ivy_open(&node, 2, 16, 256, 7, 0) != IVY_BAD_ARGUMENT) return 5;
   if (ivy_open(&node, 2, 65537, 256, 0, 0) != IVY_BAD_CONFIG || ivy_open(&node, 2, 1, 256, 0, 0) != IVY_BAD_CONFIG) return 5;
@@ -39,6 +40,8 @@ static int bad_arguments(void) {
   if (ivy_begin(&node, IVY_LOAD, 8, 257, 0, 0, &value) != IVY_MISALIGNED) return 10;
   if (ivy_begin(&node, IVY_LOAD, 8, 4096, 0, 0, &value) != IVY_OUT_OF_RANGE) return 11;
   if (ivy_begin(&node, IVY_LOAD, 8, 0, 0, 0, &value) != IVY_RESERVED) return 12;
+  if (ivy_fetch(&node, 16, IVY_TO_READ, &begun) != IVY_BAD_ARGUMENT || ivy_fetch(&node, UINT32_MAX, IVY_TO_WRITE, &begun) != IVY_BAD_ARGUMENT) return 20;
+  if (ivy_fetch(&node, 1, IVY_UNLENT, &begun) != IVY_BAD_ARGUMENT || ivy_fetch(&node, 1, 3, &begun) != IVY_BAD_ARGUMENT) return 21;
   if (ivy_reply(&node, &value) != IVY_NO_CALL || ivy_pulse(&node, 1) != IVY_BAD_ARGUMENT) return 13;
   if (ivy_pulse(&node, 200) != IVY_BAD_ARGUMENT || ivy_deliver(&node, 0, 0, &what) != IVY_SHORT_FRAME) return 14;
   ivy_close(&node);
@@ -69,7 +72,7 @@ int main(int argc, char **argv) {
   ivy_node node = IVY_NONE, peer = IVY_NONE;
   uint8_t frame[IVY_FRAME_MOST(256)], bytes[IVY_FRAME_MOST(256)];
   size_t len = 0;
-  uint32_t what, dest;
+  uint32_t what, dest, begun;
   uint64_t value, turns = 0;
   int status = bad_arguments();
   if (status) return printf("bad arguments: %d\n", status), 1;
@@ -94,6 +97,8 @@ int main(int argc, char **argv) {
     if (i % 4 == 0) ivy_begin(&node, draw(11), 1u << draw(5), draw(5000), draw(1000), draw(3), &value);
     if (i % 4 == 1) ivy_reply(&node, &value);
     if (!had_turns(&node, &turns, i % 4 < 2)) return 9;
+    if (i % 16 == 6 && ivy_fetch(&node, draw(20), draw(4), &begun) != IVY_DONE) begun = 0;
+    if (!had_turns(&node, &turns, i % 16 == 6 && begun)) return 12;
     if (i % 64 == 2) ivy_pulse(&node, (uint8_t)draw(3));
     while (ivy_next_frame(&node, bytes, sizeof bytes, &to_write, &dest) == IVY_DONE)
       if (to_write > sizeof bytes || dest > 1) return 7;

@@ -1,5 +1,5 @@
 /* Pages that are lent, by drawn moves of 2 to 5 nodes over a wire that loses, repeats and reorders: SEEDS. Loads and stores by images
- * and by calls, several calls in progress at a time, pages lent and given back: all of it beside one flat array, which is looked up or
+ * and by calls, several calls in progress at a time, pages lent, given back, and fetched ahead: all of it beside one flat array, which is looked up or
  * changed when a call is carried out. A string is served exactly where it takes no page that is lent. */
 #include "ivy.h"
 #include <stdio.h>
@@ -18,7 +18,7 @@ static work works[MOST_NODES];
 static uint8_t image[MOST_NODES][MOST_PAGES][SIZE], lent[MOST_NODES][MOST_PAGES], flat[MOST_PAGES][SIZE];
 static string wire[WIRE];
 static uint32_t under_way;
-static unsigned long seed_number, wanted, wanted_later, gone, refused, hits;
+static unsigned long seed_number, wanted, wanted_later, gone, refused, hits, fetched;
 
 static uint64_t seed;
 static uint32_t draw(uint32_t n) {
@@ -94,6 +94,14 @@ static void begin(uint32_t i, work w) {
   must("a call", status == IVY_DONE || status == IVY_PENDING);
   works[i] = w;
   if (status == IVY_DONE) finish(i, value);
+}
+
+/* A page that is lent is not fetched. */
+static void fetch(uint32_t i, uint32_t page, uint32_t to) {
+  uint32_t begun = 2;
+  must("a fetch", ivy_fetch(&node[i], page, to, &begun) == IVY_DONE && begun < 2);
+  must("a fetch of a page that is lent", !begun || !lent[i][page]);
+  fetched += begun;
 }
 
 /* ---- Strings ------------------------------------------------------------------------------------------------------------- */
@@ -175,6 +183,7 @@ static void move(void) {
       *at = flat[page][byte] = w.value;
       hits++;
       break;
+    case 10: fetch(i, page, asks.to); break;
     case 9:
       if (lent[i][page]) give_back(i, page, draw(lent[i][page]));
       break;
@@ -200,7 +209,7 @@ int main(int argc, char **argv) {
     for (int times = 0; times < MOVES; times++) move();
     for (uint32_t i = 0; i < nodes; i++) ivy_close(&node[i]);
   }
-  printf("lent: %lu strings wanted a page, %lu that were held, %lu pages were gone, %lu calls refused, %lu accesses\n", wanted,
-         wanted_later, gone, refused, hits);
-  return seeds >= 100 && (!wanted || !wanted_later || !gone || !refused || !hits);
+  printf("lent: %lu strings wanted a page, %lu that were held, %lu pages were gone, %lu fetched, %lu calls refused, %lu accesses\n", wanted,
+         wanted_later, gone, fetched, refused, hits);
+  return seeds >= 100 && (!wanted || !wanted_later || !gone || !fetched || !refused || !hits);
 }

@@ -50,6 +50,8 @@ static void closed(void) {
     is("ivy_wanted of no bytes at a closed handle", ivy_wanted(&none, NULL, 0, &page, &on), IVY_CLOSED);
     is("ivy_go_on at a closed handle", ivy_go_on(&none, 1, &page, &on), IVY_CLOSED);
     is("ivy_go_on of no node at a closed handle", ivy_go_on(&none, 255, &page, &on), IVY_CLOSED);
+    is("ivy_fetch at a closed handle", ivy_fetch(&none, 1, IVY_TO_READ, &page), IVY_CLOSED);
+    is("ivy_fetch of nothing at a closed handle", ivy_fetch(&none, 99, IVY_UNLENT, &page), IVY_CLOSED);
     is("ivy_begin_load_block at a closed handle", ivy_begin_load_block(&none, SIZE, bytes, SIZE, &words), IVY_CLOSED);
     is("ivy_begin_store_block at a closed handle", ivy_begin_store_block(&none, SIZE, bytes, SIZE, &words), IVY_CLOSED);
     is("ivy_take_load_block at a closed handle", ivy_take_load_block(&none, SIZE, bytes, SIZE, &words), IVY_CLOSED);
@@ -64,15 +66,23 @@ static void closed(void) {
 
 static void wrong_pages(void) {
   const uint32_t none[] = { 0, pages, pages + 1, UINT32_MAX };
+  uint32_t begun;
   for (size_t i = 0; i < sizeof none / sizeof *none; i++)
     for (uint32_t to = 0; to < 4; to++) {
       is("ivy_lend of the first page, or of none", ivy_lend(&node[1], none[i], to), IVY_BAD_ARGUMENT);
       is("ivy_give_back of the first page, or of none", ivy_give_back(&node[1], none[i], to), IVY_BAD_ARGUMENT);
+      if (none[i]) is("ivy_fetch of no page", ivy_fetch(&node[1], none[i], to, &begun), IVY_BAD_ARGUMENT);
     }
   for (uint32_t page = 1; page <= HELD_PAGE; page++) {
     is("a lending that is none", ivy_lend(&node[1], page, IVY_UNLENT), IVY_BAD_ARGUMENT);
     is("a lending above all", ivy_lend(&node[1], page, 3), IVY_BAD_ARGUMENT);
     is("a page given back for such a lending", ivy_give_back(&node[1], page, UINT32_MAX), IVY_BAD_ARGUMENT);
+    is("a fetch for nothing", ivy_fetch(&node[1], page, IVY_UNLENT, &begun), IVY_BAD_ARGUMENT);
+    is("a fetch for more than all", ivy_fetch(&node[1], page, 3, &begun), IVY_BAD_ARGUMENT);
+    for (uint32_t to = IVY_TO_READ; to <= IVY_TO_WRITE && lent[page]; to++) {
+      is("a fetch of a page that is lent", ivy_fetch(&node[1], page, to, &begun), IVY_DONE);
+      must("that it is not fetched", !begun);
+    }
     for (uint32_t to = IVY_TO_READ; to <= IVY_TO_WRITE; to++)
       if (to <= lent[page]) is("a page lent for as much already", ivy_lend(&node[1], page, to), IVY_BAD_ARGUMENT);
       else if (to > here[page]) is("a page away, locked or waited for", ivy_lend(&node[1], page, to), IVY_NO_PAGE);

@@ -41,6 +41,14 @@ static int call(int i, uint32_t kind, uint64_t place, uint64_t operand, uint64_t
   return status == IVY_DONE ? 0 : -1;
 }
 
+/* A page is asked for ahead, and not where that is refused. */
+static int fetch(int i, uint32_t page, uint32_t to) {
+  uint32_t status, begun = 2;
+  while ((status = ivy_fetch(&node[i], page, to, &begun)) == IVY_MEMORY)
+    if (begun != 2) return -1;
+  return status == IVY_DONE && begun < 2 ? 0 : -1;
+}
+
 static int run(void) {
   uint64_t value = 0;
   for (uint32_t i = 0; i < NODES; i++) {
@@ -52,6 +60,8 @@ static int run(void) {
     if (call((int)(k % NODES), IVY_FETCH_AND_ADD, PAGE + 8 * (k % 2), 1, &value) || value != k / 2) return 2;
     if (call((int)(k % NODES), IVY_ADVANCE, 1, 0, &value)) return 3;
   }
+  for (uint32_t k = 0; k < NODES; k++)
+    if (fetch((int)k, 2, IVY_TO_READ) || fetch((int)k, 3, IVY_TO_WRITE) || carry() < 0) return 11;
   if (call(0, IVY_AWAIT, 1, ROUNDS * NODES, &value) || value != ROUNDS * NODES) return 4;
   if (call(1, IVY_ALLOC, 0, 16, &value) || call(2, IVY_FREE, value, 0, &value)) return 5;
   for (int i = 0; i < NODES; i++) ivy_close(&node[i]);

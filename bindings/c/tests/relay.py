@@ -17,6 +17,7 @@ from functools import reduce
 
 VERSION = 1
 FRAME, HELLO, RUN, HERE, DONE, DEAD, ALIVE, REFUSED = range(1, 9)
+FRAMES = 12
 HEAD, DRAW = 35, 16
 NOTHING = bytes(DRAW)
 WORD = ">QI6I"  # its number, a set of nodes, and the version, the configuration and the order of bytes
@@ -31,6 +32,16 @@ MANAGERS = ["fixed", "dynamic", "steady"]
 def sum_of(draws):
     """The name of a run."""
     return bytes(reduce(lambda a, b: [x ^ y for x, y in zip(a, b)], draws))
+
+
+def parted(rest):
+    """Frames that came in one string, each behind its length."""
+    frames = []
+    while rest:
+        (length,) = struct.unpack_from(">I", rest)
+        frames.append(rest[4 : 4 + length])
+        rest = rest[4 + length :]
+    return frames
 
 
 class Member:
@@ -77,21 +88,23 @@ class Member:
             self.say(ALIVE if self.is_met() else HERE, self.here)
 
     def hear(self):
-        """What came: a frame for the node, or nothing."""
+        """What came: frames for the node, or none."""
         string, (_, port) = self.socket.recvfrom(1 << 16)
         (kind, sender, to), run, draw, rest = string[:3], string[3:19], string[19:HEAD], string[HEAD:]
         if to != self.me or port != self.port + sender or self.is_lost():
-            return None
+            return []
         if self.run == NOTHING and kind == HELLO:
             self.draws[sender] = draw
         elif self.run == NOTHING and kind == RUN:
             self.hear_list(rest[struct.calcsize(WORD) + DRAW :])
         if self.run == NOTHING or (run, draw) != (self.run, self.draws[sender]):
-            return None
+            return []
         if kind == FRAME:
-            return rest
+            return [rest]
+        if kind == FRAMES:
+            return parted(rest)
         self.hear_word(kind, sender, *struct.unpack_from(WORD, rest)[:2])
-        return None
+        return []
 
     def hear_list(self, listed):
         """Who is in the run, with this node's draw among them."""
@@ -131,8 +144,8 @@ class Relay:
         self.ears.register(self.node.stderr, selectors.EVENT_READ, self.hear_end)
 
     def hear_others(self):
-        frame = self.member.hear()
-        if frame and self.node:
+        frames = self.member.hear()
+        for frame in frames if self.node else []:
             self.node.stdin.write(b"%d %s\n" % (self.member.me, frame.hex().encode()))
 
     def hear_node(self):

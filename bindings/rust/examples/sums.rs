@@ -55,6 +55,8 @@ fn run(ivy: &Process) -> Result<(), Status> {
     let mut met = ivy.barrier(MET, ivy.nodes());
     hand_on(ivy)?;
     met.wait()?;
+    ivy.prefetch(row_of(0), 8 * MANY as u64 * u64::from(ivy.nodes()))?;
+    assert_eq!(ivy.prefetch(15 * PAGE, PAGE + 1), Err(Status(4)));
     let mut sums = [0.0; MANY];
     for node in 0..ivy.nodes() {
         let mut row = [0.0; MANY];

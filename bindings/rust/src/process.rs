@@ -79,6 +79,7 @@ unsafe extern "C" {
     fn ivy_await_for(process: *mut c_void, count: u64, least: u64, wait_us: c_long, value: *mut u64) -> u32;
     fn ivy_get(process: *mut c_void, address: u64, into: *mut c_void, len: usize) -> u32;
     fn ivy_put(process: *mut c_void, address: u64, from: *const c_void, len: usize) -> u32;
+    fn ivy_prefetch(process: *mut c_void, address: u64, bytes: u64) -> u32;
     fn ivy_counts_of(process: *mut c_void) -> Counts;
     fn ivy_error(process: *mut c_void) -> u32;
     fn ivy_give_root(process: *mut c_void, root: u32, number: u64) -> u32;
@@ -197,6 +198,11 @@ impl Process {
     pub fn get_slice<T: Number>(&self, address: u64, into: &mut [T]) -> Result<(), Status> {
         let bytes = size_of::<T>() * into.len();
         done(unsafe { ivy_get(self.at, address, into.as_mut_ptr().cast(), bytes) })
+    }
+
+    /// A hint: so many bytes from an address on will be read soon. Nothing is waited for.
+    pub fn prefetch(&self, address: u64, bytes: u64) -> Result<(), Status> {
+        done(unsafe { ivy_prefetch(self.at, address, bytes) })
     }
 
     /// Puts numbers from an address on.

@@ -235,9 +235,25 @@ uint32_t ivy_take_load_block(ivy_node *node, uint64_t address, uint8_t *into, si
 uint32_t ivy_take_store_block(ivy_node *node, uint64_t address, const uint8_t *from, size_t len, size_t *words);
 
 /* How many turns the node has had since it was opened, modulo 2^64. An ivy_begin and an ivy_reply has one turn or none,
- * whatever its status, a block that is carried out or taken one for each of its words, one that begins one, and nothing
- * else has any: so a driver that keeps a log of the node knows which had one. It changes nothing. IVY_DONE, CLOSED. */
+ * whatever its status, a block that is carried out or taken one for each of its words, one that begins one, an ivy_fetch
+ * one where it asks for a page, and nothing else has any: so a driver that keeps a log of the node knows which had one.
+ * It changes nothing. IVY_DONE, CLOSED. */
 uint32_t ivy_turns(ivy_node *node, uint64_t *turns);
+
+/* ---- Pages fetched ahead ------------------------------------------------------------------------------------------
+ *
+ * A page that will be needed may be asked for beforehand: it comes while the program goes on, and a later call or block
+ * finds it here. A fetch is no call, has no reply, and cannot be withdrawn; what comes of it shows only in how long later
+ * calls take. Up to seven pages are fetched at once. A page that came may be taken by another node again before it is used.
+ *
+ * Fetch no page to be written without need: all other nodes lose it. */
+
+/* Asks for `page` ahead, to be read (IVY_TO_READ) or to be written (IVY_TO_WRITE; both below). IVY_DONE with *begun 1: it is
+ * asked for from now on. IVY_DONE with *begun 0: nothing was done; the node may do that with the page already, or asked for
+ * it already, seven pages are being fetched, the page is lent, or a call in progress stands in the way. Then ask again
+ * later, or not at all. BAD_ARGUMENT: there is no such page, or `to` is neither; MEMORY, NUMBERS_SPENT: nothing changed;
+ * CLOSED. Strings wait after *begun 1: take them, as after each call. */
+uint32_t ivy_fetch(ivy_node *node, uint32_t page, uint32_t to, uint32_t *begun);
 
 /* ---- Strings ------------------------------------------------------------------------------------------------------ */
 

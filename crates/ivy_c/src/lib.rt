@@ -13,6 +13,7 @@ ghost use Rattle.ivy_alloc.specs.Heap.{heap_state_code};
 ghost use Rattle.ivy_embedded.specs.Nodes.{Embedded, first_embedded, opened_embedded};
 ghost use Rattle.ivy_embedded.specs.Blocks.{BeginsAll, HasWordsAt, LoadsAll, RefusesBlock, RefusesStores, StoresAll, StoresNoneRead, TakesAll};
 ghost use Rattle.ivy_embedded.specs.Exports.{Answers, Begins, BeginsBlock, CarriesOut, Delivers, IsRequest, Polls, Pulses, RefusesCall, RefusesPoll, RefusesPulse, RefusesString, TakesAt, TakesBlock, marks_at};
+ghost use Rattle.ivy_embedded.specs.Fetches.{Fetches, RefusesFetch};
 ghost use Rattle.ivy_embedded.specs.Lending.{LendsSoundly};
 ghost use Rattle.ivy_embedded.specs.LentPages.{DeliversFarAt, GivesBack, GoesOnFor, IsTold, Lends, RefusesGiveBack, RefusesLend, RefusesPeer, TellsWanted};
 ghost use Rattle.ivy_embedded.specs.declared.lending.Want.{Want};
@@ -475,6 +476,38 @@ pub extern "C" fn ivy_take_store_block(
     *words = node.take_stores(addr, from);
     put(alloc, handle, node);
     DONE
+}
+
+/// The node fetches a page, 1 to be read or 2 to be written, in a turn: the page is asked for, and comes while the program
+/// goes on. No call is of it, and there is no reply to it. It is told whether the page is asked for from now on: 1, or 0
+/// where nothing was done.
+#[unsafe(no_mangle)]
+pub extern "C" fn ivy_fetch(
+    alloc: Global,
+    handle: &mut Handle,
+    page: u32,
+    to: u32,
+    begun: &mut u32,
+) -> u32
+    ensures answers { Answers result handle.old.held handle.new.held (Fetches page to result begun.new) (RefusesFetch page to result) }
+    ensures lent { IfSome handle.new.held LendsSoundly }
+{
+    let Some(mut node) = take(alloc, handle) else {
+        return CLOSED;
+    };
+    let Some(lending) = lending_of(to) else {
+        put(alloc, handle, node);
+        return BAD_ARGUMENT;
+    };
+    let fetched = node.fetch(page, lending);
+    put(alloc, handle, node);
+    match fetched {
+        Ok(is_begun) => {
+            *begun = u32::from(is_begun);
+            DONE
+        }
+        Err(refusal) => refusal_status(refusal),
+    }
 }
 
 /// How many turns the node listed since it was opened, in 64 bits. It changes nothing.

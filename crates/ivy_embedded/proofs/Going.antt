@@ -9,20 +9,21 @@ use Rattle.ivy_pagetable.specs.declared.Word.{Word}
 use Rattle.ivy_memory.specs.declared.memory.Asked.TheVariants as asked
 use Rattle.ivy_memory.specs.stated.Asking.{asked_of}
 use Rattle.ivy_program.specs.Programs.{IsCalled}
+use Rattle.ivy_program.specs.stated.Programs.{Program, fetches_of}
 use Rattle.ivy_program.specs.OwnCode.{process_handed}
 use Rattle.ivy_program.specs.stated.InstructionSteps.{Asks, Process, answered_with, step_of}
 use Rattle.ivy_program.proofs.running.Handing.{handed_called}
 use Rattle.ivy_moves.specs.stated.Cores.{Outcome}
 use Rattle.ivy_host.specs.stated.Hosts.{Host, turn_of}
 use Rattle.ivy_host.specs.stated.Managers.{Managed, managed_ops}
-use Rattle.ivy_host.proofs.Programs.{asked-fetches, posting-core}
+use Rattle.ivy_host.proofs.Programs.{asked-used, posting-core, turned-program}
 use Rattle.ivy_host.proofs.Turns.{none-due}
 use Rattle.ivy_host.proofs.WellBehaved.{IsAskingHost, turn-asking}
 use Rattle.ivy_site.specs.Calls.{AreAnswered, AreTaken}
 use Rattle.ivy_site.specs.Handed.{site_handed}
 use Rattle.ivy_site.specs.SiteView.{SiteView}
 use Rattle.ivy_site.specs.Sites.{AreUsed, SiteTurns}
-use Rattle.ivy_site.proofs.Calling.{used-due}
+use Rattle.ivy_site.proofs.Calling.{handing-used, used-due}
 use Rattle.ivy_embedded.specs.declared.lending.Lending.{Lending}
 use Rattle.ivy_embedded.specs.Exports.{AfterBegin, AfterCall}
 use Rattle.ivy_embedded.specs.Lending.{HasUnanswered, lending_in, may_ask, permits}
@@ -37,7 +38,7 @@ core_of s = s.node.core
 pub record IsOwn (n : Host Managed) : Type 0 where
   pub called : IsCalled n.process.program
   pub asking : IsAskingHost n
-  pub fetched : AreUsed n.fetches
+  pub fetched : AreUsed n
 
 -- what a turn of a site comes to
 pub turned_core : (old new : SiteView) → (t : SiteTurns old new) → t.outcome.after ≡ core_of new
@@ -60,12 +61,12 @@ called_on n new t called = elim t.process [
 ]
 
 -- a turn at which no fetch is due leaves them as they are
-turned_used : (n : Host Managed) (o : Outcome (Host Managed)) → AreUsed n.fetches
-    → turn_of managed_ops n ≡ Some o → AreUsed o.after.fetches
+turned_used : (n : Host Managed) (o : Outcome (Host Managed)) → AreUsed n
+    → turn_of managed_ops n ≡ Some o → AreUsed o.after
 turned_used n o used is =
-    subst AreUsed
-    (sym (asked-fetches n n.memory.asked o
-    (sym (none-due managed_ops n (used-due n used)) ∙ is))) used
+    asked-used n n.memory.asked o (sym (none-due managed_ops n (used-due n used)) ∙ is)
+    ∙ used
+    ∙ sym (ap (λ (p : Program). length (fetches_of p)) (turned-program n o is))
 
 pub turned_own : (old new : SiteView) → IsOwn (core_of old) → SiteTurns old new
     → IsOwn (core_of new)
@@ -73,7 +74,7 @@ turned_own old new own t = record {
   called = called_on (core_of old) (core_of new) (turned_so old new own t) own.called;
   asking = subst IsAskingHost (turned_core old new t)
       (turn-asking managed_ops (core_of old) t.outcome own.asking t.turn);
-  fetched = subst (λ (n : Host Managed). AreUsed n.fetches) (turned_core old new t)
+  fetched = subst AreUsed (turned_core old new t)
       (turned_used (core_of old) t.outcome own.fetched t.turn);
 }
 
@@ -142,7 +143,7 @@ handed_own s more own none = record {
   called = handed_called more (core_of s).process.program own.called;
   asking = λ k at. absurd (none k
       (asks_unanswered (core_of s).process k own.called (own.asking k at).0));
-  fetched = own.fetched;
+  fetched = handing-used more (core_of s) own.fetched;
 }
 
 -- the calls that have no reply yet may be made, as their pages are lent

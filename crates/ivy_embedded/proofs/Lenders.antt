@@ -55,7 +55,7 @@ soundly s page l = record { each = l.each; first = l.first; had = l.had; calls =
 pub record IsKnown (s : SiteView) : Type 0 where
   pub config : (core_of s).memory.coherence.config ≡ s.config
   pub asking : IsAskingHost (core_of s)
-  pub fetched : AreUsed (core_of s).fetches
+  pub fetched : AreUsed (core_of s)
   pub limits : IsConfig s.config
   pub entries : length (core_of s).memory.coherence.table.entries ≡ s.config.pages
 
@@ -282,7 +282,7 @@ gone_lender old new lent page from bytes l k none g =
 
 -- a node as it begins
 pub first_lender : (o : Opening) (c : Config) (me : ℕ) (s : SiteView) (lent : List Lending)
-    → s ≡ first_opened o Nothing c me (Called []) → lent ≡ replicate c.pages Unlent
+    → s ≡ first_opened o Nothing c me (Called [] []) → lent ≡ replicate c.pages Unlent
     → IsLender s lent 0
 first_lender o c me s lent at none =
     rw (at, none) (record {
@@ -301,7 +301,7 @@ first_lender o c me s lent at none =
     unlent (suc n) (suc p) = unlent n p
 
     nothing : (call : Call)
-        → HasUnanswered (core_of (first_opened o Nothing c me (Called []))).process call → ⊥
+        → HasUnanswered (core_of (first_opened o Nothing c me (Called [] []))).process call → ⊥
     nothing call h = none-some call (sym (slice_get_past List.[] h.place (omega arith)) ∙ h.made)
 
 -- more, or less, is lent

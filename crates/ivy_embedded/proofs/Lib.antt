@@ -17,3 +17,4 @@ pub mod RowBytes
 pub mod Kept
 pub mod Wanting
 pub mod Strings
+pub mod Ahead

@@ -7,7 +7,7 @@ use Rattle.ivy_model.specs.declared.Call.{Call}
 use Rattle.ivy_model.specs.declared.Reply.{Reply}
 use Rattle.ivy_model.specs.stated.Legal.{HasWidth}
 use Rattle.ivy_program.specs.OwnCode.{IsFree, process_handed}
-use Rattle.ivy_program.specs.stated.Programs.{Program, Written, Called, calls_in, has_width}
+use Rattle.ivy_program.specs.stated.Programs.{HandedFetch, Program, Written, Called, calls_in, has_width}
 use Rattle.ivy_program.specs.Programs.{IsCalled}
 use Rattle.ivy_program.specs.stated.States.{State}
 use Rattle.ivy_program.specs.stated.InstructionSteps.{Process, Asks, Ends, Local, after_reply, answered_with, at_state, called_at, step_of}
@@ -30,7 +30,7 @@ replied_less : (program : Program) (s : State) (reply : Reply) (call : Call)
     → HasUnanswered (at_program program s) call
 replied_less (Written is) s reply call h =
     absurd (none-some call (sym (slice_get_past List.[] h.place (omega arith)) ∙ h.made))
-replied_less (Called rows) s reply call h =
+replied_less (Called rows fs) s reply call h =
     let low = h.from in record { place = h.place; from = omega (arith, low); made = h.made }
 
 -- a reply leaves none that was none before
@@ -56,7 +56,7 @@ local_less p s called is = by p.program p.state called is
     by : (program : Program) (state : State) → IsCalled program
         → step_of (at_program program state) ≡ Local s → ⊥
     by (Written instructions) state called is = called
-    by (Called rows) state called is = never_local (slice_get (calls_in rows) state.place) s is
+    by (Called rows fs) state called is = never_local (slice_get (calls_in rows) state.place) s is
 
 -- a call that has no reply once more were made has none before, or is one of those
 pub handed_or : (more : List (List Call)) (p : Process) (call : Call)
@@ -69,7 +69,7 @@ handed_or more p call h = by p.program p.state (record { place = h.place; from =
         ⊎ ((k : ℕ) × (slice_get (calls_in more) k ≡ Some call))
     by (Written is) state h =
         absurd (none-some call (sym (slice_get_past List.[] h.place (omega arith)) ∙ h.made))
-    by (Called rows) state h =
+    by (Called rows fs) state h =
         let whole = sym (ap (λ calls. slice_get calls h.place) (calls-append rows more)) ∙ h.made in
         elim (cases_lt h.place (length (calls_in rows))) [
           | inl low ↦ inl (record {
@@ -84,9 +84,10 @@ handed_or more p call h = by p.program p.state (record { place = h.place; from =
         ]
 
 -- where each has its reply, the place is past them
-past_all : (rows : List (List Call)) (s : State) → IsAnswered (at_program (Called rows) s)
+past_all : (fs : List HandedFetch) (rows : List (List Call)) (s : State)
+    → IsAnswered (at_program (Called rows fs) s)
     → length (calls_in rows) ≤ s.place
-past_all rows s none = elim (cases_lt s.place (length (calls_in rows))) [
+past_all fs rows s none = elim (cases_lt s.place (length (calls_in rows))) [
   | inl low ↦ elim (calls_in rows) as (λ calls. s.place < length calls
       → ((call : Call) → slice_get calls s.place ≡ Some call → ⊥) → length calls ≤ s.place) [
         | [] ↦ λ less not. omega (arith, less)
@@ -110,8 +111,8 @@ one_answered p call reply none other h =
         → ⊥
     by (Written is) state none h =
         none-some other (sym (slice_get_past List.[] h.place (omega arith)) ∙ h.made)
-    by (Called rows) state none h =
-        let past = past_all rows state none in
+    by (Called rows fs) state none h =
+        let past = past_all fs rows state none in
         let low = h.from in
         let within = slice_get_within (calls_in (rows ++ (call ∷ []) ∷ [])) h.place other h.made in
         let long = ap length (calls-append rows ((call ∷ []) ∷ []))
@@ -130,15 +131,15 @@ free_answered p free wide other h =
     (λ c u. wide c (record { place = u.place; from = u.from; made = u.made }))
     (record { place = h.place; from = h.from; made = h.made })
   where
-    at : (rows : List (List Call)) (state : State) (o : Option Call)
+    at : (fs : List HandedFetch) (rows : List (List Call)) (state : State) (o : Option Call)
         → slice_get (calls_in rows) state.place ≡ o → called_at o ≡ Ends
-        → ((call : Call) → HasUnanswered (at_program (Called rows) state) call → HasWidth call)
-        → HasUnanswered (at_program (Called rows) state) other → ⊥
-    at rows state (Some call) there ends wide h =
+        → ((call : Call) → HasUnanswered (at_program (Called rows fs) state) call → HasWidth call)
+        → HasUnanswered (at_program (Called rows fs) state) other → ⊥
+    at fs rows state (Some call) there ends wide h =
         not_ended (has_width call) call
         (has_width_test call
         (wide call (record { place = state.place; from = omega arith; made = there }))) ends
-    at rows state None there ends wide h =
+    at fs rows state None there ends wide h =
         let within = slice_get_within (calls_in rows) h.place other h.made in
         let low = h.from in
         elim (cases_lt state.place (length (calls_in rows))) [
@@ -153,8 +154,8 @@ free_answered p free wide other h =
         → HasUnanswered (at_program program state) other → ⊥
     by (Written is) state ends wide h =
         none-some other (sym (slice_get_past List.[] h.place (omega arith)) ∙ h.made)
-    by (Called rows) state ends wide h =
-        at rows state (slice_get (calls_in rows) state.place) refl ends wide h
+    by (Called rows fs) state ends wide h =
+        at fs rows state (slice_get (calls_in rows) state.place) refl ends wide h
 
 -- a call that own code asks for has no reply yet
 pub asks_unanswered : (p : Process) (call : Call) → IsCalled p.program → step_of p ≡ Asks call
@@ -167,11 +168,11 @@ asks_unanswered p call called asks =
     same true c is = cc
     same false c is = absurd cc
 
-    at : (rows : List (List Call)) (state : State) (o : Option Call)
+    at : (fs : List HandedFetch) (rows : List (List Call)) (state : State) (o : Option Call)
         → slice_get (calls_in rows) state.place ≡ o → called_at o ≡ Asks call
-        → HasUnanswered (at_program (Called rows) state) call
-    at rows state None there is = absurd cc
-    at rows state (Some c) there is = record {
+        → HasUnanswered (at_program (Called rows fs) state) call
+    at fs rows state None there is = absurd cc
+    at fs rows state (Some c) there is = record {
       place = state.place;
       from = omega arith;
       made = there ∙ ap Some (same (has_width c) c is);
@@ -180,5 +181,5 @@ asks_unanswered p call called asks =
     by : (program : Program) (state : State) → IsCalled program
         → step_of (at_program program state) ≡ Asks call → HasUnanswered (at_program program state) call
     by (Written instructions) state called asks = absurd called
-    by (Called rows) state called asks =
-        at rows state (slice_get (calls_in rows) state.place) refl asks
+    by (Called rows fs) state called asks =
+        at fs rows state (slice_get (calls_in rows) state.place) refl asks

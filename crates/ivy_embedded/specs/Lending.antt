@@ -94,7 +94,7 @@ page_asked a = 0
 -- the calls that own code has made
 abbrev pub calls_made : Program → List Call
 calls_made (Written instructions) = List.[]
-calls_made (Called rows) = calls_in rows
+calls_made (Called rows fs) = calls_in rows
 
 -- the program has made this call, and has no reply to it yet
 pub record HasUnanswered (p : Process) (call : Call) : Type 0 where

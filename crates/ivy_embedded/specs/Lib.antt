@@ -3,6 +3,7 @@ pub mod Lending
 pub mod Calls
 pub mod Blocks
 pub mod Exports
+pub mod Fetches
 pub mod Lends
 pub mod LentPages
 pub mod Numbers

@@ -28,7 +28,7 @@ waiting_in e = strings_of e.first e.site.waiting
 -- node `me`, which began so and has made no call yet, and none of whose pages is lent
 abbrev pub opened_embedded : Opening → Config → ℕ → Embedded
 opened_embedded o c me = record {
-  site = first_opened o Nothing c me (Called []);
+  site = first_opened o Nothing c me (Called [] []);
   first = None;
   lent = replicate c.pages Unlent;
 }

@@ -49,10 +49,10 @@ use std::marker::Model;
 /// a page that is lent.
 #[derive(Drop)]
 pub struct Embedded {
-    site: Site<Global>,
+    pub(crate) site: Site<Global>,
     first: Option<Bytes<Global>>,
-    turns: u64,
-    lendings: Lendings,
+    pub(crate) turns: u64,
+    pub(crate) lendings: Lendings,
     /// The page of which the calls are that have no reply yet; the first one, where they are of none.
     waits_at: u32,
 }
@@ -525,7 +525,7 @@ impl Embedded {
 
     /// How many turns the node listed since it was opened, in 64 bits: a call of [`Embedded::begin`] or
     /// [`Embedded::poll`] had one turn, or none, a row that is carried out or whose replies are taken one for each of its
-    /// words, and a row that begins one.
+    /// words, a row that begins one, and [`Embedded::fetch`] one where it asks for a page.
     pub fn turns(&self) -> u64
         ensures { CountsTurns result self.now.site.events }
     {

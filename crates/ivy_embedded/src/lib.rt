@@ -4,6 +4,7 @@
 #![tactic(auto)]
 
 mod embedded;
+mod fetching;
 mod lending;
 mod peers;
 mod status;

@@ -23,7 +23,7 @@ use Rattle.ivy_ether.specs.Rule.{IsHanding, IsStart, AreRunParts, StartsWith}
 pub handed_more : (some more : List (List Call)) (p : Program)
     → handed (some ++ more) p ≡ handed more (handed some p)
 handed_more some more (Written is) = refl
-handed_more some more (Called rows) = ap Called (sym (append_assoc rows some more))
+handed_more some more (Called rows fs) = ap (λ xs. Called xs fs) (sym (append_assoc rows some more))
 
 pub is_handing : IsHanding (host_rules managed_ops) handing
 is_handing = record {

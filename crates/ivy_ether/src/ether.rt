@@ -84,7 +84,7 @@ impl<S: Setup, A: Allocator + Copy> Ether<S, A> {
         passes: usize,
     ) -> Result<(Self, Vec<Pass<Wired<A>>, A>), Fault>
         requires config { config.now ≡ S.config }
-        requires programs { S.programs ≡ replicate S.config.nodes (Called []) }
+        requires programs { S.programs ≡ replicate S.config.nodes (Called [] []) }
         requires capacity { 0 < capacity }
         requires passes { 0 < passes }
         ensures fresh { IfOk result (λ r. AreFresh r.0 r.1.items) }

@@ -1,6 +1,6 @@
 -- Neither a turn that does something nor a message sees what a node's owner will call later, or
 -- have it fetch.
-use Rattle.std.proofs.Common.{◌≡◌, ◌∙◌, ℕ, zero, suc, ◌+◌, ◌^◌, ◌≤◌, ◌⊎◌, inl, inr, nat_lt, List, [], ◌∷◌, ◌++◌, length, map, append-nil, slice_get, Bool, true, false, Option, Some, None, option_map, if◌then◌else◌, refl, sym, ap, subst, arith}
+use Rattle.std.proofs.Common.{◌≡◌, ◌≢◌, ◌∙◌, ℕ, zero, suc, ◌+◌, ◌^◌, ◌≤◌, ◌⊎◌, inl, inr, nat_lt, List, [], ◌∷◌, ◌++◌, length, map, append-nil, slice_get, Bool, true, false, Option, Some, None, option_map, if◌then◌else◌, refl, sym, ap, subst, arith}
 use Rattle.std.proofs.lemmas.Bool.{ltb-false}
 use Rattle.std.proofs.lemmas.Option.{same_Some, none-some, slice_get_within, slice_get_past}
 use Rattle.ivy_model.specs.declared.Call.{Call}
@@ -8,167 +8,50 @@ use Rattle.ivy_model.specs.declared.Config.{Config}
 use Rattle.ivy_model.specs.declared.Reply.{Reply}
 use Rattle.ivy_wire.specs.stated.Data.{Message}
 use Rattle.ivy_pagetable.specs.stated.Manager.{Ops}
-use Rattle.ivy_program.specs.stated.Programs.{Program, Written, Called, calls_in}
-use Rattle.ivy_program.specs.Programs.{handed}
-use Rattle.ivy_program.specs.stated.InstructionSteps.{Step, Local, Asks, Ends, step, step_of, called_at, at_state, along_of}
-use Rattle.ivy_program.specs.OwnCode.{process_handed}
+use Rattle.ivy_program.specs.stated.Programs.{HandedFetch, Program, Written, Called, calls_in}
+use Rattle.ivy_program.specs.Programs.{ahead, fetch_after, handed}
+use Rattle.ivy_program.specs.stated.InstructionSteps.{Step, Local, Asks, Ends, step, step_of, after_reply, along, called_at, at_state, along_of}
+use Rattle.ivy_program.specs.stated.States.{State}
 use Rattle.ivy_program.proofs.reading.Orders.{get_front}
-use Rattle.ivy_program.proofs.running.Handing.{handed_reply, handed_along, handed_step}
+use Rattle.ivy_program.proofs.running.Handing.{ahead_along, ahead_reply, ahead_step, handed_reply, handed_along, handed_step}
 use Rattle.ivy_moves.specs.Carrying.{IsUnseen, IsChangedBy, changed, node_changed}
 use Rattle.ivy_moves.specs.stated.Cores.{Outcome}
 use Rattle.ivy_moves.specs.stated.Nodes.{Node}
 use Rattle.ivy_alloc.specs.declared.CallProgress.{CallProgress}
 use Rattle.ivy_alloc.specs.declared.CallProgress.TheVariants.{Given, Awaited, Unserved}
 use Rattle.ivy_memory.specs.stated.Memories.{NodeMemory, CallBegun, call_begun, in_progress, polled}
-use Rattle.ivy_host.specs.stated.Fetches.{Fetches, HandedFetch, due_of, if_reached, next_fetch}
+use Rattle.ivy_host.specs.stated.Fetches.{due_of, if_reached}
 use Rattle.ivy_host.specs.stated.Openings.{Start, first_node, first_nodes, opening}
 use Rattle.ivy_host.specs.stated.Hosts.{Host, host_rules, asks_reply, begins_as, begins_with, due, fetch_of, fetched_with, or_fetches, quietly, recorded, serving, steps, turn_of, turned_at, turned_by}
-use Rattle.ivy_host.specs.Handing.{handing, fetch_after, fetching, one_more}
+use Rattle.ivy_host.specs.Handing.{handing, fetching}
 
--- which fetch is due does not say either
-due-handed : (more : List (List Call)) (p : Program) (reached : ℕ) (fetches : Fetches)
-    → due_of (handed more p) reached fetches ≡ due_of p reached fetches
-due-handed more (Written is) reached fetches = refl
-due-handed more (Called rows) reached fetches = refl
+-- what may become of a program without its steps' knowing: its owner makes further calls, or has
+-- further pages fetched
+record IsLonger (change : Program → Program) : Type 0 where
+  steps : (p : Program) (s : State) (t : Step) → step p s ≡ t → t ≢ Ends → step (change p) s ≡ t
+  along : (p : Program) (s : State) → step p s ≢ Ends → along (change p) s ≡ along p s
+  reply : (p : Program) (s : State) (r : Reply)
+      → after_reply (change p) s r ≡ after_reply p s r
 
-module _ {S : Type 0} (ops : Ops S) (more : List (List Call)) where
-  recorded-handed : (n : Host S) (m : NodeMemory S) (c : Call) (r : Reply)
-      → recorded (handing more n) m c r ≡ handing more (recorded n m c r)
-  recorded-handed n m c r =
-      ap (λ s. record (recorded n m c r) {
-        process = at_state (process_handed more n.process) s;
-      })
-      (handed_reply more n.process.program n.process.state r)
-
-  with_handed : (n : Host S) (c : Call) (a : CallBegun S) (r : CallProgress) (o : Outcome (Host S))
-      → begins_with n c a r ≡ Some o
-      → begins_with (handing more n) c a r ≡ Some (changed (handing more) o)
-  with_handed n c a (Given r) o e =
-      ap (λ k. Some (record { after = k; posted = a.posted })) (recorded-handed n a.after c r)
-      ∙ ap (λ x. Some (changed (handing more) x))
-      (same_Some (record { after = recorded n a.after c r; posted = a.posted }) o e)
-  with_handed n c a Awaited o e =
-      ap (λ x. Some (changed (handing more) x))
-      (same_Some (record { after = record n { memory = a.after }; posted = a.posted }) o e)
-  with_handed n c a Unserved o e = absurd (none-some o e)
-
-  begun-handed : (b : Bool) (n : Host S) (c : Call) (a : CallBegun S) (o : Outcome (Host S))
-      → (if b then begins_as n c a else None) ≡ Some o
-      → (if b then begins_as (handing more n) c a else None) ≡ Some (changed (handing more) o)
-  begun-handed true n c a o e = with_handed n c a a.answer o e
-  begun-handed false n c a o e = absurd (none-some o e)
-
-  stepped-handed : (n : Host S) (s : Step) (o : Outcome (Host S)) → step_of n.process ≡ s
-      → steps ops n s ≡ Some o
-      → steps ops (handing more n) (step_of (process_handed more n.process))
-      ≡ Some (changed (handing more) o)
-  stepped-handed n (Local s) o is e =
-      ap (steps ops (handing more n))
-      (handed_step more n.process.program n.process.state (Local s) is (λ x. cc))
-      ∙ ap (λ x. Some (changed (handing more) x))
-      (same_Some (quietly (record n { process = at_state n.process s })) o e)
-  stepped-handed n (Asks c) o is e =
-      ap (steps ops (handing more n))
-      (handed_step more n.process.program n.process.state (Asks c) is (λ x. cc))
-      ∙ ap (λ ks. if nat_lt (length n.history + 1) (2 ^ 64)
-      then begins_as (handing more n) c (call_begun ops n.memory c ks (length n.history + 1)) else None)
-      (handed_along more n.process.program n.process.state
-      (λ ends. let f : Ends ≡ Asks c = sym ends ∙ is in cc))
-      ∙ begun-handed (nat_lt (length n.history + 1) (2 ^ 64)) n c
-      (call_begun ops n.memory c (along_of n.process) (length n.history + 1)) o e
-  stepped-handed n Ends o is e = absurd (none-some o e)
-
-  turned-handed : (n : Host S) (asked : Option Call) (o : Outcome (Host S))
-      → turned_at ops n asked ≡ Some o
-      → turned_at ops (handing more n) asked ≡ Some (changed (handing more) o)
-  turned-handed n (Some c) o e =
-      let a = polled ops n.memory in with_handed n c a a.answer o e
-  turned-handed n None o e = stepped-handed n (step_of n.process) o refl e
-
-  -- a call that can do nothing still can't
-  none_handed : (n : Host S) (c : Call) (a : CallBegun S) (r : CallProgress)
-      → begins_with n c a r ≡ None → begins_with (handing more n) c a r ≡ None
-  none_handed n c a (Given r) is = absurd (none-some _ (sym is))
-  none_handed n c a Awaited is = absurd (none-some _ (sym is))
-  none_handed n c a Unserved is = refl
-
-  asks-handed : (n : Host S) (asked : Option Call) (r : Option (Outcome (Host S)))
-      → asks_reply ops n asked ≡ r
-      → asks_reply ops (handing more n) asked ≡ option_map (changed (handing more)) r
-  asks-handed n None (Some o) is = absurd (none-some o is)
-  asks-handed n None None is = refl
-  asks-handed n (Some c) (Some o) is =
-      let a = polled ops n.memory in with_handed n c a a.answer o is
-  asks-handed n (Some c) None is = let a = polled ops n.memory in none_handed n c a a.answer is
-
-  -- a fetch that is due is carried out
-  or-handed : (n : Host S) (f : HandedFetch) (r : Option (Outcome (Host S))) (o : Outcome (Host S))
-      → or_fetches ops n f r ≡ Some o
-      → or_fetches ops (handing more n) f (option_map (changed (handing more)) r)
-      ≡ Some (changed (handing more) o)
-  or-handed n f (Some x) o e = ap (λ y. Some (changed (handing more) y)) (same_Some x o e)
-  or-handed n f None o e =
-      ap (λ y. Some (changed (handing more) y))
-      (same_Some (fetched_with n (fetch_of ops n f)) o e)
-
-  by-handed : (n : Host S) (d : Option HandedFetch) (o : Outcome (Host S))
-      → turned_by ops n d ≡ Some o
-      → turned_by ops (handing more n) d ≡ Some (changed (handing more) o)
-  by-handed n None o e = turned-handed n n.memory.asked o e
-  by-handed n (Some f) o e =
-      let r = asks_reply ops n n.memory.asked in
-      ap (or_fetches ops (handing more n) f) (asks-handed n n.memory.asked r refl)
-      ∙ or-handed n f r o e
-
-  turn_handed : (n : Host S) (o : Outcome (Host S)) → turn_of ops n ≡ Some o
-      → turn_of ops (handing more n) ≡ Some (changed (handing more) o)
-  unfolding turn_of
-  turn_handed n o e =
-      ap (turned_by ops (handing more n))
-      (due-handed more n.process.program
-      (n.process.state.place + length (in_progress n.memory.asked n.memory.along)) n.fetches)
-      ∙ by-handed n (due n) o e
-
-  serve_handed : (n : Host S) (from : ℕ) (m : Message)
-      → serving ops (handing more n) from m ≡ changed (handing more) (serving ops n from m)
-  unfolding serving
-  serve_handed n from m = refl
-
-  -- so the change is seen by none
-  pub unseen : IsUnseen (host_rules ops) (handing more)
-  unseen = record { turn = turn_handed; serve = serve_handed }
-
--- a fetch that is handed later
-
--- the next fetch, with one more behind
-next-longer : (fetches : Fetches) (fetch f : HandedFetch) → next_fetch fetches ≡ Some f
-    → next_fetch (one_more fetches fetch) ≡ Some f
-next-longer fetches fetch f is =
-    get_front fetches.handed (fetch ∷ []) fetches.used
-    (slice_get_within fetches.handed fetches.used f is) ∙ is
-
--- it is one of these, or the one more where there was none
-next-last : (xs : List HandedFetch) (x : HandedFetch) (i : ℕ) → slice_get xs i ≡ None
-    → (slice_get (xs ++ x ∷ []) i ≡ None) ⊎ (slice_get (xs ++ x ∷ []) i ≡ Some x)
-next-last [] x zero none = inr refl
-next-last [] x (suc i) none = inl refl
-next-last (y ∷ xs) x zero none = absurd (none-some y (sym none))
-next-last (y ∷ xs) x (suc i) none = next-last xs x i none
-
--- own code makes no call past those that it has made
-ends-past : (rows : List (List Call)) (place : ℕ) → length (calls_in rows) ≤ place
-    → called_at (slice_get (calls_in rows) place) ≡ Ends
-ends-past rows place past = ap called_at (slice_get_past (calls_in rows) place past)
-
-module _ {S : Type 0} (ops : Ops S) (page : ℕ) (write : Bool) where
+module _ {S : Type 0} (ops : Ops S) (change : Program → Program) (longer : IsLonger change) where
   abbrev later : Host S → Host S
-  later = fetching page write
+  later n =
+      record n { process = record { program = change n.process.program; state = n.process.state } }
+
+  recorded-later : (n : Host S) (m : NodeMemory S) (c : Call) (r : Reply)
+      → recorded (later n) m c r ≡ later (recorded n m c r)
+  recorded-later n m c r =
+      ap (λ s. record (recorded n m c r) {
+        process = record { program = change n.process.program; state = s };
+      })
+      (longer.reply n.process.program n.process.state r)
 
   with_later : (n : Host S) (c : Call) (a : CallBegun S) (r : CallProgress) (o : Outcome (Host S))
       → begins_with n c a r ≡ Some o
       → begins_with (later n) c a r ≡ Some (changed later o)
   with_later n c a (Given r) o e =
-      ap (λ x. Some (changed later x))
+      ap (λ k. Some (record { after = k; posted = a.posted })) (recorded-later n a.after c r)
+      ∙ ap (λ x. Some (changed later x))
       (same_Some (record { after = recorded n a.after c r; posted = a.posted }) o e)
   with_later n c a Awaited o e =
       ap (λ x. Some (changed later x))
@@ -181,24 +64,34 @@ module _ {S : Type 0} (ops : Ops S) (page : ℕ) (write : Bool) where
   begun-later true n c a o e = with_later n c a a.answer o e
   begun-later false n c a o e = absurd (none-some o e)
 
-  stepped-later : (n : Host S) (s : Step) (o : Outcome (Host S)) → steps ops n s ≡ Some o
-      → steps ops (later n) s ≡ Some (changed later o)
-  stepped-later n (Local s) o e =
-      ap (λ x. Some (changed later x))
+  stepped-later : (n : Host S) (s : Step) (o : Outcome (Host S)) → step_of n.process ≡ s
+      → steps ops n s ≡ Some o
+      → steps ops (later n) (step (change n.process.program) n.process.state)
+      ≡ Some (changed later o)
+  stepped-later n (Local s) o is e =
+      ap (steps ops (later n))
+      (longer.steps n.process.program n.process.state (Local s) is (λ x. cc))
+      ∙ ap (λ x. Some (changed later x))
       (same_Some (quietly (record n { process = at_state n.process s })) o e)
-  stepped-later n (Asks c) o e =
-      begun-later (nat_lt (length n.history + 1) (2 ^ 64)) n c
+  stepped-later n (Asks c) o is e =
+      ap (steps ops (later n))
+      (longer.steps n.process.program n.process.state (Asks c) is (λ x. cc))
+      ∙ ap (λ ks. if nat_lt (length n.history + 1) (2 ^ 64)
+      then begins_as (later n) c (call_begun ops n.memory c ks (length n.history + 1)) else None)
+      (longer.along n.process.program n.process.state
+      (λ ends. let f : Ends ≡ Asks c = sym ends ∙ is in cc))
+      ∙ begun-later (nat_lt (length n.history + 1) (2 ^ 64)) n c
       (call_begun ops n.memory c (along_of n.process) (length n.history + 1)) o e
-  stepped-later n Ends o e = absurd (none-some o e)
+  stepped-later n Ends o is e = absurd (none-some o e)
 
   -- a turn that is none of a fetch
   turned-later : (n : Host S) (asked : Option Call) (o : Outcome (Host S))
-      → turned_at ops n asked ≡ Some o
-      → turned_at ops (later n) asked ≡ Some (changed later o)
+      → turned_at ops n asked ≡ Some o → turned_at ops (later n) asked ≡ Some (changed later o)
   turned-later n (Some c) o e =
       let a = polled ops n.memory in with_later n c a a.answer o e
-  turned-later n None o e = stepped-later n (step_of n.process) o e
+  turned-later n None o e = stepped-later n (step_of n.process) o refl e
 
+  -- a call that can do nothing still can't
   none_later : (n : Host S) (c : Call) (a : CallBegun S) (r : CallProgress)
       → begins_with n c a r ≡ None → begins_with (later n) c a r ≡ None
   none_later n c a (Given r) is = absurd (none-some _ (sym is))
@@ -221,7 +114,7 @@ module _ {S : Type 0} (ops : Ops S) (page : ℕ) (write : Bool) where
   or-later n f None o e =
       ap (λ y. Some (changed later y)) (same_Some (fetched_with n (fetch_of ops n f)) o e)
 
-  -- a fetch was due before
+  -- a fetch that is due is carried out
   due-later : (n : Host S) (f : HandedFetch) (o : Outcome (Host S))
       → turned_by ops n (Some f) ≡ Some o
       → turned_by ops (later n) (Some f) ≡ Some (changed later o)
@@ -230,17 +123,94 @@ module _ {S : Type 0} (ops : Ops S) (page : ℕ) (write : Bool) where
       ap (or_fetches ops (later n) f) (asks-later n n.memory.asked r refl)
       ∙ or-later n f r o e
 
+  by-later : (n : Host S) (d : Option HandedFetch) (o : Outcome (Host S))
+      → turned_by ops n d ≡ Some o → turned_by ops (later n) d ≡ Some (changed later o)
+  by-later n None o e = turned-later n n.memory.asked o e
+  by-later n (Some f) o e = due-later n f o e
+
+  serve_later : (n : Host S) (from : ℕ) (m : Message)
+      → serving ops (later n) from m ≡ changed later (serving ops n from m)
+  unfolding serving
+  serve_later n from m = refl
+
+-- further calls
+
+handed-longer : (more : List (List Call)) → IsLonger (handed more)
+handed-longer more = record {
+  steps = handed_step more;
+  along = handed_along more;
+  reply = handed_reply more;
+}
+
+-- which fetch is due does not say either
+due-handed : (more : List (List Call)) (p : Program) (reached used : ℕ)
+    → due_of (handed more p) reached used ≡ due_of p reached used
+due-handed more (Written is) reached used = refl
+due-handed more (Called rows fs) reached used = refl
+
+module _ {S : Type 0} (ops : Ops S) (more : List (List Call)) where
+  turn_handed : (n : Host S) (o : Outcome (Host S)) → turn_of ops n ≡ Some o
+      → turn_of ops (handing more n) ≡ Some (changed (handing more) o)
+  unfolding turn_of
+  turn_handed n o e =
+      ap (turned_by ops (handing more n))
+      (due-handed more n.process.program
+      (n.process.state.place + length (in_progress n.memory.asked n.memory.along)) n.used)
+      ∙ by-later ops (handed more) (handed-longer more) n (due n) o e
+
+  -- so the change is seen by none
+  pub unseen : IsUnseen (host_rules ops) (handing more)
+  unseen = record {
+    turn = turn_handed;
+    serve = serve_later ops (handed more) (handed-longer more);
+  }
+
+-- a fetch that is handed later
+
+ahead-longer : (page : ℕ) (write : Bool) → IsLonger (ahead page write)
+ahead-longer page write = record {
+  steps = λ p s t is goes. ahead_step page write p s ∙ is;
+  along = λ p s goes. ahead_along page write p s;
+  reply = ahead_reply page write;
+}
+
+-- the next fetch, with one more behind
+next-longer : (xs : List HandedFetch) (x f : HandedFetch) (i : ℕ) → slice_get xs i ≡ Some f
+    → slice_get (xs ++ x ∷ []) i ≡ Some f
+next-longer xs x f i is = get_front xs (x ∷ []) i (slice_get_within xs i f is) ∙ is
+
+-- it is one of these, or the one more where there was none
+next-last : (xs : List HandedFetch) (x : HandedFetch) (i : ℕ) → slice_get xs i ≡ None
+    → (slice_get (xs ++ x ∷ []) i ≡ None) ⊎ (slice_get (xs ++ x ∷ []) i ≡ Some x)
+next-last [] x zero none = inr refl
+next-last [] x (suc i) none = inl refl
+next-last (y ∷ xs) x zero none = absurd (none-some y (sym none))
+next-last (y ∷ xs) x (suc i) none = next-last xs x i none
+
+-- own code makes no call past those that it has made
+ends-past : (rows : List (List Call)) (place : ℕ) → length (calls_in rows) ≤ place
+    → called_at (slice_get (calls_in rows) place) ≡ Ends
+ends-past rows place past = ap called_at (slice_get_past (calls_in rows) place past)
+
+module _ {S : Type 0} (ops : Ops S) (page : ℕ) (write : Bool) where
+  abbrev goes-on : IsLonger (ahead page write)
+  goes-on = ahead-longer page write
+
+  abbrev reached_by : Host S → ℕ
+  reached_by n = n.process.state.place + length (in_progress n.memory.asked n.memory.along)
+
   -- The one more is due, and none was before: so each call that was handed has begun. A turn that
   -- did something asked the call in progress for its reply.
-  more-due : (n : Host S) (rows : List (List Call)) (f : HandedFetch) (o : Outcome (Host S))
-      → n.process.program ≡ Called rows
-      → length (calls_in rows)
-      ≤ n.process.state.place + length (in_progress n.memory.asked n.memory.along)
+  more-due : (n : Host S) (rows : List (List Call)) (fs : List HandedFetch) (f : HandedFetch)
+      (o : Outcome (Host S)) → n.process.program ≡ Called rows fs
+      → length (calls_in rows) ≤ reached_by n
       → (asked : Option Call) → n.memory.asked ≡ asked → turned_at ops n asked ≡ Some o
-      → or_fetches ops (later n) f (asks_reply ops (later n) asked) ≡ Some (changed later o)
-  more-due n rows f o own reached (Some c) is e =
-      ap (or_fetches ops (later n) f) (asks-later n (Some c) (Some o) e)
-  more-due n rows f o own reached None is e =
+      → or_fetches ops (fetching page write n) f (asks_reply ops (fetching page write n) asked)
+      ≡ Some (changed (fetching page write) o)
+  more-due n rows fs f o own reached (Some c) is e =
+      ap (or_fetches ops (fetching page write n) f)
+      (asks-later ops (ahead page write) goes-on n (Some c) (Some o) e)
+  more-due n rows fs f o own reached None is e =
       let past : length (calls_in rows) ≤ n.process.state.place + length (in_progress None n.memory.along) =
       subst (λ (a : Option Call). length (calls_in rows)
       ≤ n.process.state.place + length (in_progress a n.memory.along)) is reached in
@@ -250,82 +220,80 @@ module _ {S : Type 0} (ops : Ops S) (page : ℕ) (write : Bool) where
       absurd (none-some o (sym (ap (steps ops n) ends) ∙ e))
 
   -- where none was due
-  if-more : (n : Host S) (rows : List (List Call)) (f : HandedFetch) (b : Bool)
-      (o : Outcome (Host S)) → n.process.program ≡ Called rows → f.after ≡ length (calls_in rows)
-      → nat_lt (n.process.state.place + length (in_progress n.memory.asked n.memory.along)) f.after ≡ b
+  if-more : (n : Host S) (rows : List (List Call)) (fs : List HandedFetch) (f : HandedFetch)
+      (b : Bool) (o : Outcome (Host S)) → n.process.program ≡ Called rows fs
+      → f.after ≡ length (calls_in rows) → nat_lt (reached_by n) f.after ≡ b
       → turned_at ops n n.memory.asked ≡ Some o
-      → turned_by ops (later n) (if b then None else Some f) ≡ Some (changed later o)
-  if-more n rows f true o own many is e = turned-later n n.memory.asked o e
-  if-more n rows f false o own many is e =
-      more-due n rows f o own
-      (let low = ltb-false
-      (n.process.state.place + length (in_progress n.memory.asked n.memory.along)) f.after is in
-      omega (arith, low, many)) n.memory.asked refl e
+      → turned_by ops (fetching page write n) (if b then None else Some f)
+      ≡ Some (changed (fetching page write) o)
+  if-more n rows fs f true o own many is e =
+      turned-later ops (ahead page write) goes-on n n.memory.asked o e
+  if-more n rows fs f false o own many is e =
+      more-due n rows fs f o own
+      (let low = ltb-false (reached_by n) f.after is in omega (arith, low, many)) n.memory.asked refl
+      e
 
-  abbrev reached_by : Host S → ℕ
-  reached_by n = n.process.state.place + length (in_progress n.memory.asked n.memory.along)
-
-  none-next : (n : Host S) (rows : List (List Call)) (d : Option HandedFetch) (o : Outcome (Host S))
-      → n.process.program ≡ Called rows
-      → (d ≡ None) ⊎ (d ≡ Some (fetch_after (Called rows) page write))
+  none-next : (n : Host S) (rows : List (List Call)) (fs : List HandedFetch)
+      (d : Option HandedFetch) (o : Outcome (Host S)) → n.process.program ≡ Called rows fs
+      → (d ≡ None) ⊎ (d ≡ Some (fetch_after rows page write))
       → turned_at ops n n.memory.asked ≡ Some o
-      → turned_by ops (later n) (if_reached (reached_by n) d) ≡ Some (changed later o)
-  none-next n rows d o own (inl none) e =
-      ap (λ x. turned_by ops (later n) (if_reached (reached_by n) x)) none
-      ∙ turned-later n n.memory.asked o e
-  none-next n rows d o own (inr some) e =
-      let f = fetch_after (Called rows) page write in
-      ap (λ x. turned_by ops (later n) (if_reached (reached_by n) x)) some
-      ∙ if-more n rows f (nat_lt (reached_by n) f.after) o own refl refl e
+      → turned_by ops (fetching page write n) (if_reached (reached_by n) d)
+      ≡ Some (changed (fetching page write) o)
+  none-next n rows fs d o own (inl none) e =
+      ap (λ x. turned_by ops (fetching page write n) (if_reached (reached_by n) x)) none
+      ∙ turned-later ops (ahead page write) goes-on n n.memory.asked o e
+  none-next n rows fs d o own (inr some) e =
+      let f = fetch_after rows page write in
+      ap (λ x. turned_by ops (fetching page write n) (if_reached (reached_by n) x)) some
+      ∙ if-more n rows fs f (nat_lt (reached_by n) f.after) o own refl refl e
 
   -- a fetch that is next, due or not, is next still
   some-next : (n : Host S) (f : HandedFetch) (b : Bool) (o : Outcome (Host S))
       → turned_by ops n (if b then None else Some f) ≡ Some o
-      → turned_by ops (later n) (if b then None else Some f) ≡ Some (changed later o)
-  some-next n f true o e = turned-later n n.memory.asked o e
-  some-next n f false o e = due-later n f o e
+      → turned_by ops (fetching page write n) (if b then None else Some f)
+      ≡ Some (changed (fetching page write) o)
+  some-next n f true o e = turned-later ops (ahead page write) goes-on n n.memory.asked o e
+  some-next n f false o e = due-later ops (ahead page write) goes-on n f o e
 
-  called-later : (n : Host S) (rows : List (List Call)) (d : Option HandedFetch)
-      (o : Outcome (Host S)) → n.process.program ≡ Called rows → next_fetch n.fetches ≡ d
+  called-later : (n : Host S) (rows : List (List Call)) (fs : List HandedFetch)
+      (d : Option HandedFetch) (o : Outcome (Host S)) → n.process.program ≡ Called rows fs
+      → slice_get fs n.used ≡ d
       → turned_by ops n (if_reached (reached_by n) d) ≡ Some o
-      → turned_by ops (later n)
-      (if_reached (reached_by n) (next_fetch (one_more n.fetches (fetch_after (Called rows) page write))))
-      ≡ Some (changed later o)
-  called-later n rows (Some f) o own is e =
-      ap (λ x. turned_by ops (later n) (if_reached (reached_by n) x))
-      (next-longer n.fetches (fetch_after (Called rows) page write) f is)
+      → turned_by ops (fetching page write n)
+      (if_reached (reached_by n) (slice_get (fs ++ fetch_after rows page write ∷ []) n.used))
+      ≡ Some (changed (fetching page write) o)
+  called-later n rows fs (Some f) o own is e =
+      ap (λ x. turned_by ops (fetching page write n) (if_reached (reached_by n) x))
+      (next-longer fs (fetch_after rows page write) f n.used is)
       ∙ some-next n f (nat_lt (reached_by n) f.after) o e
-  called-later n rows None o own is e =
-      none-next n rows (next_fetch (one_more n.fetches (fetch_after (Called rows) page write))) o own
-      (next-last n.fetches.handed (fetch_after (Called rows) page write) n.fetches.used is) e
+  called-later n rows fs None o own is e =
+      none-next n rows fs (slice_get (fs ++ fetch_after rows page write ∷ []) n.used) o own
+      (next-last fs (fetch_after rows page write) n.used is) e
 
   program-later : (n : Host S) (p : Program) (o : Outcome (Host S)) → n.process.program ≡ p
-      → turned_by ops n (due_of p (reached_by n) n.fetches) ≡ Some o
-      → turned_by ops (later n)
-      (due_of p (reached_by n) (one_more n.fetches (fetch_after p page write)))
-      ≡ Some (changed later o)
-  program-later n (Written is) o own e = turned-later n n.memory.asked o e
-  program-later n (Called rows) o own e =
-      called-later n rows (next_fetch n.fetches) o own refl e
+      → turned_by ops n (due_of p (reached_by n) n.used) ≡ Some o
+      → turned_by ops (fetching page write n) (due_of (ahead page write p) (reached_by n) n.used)
+      ≡ Some (changed (fetching page write) o)
+  program-later n (Written is) o own e =
+      turned-later ops (ahead page write) goes-on n n.memory.asked o e
+  program-later n (Called rows fs) o own e = called-later n rows fs (slice_get fs n.used) o own refl e
 
   turn_later : (n : Host S) (o : Outcome (Host S)) → turn_of ops n ≡ Some o
-      → turn_of ops (later n) ≡ Some (changed later o)
+      → turn_of ops (fetching page write n) ≡ Some (changed (fetching page write) o)
   unfolding turn_of
   turn_later n o e = program-later n n.process.program o refl e
 
-  serve_later : (n : Host S) (from : ℕ) (m : Message)
-      → serving ops (later n) from m ≡ changed later (serving ops n from m)
-  unfolding serving
-  serve_later n from m = refl
-
   -- this change too is seen by none
   pub fetch_unseen : IsUnseen (host_rules ops) (fetching page write)
-  fetch_unseen = record { turn = turn_later; serve = serve_later }
+  fetch_unseen = record {
+    turn = turn_later;
+    serve = serve_later ops (ahead page write) goes-on;
+  }
 
 -- no further calls change nothing
 pub handed_none : (p : Program) → handed [] p ≡ p
 handed_none (Written is) = refl
-handed_none (Called calls) = ap Called (append-nil calls)
+handed_none (Called rows fs) = ap (λ xs. Called xs fs) (append-nil rows)
 
 pub handing_none : {S : Type 0} (n : Host S) → handing [] n ≡ n
 handing_none n =

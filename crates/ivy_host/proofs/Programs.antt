@@ -1,4 +1,4 @@
--- An event keeps the program of its node, and the fetches that it was handed.
+-- An event keeps the program of its node, and uses a fetch up only in a turn that carries it out.
 use Rattle.std.proofs.Common.{◌≡◌, ℕ, Bool, true, false, ◌+◌, ◌^◌, List, length, map, Option, Some, None, nat_lt, if◌then◌else◌, refl, sym, ap, ◌∙◌}
 use Rattle.std.proofs.lemmas.Option.{same_Some, none-some}
 use Rattle.ivy_model.specs.declared.Config.{Config}
@@ -17,7 +17,6 @@ use Rattle.ivy_moves.specs.stated.Nodes.{Node, Effect, stays, posting, accepting
 use Rattle.ivy_alloc.specs.declared.CallProgress.{CallProgress}
 use Rattle.ivy_alloc.specs.declared.CallProgress.TheVariants.{Given, Awaited, Unserved}
 use Rattle.ivy_memory.specs.stated.Memories.{CallBegun, call_begun, polled}
-use Rattle.ivy_host.specs.stated.Fetches.{Fetches}
 use Rattle.ivy_host.specs.stated.Managers.{Managed, managed_ops}
 use Rattle.ivy_host.specs.stated.Hosts.{Host, host_rules, turn_of, serving, turned_at, steps, begins, begins_as, begins_with, quietly, recorded}
 use Rattle.ivy_host.proofs.Turns.{either_turn}
@@ -70,42 +69,34 @@ module _ where
       (λ (x : Outcome (Host Managed)). x.after.process.program ≡ n.process.program) n o
       (asked-program n n.memory.asked o) (λ f. refl) e
 
-  -- and a turn keeps the fetches that were handed
-  with-handed : (n : Host Managed) (c : Call) (a : CallBegun Managed) (r : CallProgress)
+  -- a turn that is none of a fetch uses none up
+  with-used : (n : Host Managed) (c : Call) (a : CallBegun Managed) (r : CallProgress)
       (o : Outcome (Host Managed)) → begins_with n c a r ≡ Some o
-      → o.after.fetches ≡ n.fetches
-  with-handed n c a (Given r) o e =
-      ap (λ (x : Outcome (Host Managed)). x.after.fetches)
+      → o.after.used ≡ n.used
+  with-used n c a (Given r) o e =
+      ap (λ (x : Outcome (Host Managed)). x.after.used)
       (sym (same_Some (record { after = recorded n a.after c r; posted = a.posted }) o e))
-  with-handed n c a Awaited o e =
-      ap (λ (x : Outcome (Host Managed)). x.after.fetches)
+  with-used n c a Awaited o e =
+      ap (λ (x : Outcome (Host Managed)). x.after.used)
       (sym (same_Some (record { after = record n { memory = a.after }; posted = a.posted }) o e))
-  with-handed n c a Unserved o e = absurd (none-some o e)
+  with-used n c a Unserved o e = absurd (none-some o e)
 
-  stepped-handed : (n : Host Managed) (s : Step) (o : Outcome (Host Managed))
-      → steps managed_ops n s ≡ Some o → o.after.fetches ≡ n.fetches
-  stepped-handed n (Local s) o e =
-      ap (λ (x : Outcome (Host Managed)). x.after.fetches)
+  stepped-used : (n : Host Managed) (s : Step) (o : Outcome (Host Managed))
+      → steps managed_ops n s ≡ Some o → o.after.used ≡ n.used
+  stepped-used n (Local s) o e =
+      ap (λ (x : Outcome (Host Managed)). x.after.used)
       (sym (same_Some (quietly (record n { process = at_state n.process s })) o e))
-  stepped-handed n (Asks c) o e =
+  stepped-used n (Asks c) o e =
       let a = call_begun managed_ops n.memory c (along_of n.process) (length n.history + 1) in
-      with-handed n c a a.answer o
+      with-used n c a a.answer o
       (guarded (nat_lt (length n.history + 1) (2 ^ 64)) (begins_as n c a) o e).1
-  stepped-handed n Ends o e = absurd (none-some o e)
+  stepped-used n Ends o e = absurd (none-some o e)
 
-  -- a turn that is none of a fetch leaves them all as they are
-  pub asked-fetches : (n : Host Managed) (asked : Option Call) (o : Outcome (Host Managed))
-      → turned_at managed_ops n asked ≡ Some o → o.after.fetches ≡ n.fetches
-  asked-fetches n (Some c) o e =
-      let a = polled managed_ops n.memory in with-handed n c a a.answer o e
-  asked-fetches n None o e = stepped-handed n (step_of n.process) o e
-
-  pub turned-handed : (n : Host Managed) (o : Outcome (Host Managed))
-      → turn_of managed_ops n ≡ Some o → o.after.fetches.handed ≡ n.fetches.handed
-  turned-handed n o e =
-      either_turn managed_ops
-      (λ (x : Outcome (Host Managed)). x.after.fetches.handed ≡ n.fetches.handed) n o
-      (λ is. ap (λ (x : Fetches). x.handed) (asked-fetches n n.memory.asked o is)) (λ f. refl) e
+  pub asked-used : (n : Host Managed) (asked : Option Call) (o : Outcome (Host Managed))
+      → turned_at managed_ops n asked ≡ Some o → o.after.used ≡ n.used
+  asked-used n (Some c) o e =
+      let a = polled managed_ops n.memory in with-used n c a a.answer o e
+  asked-used n None o e = stepped-used n (step_of n.process) o e
 
 pub posting-core : (n : Node (Host Managed)) (core : Host Managed) (ps : List Parcel)
     (e : Effect (Host Managed)) → posting n core ps ≡ Some e → e.after.core ≡ core
@@ -191,37 +182,37 @@ pub delivered-program : (c : Config) → IsConfig c
 delivered-program c config n f bytes e spells is =
     received-program (offered n.link f) n f e (sym (delivered-is c config n f bytes spells) ∙ is)
 
--- and the fetches that were handed
+-- and a message uses no fetch up
 
-kept-fetches : (n : Node (Host Managed)) (f : Frame) (e : Effect (Host Managed))
-    → accepting f (Some (stays n)) ≡ Some e → e.after.core.fetches ≡ n.core.fetches
-kept-fetches n f e is =
+kept-used : (n : Node (Host Managed)) (f : Frame) (e : Effect (Host Managed))
+    → accepting f (Some (stays n)) ≡ Some e → e.after.core.used ≡ n.core.used
+kept-used n f e is =
     let x = accepting-core f (Some (stays n)) e is in
-    ap (λ (k : Host Managed). k.fetches)
+    ap (λ (k : Host Managed). k.used)
     (x.2 ∙ ap (λ (y : Effect (Host Managed)). y.after.core) (sym (same_Some (stays n) x.0 x.1)))
 
-served-fetches : (n : Node (Host Managed)) (f : Frame) (body : Option Message)
+served-used : (n : Node (Host Managed)) (f : Frame) (body : Option Message)
     (e : Effect (Host Managed)) → served_next (host_rules managed_ops) n f body ≡ Some e
-    → e.after.core.fetches ≡ n.core.fetches
+    → e.after.core.used ≡ n.core.used
 unfolding serving
-served-fetches n f None e is = kept-fetches n f e is
-served-fetches n f (Some m) e is =
+served-used n f None e is = kept-used n f e is
+served-used n f (Some m) e is =
     let o = serving managed_ops n.core f.source m in
     let x = accepting-core f (posting n o.after o.posted) e is in
-    ap (λ (k : Host Managed). k.fetches) (x.2 ∙ posting-core n o.after o.posted x.0 x.1)
+    ap (λ (k : Host Managed). k.used) (x.2 ∙ posting-core n o.after o.posted x.0 x.1)
 
-received-fetches : (v : Verdict) (n : Node (Host Managed)) (f : Frame)
+received-used : (v : Verdict) (n : Node (Host Managed)) (f : Frame)
     (e : Effect (Host Managed)) → received_as (host_rules managed_ops) v n f ≡ Some e
-    → e.after.core.fetches ≡ n.core.fetches
-received-fetches verdict.NotMine n f e is =
-    ap (λ (y : Effect (Host Managed)). y.after.core.fetches) (sym (same_Some (stays n) e is))
-received-fetches verdict.Next n f e is = served-fetches n f f.body e is
-received-fetches verdict.Repeat n f e is = kept-fetches n f e is
-received-fetches verdict.Ahead n f e is = kept-fetches n f e is
+    → e.after.core.used ≡ n.core.used
+received-used verdict.NotMine n f e is =
+    ap (λ (y : Effect (Host Managed)). y.after.core.used) (sym (same_Some (stays n) e is))
+received-used verdict.Next n f e is = served-used n f f.body e is
+received-used verdict.Repeat n f e is = kept-used n f e is
+received-used verdict.Ahead n f e is = kept-used n f e is
 
-pub delivered-fetches : (c : Config) → IsConfig c
+pub delivered-used : (c : Config) → IsConfig c
     → (n : Node (Host Managed)) (f : Frame) (bytes : List ℕ) (e : Effect (Host Managed))
     → Spells c f bytes → delivered (host_rules managed_ops) c n bytes ≡ Some e
-    → e.after.core.fetches ≡ n.core.fetches
-delivered-fetches c config n f bytes e spells is =
-    received-fetches (offered n.link f) n f e (sym (delivered-is c config n f bytes spells) ∙ is)
+    → e.after.core.used ≡ n.core.used
+delivered-used c config n f bytes e spells is =
+    received-used (offered n.link f) n f e (sym (delivered-is c config n f bytes spells) ∙ is)

@@ -10,7 +10,7 @@ use Rattle.ivy_alloc.specs.declared.CallProgress.{CallProgress}
 use Rattle.ivy_alloc.specs.declared.CallProgress.TheVariants.{Given, Awaited, Unserved}
 use Rattle.ivy_coherence.proofs.keeping.Same.{fetch-same}
 use Rattle.ivy_memory.specs.stated.Memories.{CallBegun, MemoryFetch, call_begun, polled}
-use Rattle.ivy_host.specs.stated.Fetches.{HandedFetch}
+use Rattle.ivy_program.specs.stated.Programs.{HandedFetch}
 use Rattle.ivy_host.specs.stated.Hosts.{Host, recorded, quietly, begins, begins_as, begins_with, steps, turned_at, turn_of, fetch_of, serving}
 use Rattle.ivy_memory.proofs.keeping.WellBehaved.{SameNode, call-same}
 use Rattle.ivy_memory.proofs.keeping.Polling.{polled-same}

@@ -7,7 +7,7 @@ use Rattle.ivy_wire.proofs.Contents.{both}
 use Rattle.ivy_pagetable.specs.stated.Manager.{Ops}
 use Rattle.ivy_moves.specs.stated.Cores.{Outcome}
 use Rattle.ivy_memory.specs.stated.Memories.{MemoryFetch, memory_fetched}
-use Rattle.ivy_host.specs.stated.Fetches.{HandedFetch}
+use Rattle.ivy_program.specs.stated.Programs.{HandedFetch}
 use Rattle.ivy_host.specs.stated.Hosts.{Host, asks_reply, due, fetch_of, fetched_with, or_fetches, turn_of, turned_at, turned_by}
 
 module _ {S : Type 0} (ops : Ops S) where

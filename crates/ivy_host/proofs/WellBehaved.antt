@@ -31,7 +31,7 @@ use Rattle.ivy_alloc.specs.declared.CallProgress.{CallProgress}
 use Rattle.ivy_alloc.specs.declared.CallProgress.TheVariants.{Given, Awaited, Unserved}
 use Rattle.ivy_memory.specs.stated.Memories.{NodeMemory, CallBegun, MemoryFetch, call_begun, memory_fetched, polled}
 use Rattle.ivy_memory.specs.stated.Sound.{IsSoundMemory}
-use Rattle.ivy_host.specs.stated.Fetches.{HandedFetch}
+use Rattle.ivy_program.specs.stated.Programs.{HandedFetch}
 use Rattle.ivy_host.specs.stated.Sound.{IsSoundHost}
 use Rattle.ivy_host.specs.stated.Hosts.{Host, recorded, quietly, begins_with, begins_as, begins, steps, turned_at, turn_of, fetch_of, fetched_with, serving, host_rules}
 use Rattle.ivy_host.specs.stated.Openings.{Start, first_host, first_node, first_nodes, opening}

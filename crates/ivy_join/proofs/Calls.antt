@@ -264,7 +264,7 @@ have-none logs first made old new silent firsts mades olds news have =
 -- what is written down makes no call, and own code those of its log
 pub written-handed : (more : List (List Call)) (p : Program) → IsWritten p → handed more p ≡ p
 written-handed more (Written is) written = refl
-written-handed more (Called rows) written = absurd written
+written-handed more (Called rows fs) written = absurd written
 
 pub written-calls : (logs : List (List LogEntry)) (programs : List Program) → All IsWritten programs
     → with_calls logs programs ≡ programs

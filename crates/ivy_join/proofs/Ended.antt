@@ -15,18 +15,16 @@ use Rattle.ivy_host.specs.stated.Hosts.{Host, host_rules}
 use Rattle.ivy_host.specs.stated.Managers.{Managed, managed_ops}
 use Rattle.ivy_host.specs.stated.Openings.{first_node, managed_start, opening}
 use Rattle.ivy_site.specs.SiteView.{SiteView}
-use Rattle.ivy_site.specs.Sites.{first_opened, IsMadeByEvents, IsUnhanded}
+use Rattle.ivy_site.specs.Sites.{first_opened, IsMadeByEvents}
 use Rattle.ivy_world.specs.WorldSites.{programs_of}
 use Rattle.proof_worlds.proofs.headline.Headline.{keeps-reached}
 use Rattle.ivy_moves.specs.declared.keep.Keep.{Keep}
 use Rattle.ivy_site.proofs.Made.{first_made}
-use Rattle.ivy_site.proofs.Unhanded.{first_unhanded}
 use Rattle.ivy_program.specs.stated.Programs.{Program}
 use Rattle.ivy_join.specs.ReplaySites.{program_in, events_at, listed, kept_from, IsNode, ArePlayed}
 use Rattle.ivy_logs.specs.declared.log.LogHead.{LogHead}
 use Rattle.ivy_join.specs.Exact.{HasSent, HaveSent}
 use Rattle.ivy_join.specs.Joined.{part_in, list_of, run_to, AreHeads, AreJoined}
-use Rattle.ivy_join.proofs.Began.{happens_first}
 use Rattle.ivy_join.proofs.Played.{first_there}
 
 module _ (c : Config) (o : Opening) (programs : List Program) (sites : List SiteView) (sent : List (List ℕ))
@@ -61,7 +59,7 @@ module _ (c : Config) (o : Opening) (programs : List Program) (sites : List Site
       (first_node (managed_start o) s.config j (program_in s)) s.events own.made.effect) own.me
       (subst (λ l. AllHappen (host_rules managed_ops) s.config
       (first_node (managed_start l) s.config s.me (program_in s)) s.events own.made.effect)
-      own.opened (happens_first s own.unhanded own.made.effect own.made.happen)))) in
+      own.opened own.made.happen))) in
       let equal : made.0 ≡ own.made.effect =
       same-effect (host_rules managed_ops) c first (events_at sites i) made.0 own.made.effect made.1
       happen in
@@ -130,7 +128,6 @@ module _ (o : Opening) (k : Keep) (c : Config) (programs : List Program) (sites 
         me = ap (λ (x : SiteView). x.me) is;
         opened = ap (λ (x : SiteView). x.opened) is;
         made = subst IsMadeByEvents (sym is) (first_made o k c i own.0);
-        unhanded = subst IsUnhanded (sym is) (first_unhanded o c i own.0);
         took = subst (AllCanBeMade [] c.nodes i) (sym (ap (λ (x : SiteView). x.events) is)) tt;
       }
 

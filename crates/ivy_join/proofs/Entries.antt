@@ -28,7 +28,7 @@ use Rattle.ivy_join.proofs.Taken.{can-more-strings, taken-own}
 pub handed-further : (more rest : List (List Call)) (p : Program)
     → handed rest (handed more p) ≡ handed (more ++ rest) p
 handed-further more rest (Written is) = refl
-handed-further more rest (Called rows) = ap Called (append_assoc rows more rest)
+handed-further more rest (Called rows fs) = ap (λ xs. Called xs fs) (append_assoc rows more rest)
 
 -- what was delivered before
 abbrev Took : List (List ℕ) → SiteView → Type 0
@@ -42,7 +42,6 @@ module _ (sent : List (List ℕ)) where
     opened = refl;
     program = sym (handed_none (program_in s));
     answered = adds-none s.node.core.history s.node.core.history refl;
-    unhanded = λ none. none;
     events = sym (append-nil s.events);
     took = took;
   }
@@ -56,7 +55,6 @@ module _ (sent : List (List ℕ)) where
     opened = on.opened;
     program = on.program ∙ sym (handed_none (program_in s));
     answered = on.answered;
-    unhanded = on.unhanded;
     events = listed ∙ ap (λ l. s.events ++ l) (sym (append-nil (marks_of event)));
     took = took-further sent s s' took on;
   }
@@ -69,7 +67,6 @@ module _ (sent : List (List ℕ)) where
     opened = refl;
     program = refl;
     answered = adds-none s.node.core.history s.node.core.history refl;
-    unhanded = λ none. none;
     events = sym (append-nil s.events);
     took = took;
   })
@@ -82,7 +79,6 @@ module _ (sent : List (List ℕ)) where
     opened = refl;
     program = sym (handed_none (program_in s));
     answered = adds-none s.node.core.history s.node.core.history refl;
-    unhanded = λ none. none;
     events = sym (append-nil s.events);
     took = took;
   }
@@ -97,7 +93,6 @@ module _ (sent : List (List ℕ)) where
         opened = x.opened;
         program = x.program;
         answered = x.answered;
-        unhanded = x.unhanded;
         events = x.events;
         took = x.took;
       } in
@@ -108,7 +103,6 @@ module _ (sent : List (List ℕ)) where
         opened = there.opened;
         program = there.program;
         answered = there.answered;
-        unhanded = there.unhanded;
         events = there.events;
         took = there.took;
       }
@@ -135,7 +129,6 @@ module _ (sent : List (List ℕ)) where
             (sym (flat_map-append call_in (take i entries) (entry ∷ [])));
         answered = adds-further a.node.core.history b.node.core.history d.node.core.history x.answered
             y.answered;
-        unhanded = λ none. y.unhanded (x.unhanded none);
         events = y.events ∙ ap (λ l. l ++ marks (events_in (entry ∷ []))) x.events
             ∙ append_assoc a.events (marks (events_in (take i entries))) (marks (events_in (entry ∷ [])))
             ∙ ap (λ l. a.events ++ l)

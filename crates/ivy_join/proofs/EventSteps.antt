@@ -18,8 +18,7 @@ use Rattle.ivy_site.specs.declared.turn.Turn.TheVariants.{Idle, Moved, Ended}
 use Rattle.ivy_site.specs.SiteView.{SiteView, after_hearing, after_delivery, after_pulse_to}
 use Rattle.ivy_site.specs.Inside.{Receives, Holds}
 use Rattle.ivy_site.specs.Sites.{AfterTurn, SiteDelivers}
-use Rattle.ivy_site.proofs.Unhanded.{delivered_unhanded, pulsed_unhanded}
-use Rattle.ivy_host.proofs.Programs.{turned-handed, turned-program, posting-core, delivered-program}
+use Rattle.ivy_host.proofs.Programs.{turned-program, posting-core, delivered-program}
 use Rattle.ivy_logs.proofs.Entries.{turns-more}
 use Rattle.ivy_join.specs.ReplaySites.{program_in, AddsRecords, GoesOnBy}
 use Rattle.ivy_join.proofs.Answered.{adds-further, adds-none, delivered-untold, turned-records}
@@ -56,7 +55,6 @@ module _ (sent : List (List ℕ)) where
     keep = ap (λ (x : SiteView). x.keep) same;
     opened = ap (λ (x : SiteView). x.opened) same;
     answered = same-records s s' same;
-    unhanded = λ none. ap (λ (x : SiteView). x.node.core.fetches.handed) same ∙ none;
     more = [];
     events = ap (λ (x : SiteView). x.events) same ∙ sym (append-nil s.events);
     can = tt;
@@ -71,7 +69,6 @@ module _ (sent : List (List ℕ)) where
     keep = y.keep ∙ x.keep;
     opened = y.opened ∙ x.opened;
     answered = adds-further a.node.core.history b.node.core.history d.node.core.history x.answered y.answered;
-    unhanded = λ none. y.unhanded (x.unhanded none);
     more = x.more ++ y.more;
     events = y.events ∙ ap (λ l. l ++ y.more) x.events ∙ append_assoc a.events x.more y.more;
     can = can-append sent a.config.nodes a.me x.more y.more x.can
@@ -102,10 +99,6 @@ module _ (sent : List (List ℕ)) where
     keep = ap (λ (x : SiteView). x.keep) after.after;
     opened = ap (λ (x : SiteView). x.opened) after.after;
     answered = turn-records s s' after;
-    unhanded = λ none. ap (λ (x : SiteView). x.node.core.fetches.handed) after.after
-        ∙ ap (λ (k : Host Managed). k.fetches.handed)
-        (posting-core s.node after.outcome.after after.outcome.posted after.effect after.sent)
-        ∙ turned-handed s.node.core after.outcome after.turn ∙ none;
     more = Turn ∷ [];
     events = ap (λ (x : SiteView). x.events) after.after;
     can = (tt, tt);
@@ -123,7 +116,6 @@ module _ (sent : List (List ℕ)) where
     keep = ap (λ (x : SiteView). x.keep) after;
     opened = ap (λ (x : SiteView). x.opened) after;
     answered = delivery-records bytes v w s s' d after;
-    unhanded = delivered_unhanded bytes v s s' limits d;
     more = Delivery bytes ∷ [];
     events = ap (λ (x : SiteView). x.events) after;
     can = (there, tt);
@@ -157,7 +149,6 @@ module _ (sent : List (List ℕ)) where
     opened = ap (λ (x : SiteView). x.opened) same;
     answered = adds-none s.node.core.history s'.node.core.history
         (ap (λ (x : SiteView). x.node.core.history) same);
-    unhanded = λ none. ap (λ (x : SiteView). x.node.core.fetches.handed) same ∙ none;
     more = [];
     events = ap (λ (x : SiteView). x.events) same ∙ sym (append-nil s.events);
     can = tt;
@@ -193,7 +184,6 @@ module _ (sent : List (List ℕ)) where
     opened = ap (λ (x : SiteView). x.opened) after;
     answered = adds-none s.node.core.history s'.node.core.history
         (ap (λ (x : SiteView). x.node.core.history) after);
-    unhanded = pulsed_unhanded to s s' after;
     more = pulse_marks to (pulsing s.node to).sent;
     events = ap (λ (x : SiteView). x.events) after;
     can = pulse_can to s.me s.config.nodes (pulsing s.node to).sent below
@@ -276,7 +266,6 @@ emptied sent s s' same = record {
   opened = ap (λ (x : SiteView). x.opened) same;
   answered = adds-none s.node.core.history s'.node.core.history
       (ap (λ (x : SiteView). x.node.core.history) same);
-  unhanded = λ none. ap (λ (x : SiteView). x.node.core.fetches.handed) same ∙ none;
   more = [];
   events = ap (λ (x : SiteView). x.events) same ∙ sym (append-nil s.events);
   can = tt;

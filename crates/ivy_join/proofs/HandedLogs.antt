@@ -18,10 +18,10 @@ use Rattle.ivy_host.specs.declared.opening.Opening.{Opening}
 use Rattle.ivy_host.specs.Handing.{handing}
 use Rattle.ivy_host.specs.stated.Hosts.{Host, host_rules}
 use Rattle.ivy_host.specs.stated.Managers.{Managed, managed_ops}
-use Rattle.ivy_host.specs.stated.Openings.{managed_start, opening}
+use Rattle.ivy_host.specs.stated.Openings.{first_node, managed_start, opening}
 use Rattle.ivy_site.specs.Handed.{site_handed}
 use Rattle.ivy_site.specs.SiteView.{SiteView}
-use Rattle.ivy_site.specs.Sites.{IsMadeByEvents, origin_of}
+use Rattle.ivy_site.specs.Sites.{IsMadeByEvents}
 use Rattle.ivy_site.proofs.Handed.{handed_made}
 use Rattle.ivy_host.proofs.HandedHosts.{AreHanded, handed_none, opening_handed, unseen}
 use Rattle.ivy_world.specs.WorldSites.{programs_of}
@@ -33,10 +33,12 @@ use Rattle.ivy_join.specs.Exact.{HasSent, HaveSent, IsMadeAt}
 sends-handed : (more : List (List Call)) (s : SiteView) → IsMadeByEvents s → (b : List ℕ)
     → Sends (site_handed more s) b → Sends s b
 sends-handed more s made b (effect, happen, own) =
-    let over = events-over (host_rules managed_ops) s.config (handing more) (unseen managed_ops more)
-    (origin_of s) s.events made.effect made.happen in
+    let first = first_node (managed_start s.opened) s.config s.me (program_in s) in
+    let over = events-over (host_rules managed_ops) s.config (handing more) (unseen managed_ops more) first
+    s.events made.effect made.happen in
     let same : effect ≡ effect_changed (handing more) made.effect =
-    same-effect (host_rules managed_ops) s.config (origin_of (site_handed more s)) s.events effect
+    same-effect (host_rules managed_ops) s.config
+    (first_node (managed_start s.opened) s.config s.me (program_in (site_handed more s))) s.events effect
     (effect_changed (handing more) made.effect) happen over.happen in
     (made.effect, made.happen, subst (λ (e : Effect (Host Managed)). Contains e.sent b) same own)
 
@@ -114,7 +116,6 @@ module _ (sites : List SiteView) (node : ℕ) (old : SiteView) (there : slice_ge
           me = was.me;
           opened = was.opened;
           made = handed_made more old was.made;
-          unhanded = was.unhanded;
           took = was.took;
         })))
         (λ q. played.each i s q)

@@ -1,5 +1,4 @@
 pub mod Answered
-pub mod Began
 pub mod EventSteps
 pub mod Played
 pub mod Collected

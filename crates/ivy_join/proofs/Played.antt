@@ -21,12 +21,11 @@ use Rattle.ivy_host.specs.stated.Managers.{Managed, managed_ops}
 use Rattle.ivy_host.specs.stated.Openings.{first_node, first_nodes, managed_start, opening}
 use Rattle.ivy_host.proofs.WellBehaved.{first_length}
 use Rattle.ivy_site.specs.SiteView.{SiteView}
-use Rattle.ivy_site.specs.Sites.{IsMadeByEvents, IsUnhanded, origin_of}
+use Rattle.ivy_site.specs.Sites.{IsMadeByEvents}
 use Rattle.ivy_world.specs.WorldSites.{programs_of}
 use Rattle.ivy_world.proofs.Making.{same_map}
 use Rattle.ivy_program.specs.stated.Programs.{Program}
 use Rattle.ivy_join.specs.ReplaySites.{program_in, events_at, listed, GoesOnBy, Sends, AddsSent, IsNode, ArePlayed}
-use Rattle.ivy_join.proofs.Began.{happens_first}
 
 -- one of the lists goes on
 
@@ -145,9 +144,6 @@ module _ (c : Config) (o : Opening) (sites : List SiteView) (sent more : List (L
   program : program_in mid ≡ program_in old
   program = on.program
 
-  unhanded : IsUnhanded mid
-  unhanded = on.unhanded was.unhanded
-
   new-config : new.config ≡ c
   new-config = ap (λ (s : SiteView). s.config) same ∙ config
 
@@ -181,7 +177,8 @@ module _ (c : Config) (o : Opening) (sites : List SiteView) (sent more : List (L
 
   -- the events of the site happen, as those of node i
   happens : (e : Effect (Host Managed))
-      → AllHappen (host_rules managed_ops) mid.config (origin_of mid) mid.events e
+      → AllHappen (host_rules managed_ops) mid.config
+      (first_node (managed_start mid.opened) mid.config mid.me (program_in mid)) mid.events e
       → AllHappen (host_rules managed_ops) c first (events_at sites i ++ on.more) e
   happens e h =
       subst (λ l. AllHappen (host_rules managed_ops) c first l e)
@@ -191,8 +188,7 @@ module _ (c : Config) (o : Opening) (sites : List SiteView) (sent more : List (L
       (subst (λ j. AllHappen (host_rules managed_ops) mid.config
       (first_node (managed_start o) mid.config j (program_in mid)) mid.events e) me
       (subst (λ k. AllHappen (host_rules managed_ops) mid.config
-      (first_node (managed_start k) mid.config mid.me (program_in mid)) mid.events e) opened
-      (happens_first mid unhanded e h))))
+      (first_node (managed_start k) mid.config mid.me (program_in mid)) mid.events e) opened h)))
 
   goes_on : OneGoesOn (host_rules managed_ops) c begins (events_at sites) played.end i on.more
   goes_on = record {
@@ -264,7 +260,6 @@ module _ (c : Config) (o : Opening) (sites : List SiteView) (sent more : List (L
         me = new-me;
         opened = new-opened;
         made = made';
-        unhanded = ap (λ (s : SiteView). s.node.core.fetches.handed) same ∙ unhanded;
         took = took-here;
       })))
       (λ q. let old-one = played.each j s q in record {
@@ -272,7 +267,6 @@ module _ (c : Config) (o : Opening) (sites : List SiteView) (sent more : List (L
         me = old-one.me;
         opened = old-one.opened;
         made = old-one.made;
-        unhanded = old-one.unhanded;
         took = can-more sent more c.nodes j s.events kept old-one.took;
       })
       (set-cases sites i j new s at)

@@ -15,11 +15,9 @@ use Rattle.ivy_host.specs.stated.Hosts.{Host, host_rules}
 use Rattle.ivy_host.specs.stated.Managers.{Managed, managed_ops}
 use Rattle.ivy_host.specs.stated.Openings.{first_node, managed_start}
 use Rattle.ivy_site.specs.SiteView.{SiteView}
-use Rattle.ivy_site.specs.Sites.{IsMadeByEvents, IsUnhanded, origin_of}
-use Rattle.ivy_site.proofs.Unhanded.{unhanded_origin}
+use Rattle.ivy_site.specs.Sites.{IsMadeByEvents}
 use Rattle.ivy_join.specs.Exact.{HasSent, HaveSent, IsMadeAt, IsNeverAt, Makes, NeverHappen, SaysMade}
 use Rattle.ivy_join.specs.ReplaySites.{program_in, listed, GoesOnBy, Sends}
-use Rattle.ivy_join.proofs.Began.{happens_first}
 
 -- one string is taken, and added
 pub taken-one : (first old new : List (List ℕ)) (sent sent' : List (List ℕ)) (string : List ℕ)
@@ -49,21 +47,18 @@ taken_all first old sent before none b own = elim (before b own) [
 
 -- a site goes on by an event, and what it sends is collected
 module _ (old mid new : SiteView) (sent sent' : List (List ℕ)) (ms : List Mark) (was : IsMadeByEvents old)
-    (unhanded : IsUnhanded old) (has : HasSent sent old) (on : GoesOnBy sent old mid)
-    (listed-more : mid.events ≡ old.events ++ ms) (makes : Makes ms old mid)
-    (same : record new { waiting = [] } ≡ record mid { waiting = [] })
+    (has : HasSent sent old) (on : GoesOnBy sent old mid) (listed-more : mid.events ≡ old.events ++ ms)
+    (makes : Makes ms old mid) (same : record new { waiting = [] } ≡ record mid { waiting = [] })
     (kept : (b : List ℕ) → Contains sent b → Contains sent' b)
     (taken : (b : List ℕ) → Contains mid.waiting b → Contains sent' b) (none : new.waiting ≡ []) where
   abbrev first : Node (Host Managed)
-  first = origin_of old
+  first = first_node (managed_start old.opened) old.config old.me (program_in old)
 
   -- what its events sent before, or now
   sent-mid : (b : List ℕ) → Sends mid b → Contains sent' b
   sent-mid b (effect, happen, own) =
       let all : AllHappen (host_rules managed_ops) old.config first (old.events ++ ms) effect =
       subst (λ l. AllHappen (host_rules managed_ops) old.config first l effect) listed-more
-      (subst (λ (n : Node (Host Managed)). AllHappen (host_rules managed_ops) old.config n
-      mid.events effect) (sym (unhanded_origin old unhanded))
       (subst (λ p. AllHappen (host_rules managed_ops) old.config
       (first_node (managed_start old.opened) old.config old.me p) mid.events effect) on.program
       (subst (λ i. AllHappen (host_rules managed_ops) old.config
@@ -72,7 +67,7 @@ module _ (old mid new : SiteView) (sent sent' : List (List ℕ)) (ms : List Mark
       (first_node (managed_start old.opened) k mid.me (program_in mid)) mid.events effect) on.config
       (subst (λ k. AllHappen (host_rules managed_ops) mid.config
       (first_node (managed_start k) mid.config mid.me (program_in mid)) mid.events effect) on.opened
-      (happens_first mid (on.unhanded unhanded) effect happen)))))) in
+      happen)))) in
       let split = all-split (host_rules managed_ops) old.config first old.events ms effect all in
       let before : split.first ≡ was.effect =
       same-effect (host_rules managed_ops) old.config first old.events split.first was.effect split.happen
@@ -105,7 +100,7 @@ module _ (old mid new : SiteView) (sent sent' : List (List ℕ)) (ms : List Mark
 -- so it is for all sites, and what they list
 module _ (sites : List SiteView) (node : ℕ) (event : Event) (old mid new : SiteView)
     (sent sent' : List (List ℕ)) (there : slice_get sites node ≡ Some old) (was : IsMadeByEvents old)
-    (unhanded : IsUnhanded old) (have : HaveSent sent sites) (on : GoesOnBy sent old mid)
+    (have : HaveSent sent sites) (on : GoesOnBy sent old mid)
     (listed-more : mid.events ≡ old.events ++ marks_of event) (makes : Makes (marks_of event) old mid)
     (same : record new { waiting = [] } ≡ record mid { waiting = [] })
     (kept : (b : List ℕ) → Contains sent b → Contains sent' b)
@@ -114,8 +109,8 @@ module _ (sites : List SiteView) (node : ℕ) (event : Event) (old mid new : Sit
   each i s at =
       ⊎_elim
       (λ p. subst (HasSent sent') (sym p.1)
-      (has-sent old mid new sent sent' (marks_of event) was unhanded (have node old there) on
-      listed-more makes same kept taken none))
+      (has-sent old mid new sent sent' (marks_of event) was (have node old there) on listed-more makes same
+      kept taken none))
       (λ q. (let own = have i s q in record { none = own.none; all = λ b x. kept b (own.all b x) }))
       (set-cases sites node i new s at)
 
@@ -131,18 +126,16 @@ module _ (sites : List SiteView) (node : ℕ) (event : Event) (old mid new : Sit
 -- or it can't make the event, and the call says so
 pub step-says : (sites : List SiteView) (node : ℕ) (event : Event) (old mid new : SiteView)
     (sent sent' : List (List ℕ)) (happens : Bool) → slice_get sites node ≡ Some old → IsMadeByEvents old
-    → IsUnhanded old → IsConfig old.config → HaveSent sent sites → GoesOnBy sent old mid
+    → IsConfig old.config → HaveSent sent sites → GoesOnBy sent old mid
     → (IsTrue happens → mid.events ≡ old.events ++ marks_of event)
     → SaysMade (marks_of event) old mid happens
     → record new { waiting = [] } ≡ record mid { waiting = [] }
     → ((b : List ℕ) → Contains sent b → Contains sent' b)
     → ((b : List ℕ) → Contains mid.waiting b → Contains sent' b) → new.waiting ≡ []
     → MatchBool happens (IsMadeAt node (marks_of event) sites (set sites node new) sent') (IsNeverAt node (marks_of event) sites)
-step-says sites node event old mid new sent sent' true there was unhanded limits have on more says same
-    kept taken none =
-    made-at sites node event old mid new sent sent' there was unhanded have on (more refl)
-    (says limits) same kept taken none
-step-says sites node event old mid new sent sent' false there was unhanded limits have on more says same
-    kept taken none =
+step-says sites node event old mid new sent sent' true there was limits have on more says same kept taken none =
+    made-at sites node event old mid new sent sent' there was have on (more refl) (says limits) same kept taken
+    none
+step-says sites node event old mid new sent sent' false there was limits have on more says same kept taken none =
     λ s at. subst (λ (x : SiteView). NeverHappen x.config x.me x.node (marks_of event))
     (same_Some old s (sym there ∙ at)) (says limits (have node old there).none)

@@ -23,7 +23,6 @@ use Rattle.ivy_world.specs.WorldSites.{programs_of}
 use Rattle.ivy_join.specs.Exact.{AreMadeTo, AreToOthers, AreStuck, HaveSent, IsMadeTo, IsNeverBy, IsNoPart, IsOneLeft, IsStuck, NeverHappen}
 use Rattle.ivy_join.specs.Joined.{list_of, part_in, AreNoParts}
 use Rattle.ivy_join.specs.ReplaySites.{program_in, events_at, listed, IsNode, ArePlayed}
-use Rattle.ivy_join.proofs.Began.{happens_first}
 use Rattle.ivy_join.proofs.Counted.{drop_at, marks-cut}
 use Rattle.ivy_join.proofs.HandedLogs.{there_is}
 use Rattle.ivy_join.proofs.Others.{others-left, others-right}
@@ -41,7 +40,7 @@ site-happens c o sent i s own =
     (first_node (managed_start o) s.config j (program_in s)) s.events own.made.effect) own.me
     (subst (λ k. AllHappen (host_rules managed_ops) s.config
     (first_node (managed_start k) s.config s.me (program_in s)) s.events own.made.effect) own.opened
-    (happens_first s own.unhanded own.made.effect own.made.happen)))
+    own.made.happen))
 
 -- where it is none of a call, the event of an entry can't be made
 pub never-by : (node : ℕ) (entry : LogEntry) (sites : List SiteView) → call_in entry ≡ []

@@ -1,5 +1,5 @@
 -- What logs of own code come to that are the parts of one run.
-use Rattle.std.specs.Prelude.{◌≡◌, ◌≤◌, ℕ, List, ◌++◌, length, map, slice_get, Option, Some, None}
+use Rattle.std.specs.Prelude.{◌≡◌, ◌≤◌, ℕ, List, ◌++◌, length, map, slice_get, Option, Some, None, []}
 use Rattle.ivy_model.specs.declared.Config.{Config}
 use Rattle.ivy_model.specs.declared.Record.{Record}
 use Rattle.ivy_model.specs.stated.Legal.{Legal}
@@ -15,7 +15,7 @@ use Rattle.ivy_join.specs.Joined.{AreJoined}
 
 -- own code that makes the calls of these entries, one after another
 abbrev pub program_by : List LogEntry → Program
-program_by entries = Called (one_by_one (calls_in entries))
+program_by entries = Called (one_by_one (calls_in entries)) []
 
 -- the code of all nodes, by their logs
 abbrev pub programs_by : List (List LogEntry) → List Program

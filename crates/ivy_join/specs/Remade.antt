@@ -9,7 +9,7 @@ use Rattle.ivy_moves.specs.Marks.{marks}
 use Rattle.ivy_moves.specs.Parts.{AllCanBeMade}
 use Rattle.ivy_program.specs.Programs.{handed, one_by_one}
 use Rattle.ivy_site.specs.SiteView.{SiteView}
-use Rattle.ivy_site.specs.Sites.{IsMadeByEvents, IsUnhanded}
+use Rattle.ivy_site.specs.Sites.{IsMadeByEvents}
 use Rattle.ivy_join.specs.ReplaySites.{program_in, AddsRecords, CanBeTaken}
 
 -- a string that the entry delivers is one of these
@@ -26,7 +26,6 @@ pub record GoesOnByEntries (sent : List (List ℕ)) (entries : List LogEntry) (o
   pub opened : new.opened ≡ old.opened
   pub program : program_in new ≡ handed (one_by_one (calls_in entries)) (program_in old)
   pub answered : AddsRecords old.node.core.history new.node.core.history
-  pub unhanded : IsUnhanded old → IsUnhanded new
   pub events : new.events ≡ old.events ++ marks (events_in entries)
   pub took : AllCanBeMade sent new.config.nodes new.me new.events
 
@@ -57,5 +56,4 @@ pub record IsMadeByLog (log : List LogEntry) (old new : SiteView) : Type 0 where
   pub program : program_in new ≡ handed (one_by_one (calls_in log)) (program_in old)
   pub events : new.events ≡ marks (events_in log)
   pub told : StandFirst (answers_in log) new.node.core.history
-  pub unhanded : IsUnhanded old → IsUnhanded new
   pub made : IsMadeByEvents new

@@ -12,10 +12,10 @@ use Rattle.ivy_moves.specs.stated.Worlds.{World}
 use Rattle.ivy_host.specs.stated.Hosts.{Host, host_rules}
 use Rattle.ivy_host.specs.stated.Managers.{Managed, managed_ops}
 use Rattle.ivy_host.specs.declared.opening.Opening.{Opening}
-use Rattle.ivy_host.specs.stated.Openings.{managed_start, opening}
+use Rattle.ivy_host.specs.stated.Openings.{first_node, managed_start, opening}
 use Rattle.ivy_site.specs.SiteView.{SiteView}
 use Rattle.ivy_moves.specs.declared.keep.Keep.{Keep}
-use Rattle.ivy_site.specs.Sites.{first_opened, origin_of, IsMadeByEvents, IsUnhanded}
+use Rattle.ivy_site.specs.Sites.{first_opened, IsMadeByEvents}
 use Rattle.ivy_world.specs.WorldSites.{programs_of}
 use Rattle.ivy_program.specs.stated.Programs.{Program}
 
@@ -55,8 +55,7 @@ taken_by events = flat_map taken_in events
 abbrev pub AddsRecords : List Record → List Record → Type 0
 AddsRecords old new = (more : List Record) × (new ≡ old ++ more)
 
--- the site went on by further events, which deliver none but these strings, and pulse to other
--- nodes; no fetch was handed to it
+-- the site went on by further events, which deliver none but these strings, and pulse to other nodes
 pub record GoesOnBy (sent : List (List ℕ)) (old new : SiteView) : Type 0 where
   pub me : new.me ≡ old.me
   pub config : new.config ≡ old.config
@@ -64,7 +63,6 @@ pub record GoesOnBy (sent : List (List ℕ)) (old new : SiteView) : Type 0 where
   pub keep : new.keep ≡ old.keep
   pub opened : new.opened ≡ old.opened
   pub answered : AddsRecords old.node.core.history new.node.core.history
-  pub unhanded : IsUnhanded old → IsUnhanded new
   pub more : List Mark
   pub events : new.events ≡ old.events ++ more
   pub can : AllCanBeMade sent old.config.nodes old.me more
@@ -83,7 +81,8 @@ AddsOne bytes old new = (new ≡ old) ⊎ (new ≡ old ++ bytes ∷ [])
 -- the site's events send the string
 abbrev pub Sends : SiteView → List ℕ → Type 0
 Sends s bytes = (effect : Effect (Host Managed))
-    × AllHappen (host_rules managed_ops) s.config (origin_of s) s.events effect
+    × AllHappen (host_rules managed_ops) s.config
+    (first_node (managed_start s.opened) s.config s.me (program_in s)) s.events effect
     × Contains effect.sent bytes
 
 -- each of the strings after is one of those before, or the site's events send it
@@ -91,14 +90,12 @@ abbrev pub AddsSent : SiteView → List (List ℕ) → List (List ℕ) → Type 
 AddsSent s old new = (bytes : List ℕ) → Contains new bytes → Contains old bytes ⊎ Sends s bytes
 
 module _ (c : Config) (o : Opening) where
-  -- the site is this node, and what its events make of it; each string that it was given is one of
-  -- these, and no fetch was handed to it
+  -- the site is this node, and what its events make of it; each string that it was given is one of these
   pub record IsNode (sent : List (List ℕ)) (i : ℕ) (s : SiteView) : Type 0 where
     pub config : s.config ≡ c
     pub me : s.me ≡ i
     pub opened : s.opened ≡ o
     pub made : IsMadeByEvents s
-    pub unhanded : IsUnhanded s
     pub took : AllCanBeMade sent c.nodes i s.events
 
   -- the event lists of the sites are the parts of one run of their programs, in which each of the

@@ -208,7 +208,7 @@ impl<M: Manager, A: Allocator + Copy> Memory<M, A> {
     }
 
     /// The reply of the call in progress, if node 0 gave it, or if its word waited and was carried out.
-    fn reply(&self) -> Option<Reply>
+    pub(crate) fn reply(&self) -> Option<Reply>
         ensures { result ≡ reply_at self.now }
     {
         match self.side.reply() {

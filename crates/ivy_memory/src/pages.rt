@@ -1,15 +1,16 @@
 //! What a node may do with a page, and what a message would leave of that; pages that are fetched.
-ghost use Rattle.std.specs.Prelude.{◌≡◌, ◌<◌, ◌≤◌, IsOkUnless, IfOk, OnOk, OnErr, length};
+ghost use Rattle.std.specs.Prelude.{◌≡◌, ◌↔◌, ◌<◌, ◌≤◌, IsTrue, IsOkUnless, IfOk, OnOk, OnErr, length};
 ghost use Rattle.ivy_wire.specs.Lent.{owned_message};
 ghost use Rattle.ivy_wire.specs.stated.Spelling.{FitsMessage};
 ghost use Rattle.ivy_wire.specs.Posts.{IsPostOf, HasPosted};
 ghost use Rattle.ivy_coherence.specs.EventLimits.{most_posted};
-ghost use Rattle.ivy_memory.specs.stated.Memories.{memory_fetched};
+ghost use Rattle.ivy_memory.specs.Memories.{only_waits};
+ghost use Rattle.ivy_memory.specs.stated.Memories.{in_progress, memory_fetched, polled, unserved};
 ghost use Rattle.ivy_pagetable.specs.stated.Tables.{entry_at};
 ghost use Rattle.ivy_coherence.specs.Leavings.{access_at, leaves};
 ghost use Rattle.ivy_memory.specs.stated.Sound.{IsSoundMemory};
 
-use crate::memory::Memory;
+use crate::memory::{Asked, Memory, asked_of};
 use ivy_coherence::Leaving;
 use ivy_model::Fault;
 use ivy_pagetable::{Access, Manager};
@@ -69,6 +70,16 @@ impl<M: Manager, A: Allocator> Memory<M, A> {
         self.coherence.fetch(page, write, number, post)
     }
 
+    /// Whether so many calls are in progress: the one that is asked for its reply, and those made along with it.
+    pub fn has_in_progress(&self, many: usize) -> bool
+        ensures { IsTrue result ↔ (length (in_progress self.now.asked self.now.along) ≡ many) }
+    {
+        match self.asked {
+            None => many == 0,
+            Some(_) => many > 0 && self.along.left() == many - 1,
+        }
+    }
+
     /// Makes a page, so that no store to it takes memory [1]. Nothing else changes.
     pub fn make(&mut self, page: u32) -> Result<(), Fault>
         requires { page < self.old.coherence.config.pages }
@@ -76,5 +87,26 @@ impl<M: Manager, A: Allocator> Memory<M, A> {
         ensures memory { IsOkUnless result Fault.Memory }
     {
         self.coherence.make(page)
+    }
+}
+
+impl<M: Manager, A: Allocator + Copy> Memory<M, A> {
+    #[tactic(auto, using(crate::proofs::keeping::Polling::waiting_unserved))]
+    /// Whether no call is in progress, or the one that is can only wait [1]: it has no reply, and its word waits at a page, or
+    /// node 0 was asked. To ask it for its reply changes nothing then.
+    pub fn only_waits(&self) -> bool
+        ensures is { result ≡ only_waits self.now }
+        ensures unserved { IsTrue result → polled M.ops self.now ≡ unserved self.now }
+    {
+        let Some(call) = self.asked else {
+            return true;
+        };
+        if self.reply().is_some() {
+            return false;
+        }
+        match asked_of(&self.coherence.config(), call) {
+            Asked::Word { .. } => self.coherence.locked().is_some(),
+            Asked::Refused(_) | Asked::Heap(_) => true,
+        }
     }
 }

@@ -187,7 +187,7 @@ turned_owned call (Some reply) old new half half' o t grows =
 
 -- a node with own code that has made no call
 pub first_owned : (opened : _) (keep : _) (c : _) (me : ℕ) (s : SiteView) (half : Listed Answer)
-    → s ≡ first_opened opened keep c me (Called []) → half ≡ listed me [] → IsOwned s half
+    → s ≡ first_opened opened keep c me (Called [] []) → half ≡ listed me [] → IsOwned s half
 first_owned opened keep c me s half first new =
     subst (λ (x : SiteView). IsOwned x half) (sym first)
     (record {

@@ -41,7 +41,7 @@ module _ {Out : Type 0} (c : Config) (opened : Opening) (done : ℕ → List Ans
       → AreTold c opened programs v nodes → Told c opened programs v → AreClosed done nodes outs
       → IsOwnReport c opened done nodes outs
   own_report programs its nodes outs v many all told tells closed =
-      let long : length (all_open c) ≡ c.nodes = length-replicate c.nodes (Called []) in
+      let long : length (all_open c) ≡ c.nodes = length-replicate c.nodes (Called [] []) in
       let r : IsHandedReport c opened (all_open c) nodes =
       reported c opened (all_open c) limits long nodes v (many ∙ sym long)
       (subst (λ ps. AreTold c opened ps v nodes) its told)

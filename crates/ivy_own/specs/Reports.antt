@@ -14,7 +14,7 @@ pub record OwnState (Out : Type 0) : Type 0 where
 
 -- the programs of nodes with own code that has made no call yet
 abbrev pub all_open : Config → List Program
-all_open c = replicate c.nodes (Called [])
+all_open c = replicate c.nodes (Called [] [])
 
 -- it is a report of own code at nodes that began so, where some calls were made at each node; and
 -- in the order that explains its histories each node's work has done what it had to, with its part

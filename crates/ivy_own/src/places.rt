@@ -54,7 +54,7 @@ fn seat_one<'e, S: Setup, A: Allocator + Copy, R: Wait, G>(
     ensures starter { starter.new.ether ≡ starter.old.ether }
     ensures issued { IfOk result (λ _. starter.new.known ≡ with_issued starter.old.known node) }
     ensures ether { IfOk result (λ seated. seated.ether ≡ ether.now) }
-    ensures site { IfOk result (λ seated. seated.site ≡ first_opened S.opened plan.now.keep plan.now.config node (Called [])) }
+    ensures site { IfOk result (λ seated. seated.site ≡ first_opened S.opened plan.now.keep plan.now.config node (Called [] [])) }
     ensures stop { IfErr result IsStop }
 {
     let mut pass = pass;
@@ -81,7 +81,7 @@ fn place_one<'e, S: Setup, H: Home, J: Naming, A: Allocator + Copy>(
 ) -> (Owned<'e, S, H, J, A>, Half<Answer, J>)
     requires home { seated.ether ≡ H.ether }
     requires lists { lists.old ≡ node }
-    requires site { (config : Config) × (seated.site ≡ first_opened S.opened keep config node (Called [])) }
+    requires site { (config : Config) × (seated.site ≡ first_opened S.opened keep config node (Called [] [])) }
     ensures mine { result.1 ≡ listed node [] }
     ensures next { lists.new ≡ node + 1 }
 {

@@ -16,7 +16,7 @@ use Rattle.ivy_logs.specs.Printed.{event_line, frame_line}
 use Rattle.ivy_logs.specs.Spelled.{SpellsFrame}
 use Rattle.ivy_site.specs.SiteView.{SiteView}
 use Rattle.ivy_texts.specs.Lines.{value_line}
-use Rattle.ivy_site.specs.Sites.{IsMadeByEvents, IsUnhanded}
+use Rattle.ivy_site.specs.Sites.{IsMadeByEvents}
 use Rattle.ivy_join.specs.Remade.{IsMadeByLog}
 use Rattle.ivy_join.specs.ReplaySites.{program_in, AddsRecords}
 
@@ -137,7 +137,6 @@ pub record IsRestarted (o : Opening) (c : Config) (me : ℕ) (program : Program)
   pub number : new.site.me ≡ me
   pub runs : program_in new.site ≡ program
   pub events : new.site.events ≡ marks (events_in log)
-  pub unhanded : IsUnhanded new.site
   pub made : IsMadeByEvents new.site
   pub whole : new.unlogged ≡ []
   pub left : new.left ≡ turns

@@ -10,7 +10,7 @@ use Rattle.ivy_logs.specs.declared.log.LogEntry.TheVariants.{Asked, Answered}
 use Rattle.ivy_logs.specs.declared.log.LogHead.{LogHead}
 use Rattle.ivy_logs.specs.Entries.{LogEntry, answers_in, calls_in, entry_line, events_in, entry_lines}
 use Rattle.ivy_site.specs.Handed.{site_handed}
-use Rattle.ivy_site.specs.Sites.{IsMadeByEvents, IsUnhanded}
+use Rattle.ivy_site.specs.Sites.{IsMadeByEvents}
 use Rattle.ivy_join.specs.Joined.{opening_by}
 use Rattle.ivy_join.specs.ReplaySites.{program_in, AddsRecords}
 use Rattle.ivy_join.specs.Remade.{IsAnsweredLast, StandFirst}
@@ -28,10 +28,9 @@ pub record IsOpened (head : LogHead) (log : List LogEntry) (turns : ℕ) (new : 
   pub config : new.site.config ≡ head.config
   pub opened : new.site.opened ≡ opening_by head.steady
   pub number : new.site.me ≡ head.me
-  pub runs : program_in new.site ≡ Called (one_by_one (calls_in log))
+  pub runs : program_in new.site ≡ Called (one_by_one (calls_in log)) []
   pub events : new.site.events ≡ marks (events_in log)
   pub told : StandFirst (answers_in log) new.site.node.core.history
-  pub unhanded : IsUnhanded new.site
   pub made : IsMadeByEvents new.site
   pub whole : new.unlogged ≡ []
   pub left : new.left ≡ turns

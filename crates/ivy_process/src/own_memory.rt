@@ -32,7 +32,7 @@ impl Beginning for Brand {
     ghost use Rattle.std.specs.Prelude.{[], None};
     ghost use Rattle.ivy_program.specs.stated.Programs.{Called};
 
-    ghost begun = { record { past = []; program = Called []; history = []; events = []; unlogged = []; log = None } };
+    ghost begun = { record { past = []; program = Called [] []; history = []; events = []; unlogged = []; log = None } };
 }
 
 /// A node that serves its own code, with what it hears and speaks to.

@@ -3,7 +3,7 @@ ghost use Rattle.std.specs.Prelude.{◌≡◌, ◌↔◌, ◌+◌, ◌-◌, ◌*
 ghost use Rattle.ivy_model.specs.Rows.{calls_of, numbers_in, row};
 
 use crate::machine::Next;
-use crate::story::{Alone, AtOnce, InRow, OneByOne, Together};
+use crate::story::{AfterCalls, Ahead, Alone, AtOnce, Handing, InRow, OneByOne, Together};
 use ivy_model::{Call, Row, Story};
 use std::marker::Model;
 
@@ -13,6 +13,7 @@ use std::marker::Model;
 #[derive(Drop)]
 pub(crate) struct Caller {
     made: Story<Together>,
+    fetches: Story<Ahead>,
     last: Option<Call>,
     left: usize,
 }
@@ -23,7 +24,7 @@ impl Model for Caller {
 
     ghost Value = { Process };
 
-    ghost view = { λ c. awaiting c.made.told c.left };
+    ghost view = { λ c. awaiting c.fetches.told c.made.told c.left };
 
     ghost invariant = { λ c. IsLastOf c.made.told c.last c.left };
 }
@@ -42,10 +43,10 @@ fn last_call(kind: Row, addr: u64, words: usize, bytes: &[u8]) -> Option<Call>
 
 impl Caller {
     ghost use Rattle.ivy_program.specs.Calls.{NamesWidth};
-    ghost use Rattle.ivy_program.specs.OwnCode.{AsksNext, Rests, asking, process_handed};
+    ghost use Rattle.ivy_program.specs.OwnCode.{AsksNext, LacksReplies, Rests, asking, process_ahead, process_handed};
     ghost use Rattle.std.specs.Prelude.{List, None, ◌++◌};
     ghost use Rattle.ivy_model.specs.declared.Call.{Call};
-    ghost use Rattle.ivy_program.specs.stated.Programs.{Called};
+    ghost use Rattle.ivy_program.specs.stated.Programs.{Called, HandedFetch};
     ghost use Rattle.ivy_program.specs.Programs.{IsCalled, one_by_one};
     ghost use Rattle.ivy_program.specs.stated.States.{first_state};
     ghost use Rattle.ivy_program.specs.InstructionSteps.{AsksMany, IsAsking, HasEnded, TellsStep, answered_all};
@@ -55,10 +56,11 @@ impl Caller {
 
     /// No call was made.
     pub(crate) fn new() -> Caller
-        ensures { result ≡ record { program = Called []; state = first_state } }
+        ensures { result ≡ record { program = Called [] []; state = first_state } }
     {
         Caller {
             made: Story::new(),
+            fetches: Story::new(),
             last: None,
             left: 0,
         }
@@ -119,6 +121,13 @@ impl Caller {
         self.left == 0
     }
 
+    /// How many calls have no reply yet.
+    pub(crate) fn left(&self) -> usize
+        ensures { LacksReplies result self.now }
+    {
+        self.left
+    }
+
     #[tactic(auto, using(crate::proofs::running::Awaited::alone_left, crate::proofs::running::Awaited::left_alone))]
     /// Whether no other call without a reply was made along with the next one.
     pub(crate) fn is_alone(&self) -> bool
@@ -148,6 +157,18 @@ impl Caller {
         self.left = 1;
     }
 
+    /// A page is to be fetched ahead, to read or to write.
+    pub(crate) fn hand_fetch(&mut self, page: u32, write: bool)
+        ensures { self.new ≡ process_ahead page write self.old }
+    {
+        let ahead = AfterCalls {
+            page,
+            write,
+            made: &self.made,
+        };
+        self.fetches.append::<AfterCalls<'_>, Handing>(&ahead);
+    }
+
     #[tactic(auto, using(crate::proofs::running::Awaited::none_left, crate::proofs::running::Awaited::none_last))]
     /// One more call is made, and has its reply at once.
     pub(crate) fn hand_answered(&mut self, call: Call)
@@ -164,7 +185,7 @@ impl Caller {
     pub(crate) fn hand_row(&mut self, kind: Row, addr: u64, words: usize, bytes: &[u8])
         requires free { HasEnded self.old }
         ensures own { IsCalled self.new.program }
-        ensures answered { (rows : List (List Call)) → self.old ≡ asking rows None → self.new ≡ asking (rows ++ one_by_one (calls_of (row kind 0 addr (numbers_in words bytes.now)))) None }
+        ensures answered { (fetches : List HandedFetch) (rows : List (List Call)) → self.old ≡ asking fetches rows None → self.new ≡ asking fetches (rows ++ one_by_one (calls_of (row kind 0 addr (numbers_in words bytes.now)))) None }
     {
         let row = InRow {
             kind,

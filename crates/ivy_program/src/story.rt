@@ -1,5 +1,6 @@
-//! What is told of own code: the calls that it made, in rows of those that were made together.
-use ivy_model::{Call, Row, Tells};
+//! What is told of own code: the calls that it made, in rows of those that were made together, and the pages that it has
+//! fetched ahead.
+use ivy_model::{Call, Row, Story, Tells};
 use std::marker::Model;
 
 /// Calls that were made together, as contracts see them. There is no value of it.
@@ -50,4 +51,34 @@ impl<'a> Tells<InRow<'a>, Together> for AtOnce {
     ghost use Rattle.ivy_model.specs.Rows.{calls_of, numbers_in, row};
 
     ghost list = { λ r. calls_of (row r.kind 0 r.addr (numbers_in r.words r.bytes.now)) ∷ [] };
+}
+
+/// A page that is to be fetched ahead, as contracts see it. There is no value of it.
+pub(crate) struct Ahead;
+
+impl Model for Ahead {
+    ghost use Rattle.std.specs.Prelude.{false};
+    ghost use Rattle.ivy_program.specs.stated.Programs.{HandedFetch};
+
+    ghost Value = { HandedFetch };
+
+    ghost view = { λ _. record { page = 0; write = false; after = 0 } };
+}
+
+/// A page, to be fetched to read or to write, after the calls that were made.
+#[derive(Drop)]
+pub(crate) struct AfterCalls<'a> {
+    pub(crate) page: u32,
+    pub(crate) write: bool,
+    pub(crate) made: &'a Story<Together>,
+}
+
+/// The page is to be fetched.
+pub(crate) struct Handing;
+
+impl<'a> Tells<AfterCalls<'a>, Ahead> for Handing {
+    ghost use Rattle.std.specs.Prelude.{[], ◌∷◌, length};
+    ghost use Rattle.ivy_program.specs.stated.Programs.{calls_in};
+
+    ghost list = { λ f. record { page = f.page; write = f.write; after = length (calls_in f.made.now.told) } ∷ [] };
 }

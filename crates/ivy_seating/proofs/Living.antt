@@ -49,7 +49,7 @@ module _ (c : Config) (opened : Opening) (programs : List Program) (wire : Table
     lists = with_list r.parts s.me s.events
 
     own_list : IsListOf (host_rules managed_ops) c start s.me s.events made.effect
-    own_list = its_list c opened (all_handed r.calls programs) s made h.config h.began h.unhanded
+    own_list = its_list c opened (all_handed r.calls programs) s made h.config h.began
         (handed-at r.calls programs s.me h.program.first h.program.there
         ∙ ap (λ l. Some (handed l h.program.first)) own.handed ∙ ap Some (sym h.program.is))
 

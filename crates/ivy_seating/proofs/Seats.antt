@@ -42,14 +42,11 @@ use Rattle.ivy_ether.specs.Views.{View, with_put, with_refused, with_taken, with
 use Rattle.ivy_site.specs.declared.turn.Turn as turn
 use Rattle.ivy_site.specs.declared.turn.Turn.TheVariants.{Idle, Moved, Ended}
 use Rattle.ivy_site.specs.SiteView.{SiteView, after_hearing, after_delivery, after_pulse_to}
-use Rattle.ivy_site.specs.Sites.{AfterDelivery, AfterTurn, FollowsDelivery, GoesOnOnce, IsMadeByEvents}
-use Rattle.ivy_site.specs.Sites.{IsSentBy, IsUnhanded, SiteDelivers, origin_of, without_ready}
+use Rattle.ivy_site.specs.Sites.{IsMadeByEvents, IsSentBy, AfterTurn, AfterDelivery, SiteDelivers, without_ready, GoesOnOnce, FollowsDelivery}
 use Rattle.ivy_site.specs.Sites as sites
 use Rattle.ivy_site.specs.Calls.{AreAnswered, AreTaken, BeginsRow}
 use Rattle.ivy_site.specs.Handed.{site_handed}
 use Rattle.ivy_host.proofs.Programs.{turned-program, posting-core, delivered-program}
-use Rattle.ivy_site.proofs.Unhanded.{first_unhanded, unhanded_origin}
-use Rattle.ivy_site.proofs.Unhanded.{turned_unhanded, delivered_unhanded, pulsed_unhanded}
 use Rattle.ivy_program.specs.InstructionSteps.{HasEnded}
 use Rattle.ivy_seating.specs.Places.{RunsProgram, IsSeated, IsFreshSeat}
 use Rattle.ivy_seating.specs.Reports.{report_of, IsDone}
@@ -73,10 +70,9 @@ first_there opened c me k (p ∷ ps) (suc i) program at is =
 -- the site's list is one of its node
 pub its_list : (c : Config) (opened : Opening) (programs : List Program) (s : SiteView)
     (made : IsMadeByEvents s)
-    → s.config ≡ c → s.opened ≡ opened → IsUnhanded s
-    → slice_get programs s.me ≡ Some (program_in s)
+    → s.config ≡ c → s.opened ≡ opened → slice_get programs s.me ≡ Some (program_in s)
     → IsListOf (host_rules managed_ops) c (beginning c opened programs) s.me s.events made.effect
-its_list c opened programs s made config began none program = record {
+its_list c opened programs s made config began program = record {
   node = first_node (managed_start opened) c s.me (program_in s);
   there = first_there opened c 0 s.me programs s.me (program_in s) (omega arith) program;
   happen = subst
@@ -85,9 +81,7 @@ its_list c opened programs s made config began none program = record {
       s.events made.effect) began
       (subst (λ k. AllHappen (host_rules managed_ops) k
       (first_node (managed_start s.opened) k s.me (program_in s)) s.events made.effect)
-      config
-      (subst (λ n. AllHappen (host_rules managed_ops) s.config n s.events made.effect)
-      (unhanded_origin s none) made.happen));
+      config made.happen);
 }
 
 -- where these calls were handed to all nodes, as to its own, its program is the one that it runs
@@ -112,7 +106,7 @@ module _ (c : Config) (opened : Opening) (programs : List Program) where
       is = h.given.is;
       effect = made.effect;
       list = its_list c opened (all_handed (λ _. p.known.handed) programs) s made h.config h.began
-          h.unhanded (runs_there programs s p.known.handed h.program);
+          (runs_there programs s p.known.handed h.program);
       can = subst (λ k. AllCanBeMade p.known.took k s.me h.given.more)
           (sym (handed_count c opened (λ _. p.known.handed) programs)) h.given.can;
     };
@@ -132,7 +126,7 @@ module _ (c : Config) (opened : Opening) (programs : List Program) where
         sends = record {
           effect = sent.made.effect;
           list = its_list c opened (all_handed (λ _. p.known.handed) programs) s sent.made h.config
-              h.began h.unhanded (runs_there programs s p.known.handed h.program);
+              h.began (runs_there programs s p.known.handed h.program);
           sent = sent.sent;
         };
       })
@@ -143,7 +137,6 @@ module _ (c : Config) (opened : Opening) (programs : List Program) where
     config : s'.config ≡ s.config
     began : s'.opened ≡ s.opened
     program : program_in s' ≡ program_in s
-    unhanded : IsUnhanded s → IsUnhanded s'
     ms : List Mark
     events : s'.events ≡ s.events ++ ms
     can : AllCanBeMade took (length programs) s.me ms
@@ -154,7 +147,6 @@ module _ (c : Config) (opened : Opening) (programs : List Program) where
     config = ap (λ (x : SiteView). x.config) same;
     began = ap (λ (x : SiteView). x.opened) same;
     program = ap program_in same;
-    unhanded = λ none. ap (λ (x : SiteView). x.node.core.fetches.handed) same ∙ none;
     ms = [];
     events = ap (λ (x : SiteView). x.events) same ∙ sym (append-nil s.events);
     can = tt;
@@ -175,7 +167,6 @@ module _ (c : Config) (opened : Opening) (programs : List Program) where
     config = y.config ∙ x.config;
     began = y.began ∙ x.began;
     program = y.program ∙ x.program;
-    unhanded = λ none. y.unhanded (x.unhanded none);
     ms = x.ms ++ y.ms;
     events = y.events ∙ ap (λ l. l ++ y.ms) x.events ∙ append_assoc a.events x.ms y.ms;
     can = can-append took (length programs) a.me x.ms y.ms x.can
@@ -197,7 +188,6 @@ module _ (c : Config) (opened : Opening) (programs : List Program) where
       there = ap (slice_get programs) on.me ∙ h.program.there;
       is = on.program ∙ h.program.is;
     };
-    unhanded = on.unhanded h.unhanded;
     given = record {
       more = h.given.more ++ on.ms;
       is = on.events ∙ ap (λ l. l ++ on.ms) h.given.is
@@ -222,7 +212,6 @@ module _ (c : Config) (opened : Opening) (programs : List Program) where
         ∙ ap (λ (k : Host Managed). k.process.program)
         (posting-core s.node after.outcome.after after.outcome.posted after.effect after.sent)
         ∙ turned-program s.node.core after.outcome after.turn;
-    unhanded = turned_unhanded Moved s s' after;
     ms = Turn ∷ [];
     events = ap (λ (x : SiteView). x.events) after.after;
     can = (tt, tt);
@@ -245,7 +234,6 @@ module _ (c : Config) (opened : Opening) (programs : List Program) where
     began = ap (λ (x : SiteView). x.opened) after;
     program = ap program_in after
         ∙ delivered-program s.config limits s.node d.frame bytes d.effect d.spelled d.delivered;
-    unhanded = delivered_unhanded bytes v s s' limits d;
     ms = Delivery bytes ∷ [];
     events = ap (λ (x : SiteView). x.events) after;
     can = (there, tt);
@@ -273,7 +261,8 @@ module _ (c : Config) (opened : Opening) (programs : List Program) where
   once_stays source bytes s s' took limits before once =
       let there : Contains took bytes =
       early-can (host_rules managed_ops) s.config took (length programs) s.me
-      (origin_of s) s.events bytes before once.early in
+      (first_node (managed_start s.opened) s.config s.me (program_in s)) s.events bytes before
+      once.early in
       let x : StaysAt (without_ready s source) s' took =
       delivery_as bytes verdict.Next verdict.Next (without_ready s source) s' took refl limits there
       once.next in
@@ -282,7 +271,6 @@ module _ (c : Config) (opened : Opening) (programs : List Program) where
         config = x.config;
         began = x.began;
         program = x.program;
-        unhanded = x.unhanded;
         ms = x.ms;
         events = x.events;
         can = x.can;
@@ -305,7 +293,6 @@ module _ (c : Config) (opened : Opening) (programs : List Program) where
     config = ap (λ (x : SiteView). x.config) same;
     began = ap (λ (x : SiteView). x.opened) same;
     program = ap program_in same;
-    unhanded = λ none. ap (λ (x : SiteView). x.node.core.fetches.handed) same ∙ none;
     ms = [];
     events = ap (λ (x : SiteView). x.events) same ∙ sym (append-nil s.events);
     can = tt;
@@ -354,7 +341,6 @@ module _ (c : Config) (opened : Opening) (programs : List Program) where
         config = ap (λ (x : SiteView). x.config) after;
         began = ap (λ (x : SiteView). x.opened) after;
         program = ap program_in after;
-        unhanded = pulsed_unhanded to s s' after;
         ms = pulse_marks to (pulsing s.node to).sent;
         events = ap (λ (x : SiteView). x.events) after;
         can = pulse_can to s.me (length programs) p.known.took (pulsing s.node to).sent inside
@@ -385,7 +371,6 @@ module _ (c : Config) (opened : Opening) (programs : List Program) where
       there = h.program.there;
       is = h.program.is ∙ ap (λ l. handed l h.program.first) (sym g.handed);
     };
-    unhanded = h.unhanded;
     given = record { more = []; is = sym (append-nil p'.known.events ∙ g.events); can = tt };
     took = can-more p.known.took p'.known.took (length programs) s.me s.events g.took h.took;
   }
@@ -431,7 +416,6 @@ module _ (c : Config) (opened : Opening) (programs : List Program) where
         config = h.config;
         began = h.began;
         program = h.program;
-        unhanded = h.unhanded;
         given = record { more = h.given.more; is = h.given.is; can = h.given.can };
         took = h.took;
       })
@@ -445,7 +429,6 @@ module _ (c : Config) (opened : Opening) (programs : List Program) where
     config = ap (λ (x : SiteView). x.config) same;
     began = ap (λ (x : SiteView). x.opened) same;
     program = ap program_in same;
-    unhanded = λ none. ap (λ (x : SiteView). x.node.core.fetches.handed) same ∙ none;
     ms = [];
     events = ap (λ (x : SiteView). x.events) same ∙ sym (append-nil s.events);
     can = tt;
@@ -469,8 +452,6 @@ module _ (c : Config) (opened : Opening) (programs : List Program) where
       is = ap program_in f.site ∙ sym (handed_none f.program)
           ∙ ap (λ (v : View). handed v.handed f.program) (sym f.pass);
     };
-    unhanded = ap (λ (x : SiteView). x.node.core.fetches.handed) f.site
-        ∙ first_unhanded opened c s.me f.program;
     given = record {
       more = [];
       is = ap (λ (x : SiteView). x.events) f.site ∙ sym (ap (λ (v : View). v.events) f.pass)
@@ -556,7 +537,6 @@ module _ (c : Config) (opened : Opening) (programs : List Program) where
           is = ap (handed calls) h.program.is
               ∙ sym (handed_more p.known.handed calls h.program.first);
         };
-        unhanded = h.unhanded;
         given = record { more = h.given.more; is = h.given.is; can = h.given.can };
         took = h.took;
       }))
@@ -635,7 +615,7 @@ module _ (c : Config) (opened : Opening) (programs : List Program) where
           (beginning c opened (all_handed (λ _. p.known.handed) programs)) j s.events made.effect)
           at
           (its_list c opened (all_handed (λ _. p.known.handed) programs) s made h.config h.began
-          h.unhanded (runs_there programs s p.known.handed h.program));
+          (runs_there programs s p.known.handed h.program));
       history = ap (λ (n : Node (Host Managed)). n.core.history) made.node;
       output = ap (λ (n : Node (Host Managed)). n.core.process.state.output) made.node;
     };

@@ -14,7 +14,7 @@ use Rattle.ivy_host.specs.stated.Hosts.{Host, host_rules}
 use Rattle.ivy_host.specs.stated.Managers.{Managed, managed_ops}
 use Rattle.ivy_ether.specs.Programs.{beginning, all_handed}
 use Rattle.ivy_site.specs.SiteView.{SiteView}
-use Rattle.ivy_site.specs.Sites.{first_opened, IsMadeByEvents, IsUnhanded}
+use Rattle.ivy_site.specs.Sites.{first_opened, IsMadeByEvents}
 use Rattle.ivy_ether.specs.Held.{Held}
 use Rattle.ivy_ether.specs.Views.{newcomer, with_seat}
 
@@ -42,7 +42,7 @@ pub record RunsProgram (programs : List Program) (s : SiteView) (calls : List (L
     pub is : s.node.core.process.program ≡ handed calls first
 
 -- the pass is of this ether, sits at the site's node and has not reported, and took each string
--- that was delivered to the site; the site runs the node's program, and was handed no fetch
+-- that was delivered to the site; the site runs the node's program
 pub record IsSeated (wire : TableId) (c : Config) (opened : Opening) (programs : List Program)
     (s : SiteView) (p : Held) : Type 0 where
   pub limits : IsConfig c
@@ -53,7 +53,6 @@ pub record IsSeated (wire : TableId) (c : Config) (opened : Opening) (programs :
   pub config : s.config ≡ c
   pub began : s.opened ≡ opened
   pub program : RunsProgram programs s p.known.handed
-  pub unhanded : IsUnhanded s
   pub given : HasGiven (length programs) s p
   pub took : AllCanBeMade p.known.took (length programs) s.me s.events
 

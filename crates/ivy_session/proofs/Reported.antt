@@ -228,7 +228,7 @@ reported c opened programs limits each nodes v count told t =
 -- nothing can be handed to programs that are written down
 handed_written : (calls : List (List Call)) (p : Program) → IsWritten p → handed calls p ≡ p
 handed_written calls (Written is) written = refl
-handed_written calls (Called rows) written = absurd written
+handed_written calls (Called rows fs) written = absurd written
 
 pub written_from : (calls : ℕ → List (List Call)) (k : ℕ) (ps : List Program) → All IsWritten ps
     → all_handed_from k calls ps ≡ ps

@@ -18,7 +18,7 @@ use Rattle.ivy_site.specs.Calls.{BeginsRow, row_together}
 use Rattle.ivy_site.specs.Handed.{site_handed}
 use Rattle.ivy_site.specs.SiteView.{SiteView}
 use Rattle.ivy_site.specs.Sites.{AreUsed, SiteTurns}
-use Rattle.ivy_site.proofs.Calling.{IsCall, IsNumbered, begin_call}
+use Rattle.ivy_site.proofs.Calling.{IsCall, IsNumbered, begin_call, handing-used}
 
 -- the calls of a row: the first, and the others
 pub row_split : (kind : Row) (addr words : ℕ) (bytes : List ℕ) → 1 ≤ words
@@ -30,7 +30,7 @@ row_split kind addr (suc n) bytes some =
     ∷ calls_of (row kind 0 (addr + 8) (numbers_in k (drop 8 bytes))))
     (let e : n ≡ suc n - 1 = omega arith in e)
 
-module _ (h : Host Managed) (used : AreUsed h.fetches) (rests : Rests h.process)
+module _ (h : Host Managed) (used : AreUsed h) (rests : Rests h.process)
     (idle : h.memory.asked ≡ None) where
   -- these calls are made together
   abbrev made : List Call → Host Managed
@@ -42,7 +42,7 @@ module _ (h : Host Managed) (used : AreUsed h.fetches) (rests : Rests h.process)
   together k others number wide n =
       subst (λ (ks : List Call). IsCall (made (k ∷ others)) k (call_begun managed_ops h.memory k ks number))
       (together_along h.process rests k others wide)
-      (begin_call (made (k ∷ others)) k number n used idle (together_asks h.process rests k others wide))
+      (begin_call (made (k ∷ others)) k number n (handing-used ((k ∷ others) ∷ []) h used) idle (together_asks h.process rests k others wide))
 
   -- those of a row
   pub row_begins : (kind : Row) (addr words : ℕ) (bytes : List ℕ) (number : ℕ) → 1 ≤ words

@@ -3,7 +3,6 @@ use Rattle.std.proofs.Common.{◌≡◌, ◌≢◌, ℕ, ◌+◌, ◌<◌, ◌�
 use Rattle.std.proofs.Common.{◌++◌, length, Option, Some, None, Result, Ok, Err, OnErr, refl, sym}
 use Rattle.std.proofs.Common.{ap, ◌∙◌, subst, arith, if◌then◌else◌}
 use Rattle.std.proofs.lemmas.Bool.{lt-ltb}
-use Rattle.std.proofs.lemmas.Option.{slice_get_past}
 use Rattle.ivy_model.specs.declared.Call.{Call}
 use Rattle.ivy_model.specs.declared.Fault.{Fault}
 use Rattle.ivy_model.specs.declared.Fault.TheVariants as fault
@@ -14,6 +13,13 @@ use Rattle.ivy_link.specs.stated.Linked.{has_numbers}
 use Rattle.ivy_coherence.specs.declared.Need.{Need}
 use Rattle.ivy_coherence.specs.declared.Need.TheVariants as need
 use Rattle.ivy_coherence.specs.stated.PageFaults.{Begun, begun}
+use Rattle.std.proofs.lemmas.Option.{slice_get_past}
+use Rattle.ivy_program.specs.stated.Programs.{Program, Written, Called, fetches_of}
+use Rattle.ivy_program.specs.Programs.{handed}
+use Rattle.ivy_host.specs.Handing.{handing}
+use Rattle.ivy_host.specs.stated.Fetches.{due_of, if_reached}
+use Rattle.ivy_host.proofs.Turns.{none-due}
+use Rattle.ivy_site.specs.Sites.{AreUsed}
 use Rattle.ivy_host.specs.stated.Managers.{Managed, managed_ops}
 use Rattle.ivy_program.specs.stated.InstructionSteps.{Process, Asks, step_of, answered_with, along_of}
 use Rattle.ivy_moves.specs.stated.Cores.{Outcome}
@@ -29,10 +35,6 @@ use Rattle.ivy_memory.specs.stated.Memories.{NodeMemory, CallBegun, reply_of, re
 use Rattle.ivy_memory.proofs.keeping.Polling.{polled_so}
 use Rattle.ivy_host.specs.stated.Hosts.{Host, begins_as, begins_with, due, steps, turned_at, turn_of, number_of, recorded}
 use Rattle.ivy_link.specs.Outboxes.{Outbox, HasNumbers, RefusesParcels, posted_by, takes_none, after_none}
-use Rattle.ivy_program.specs.stated.Programs.{Program, Written, Called}
-use Rattle.ivy_host.specs.stated.Fetches.{Fetches, due_of, if_reached}
-use Rattle.ivy_host.proofs.Turns.{none-due}
-use Rattle.ivy_site.specs.Sites.{AreUsed}
 use Rattle.ivy_site.specs.Inside.{HasTurn, AfterHostTurn, HasNoNumbers, host_of, is_served, kept_by, told_by}
 use Rattle.ivy_link.proofs.Boxes.{as_many-wait}
 
@@ -120,6 +122,7 @@ called_few box after posted few sent =
 
 -- a turn in which a call begins, or is asked for its reply: what it comes to
 pub record IsCall (h : H) (k : Call) (a : CallBegun Managed) : Type 0 where
+  pub used : AreUsed h
   pub turn : turn_of managed_ops h ≡ begins_as h k a
   pub nothing : ChangesNothing h.memory a
 
@@ -129,21 +132,37 @@ pub record IsNumbered (h : H) (number : ℕ) : Type 0 where
   pub below : length h.history + 1 < 2 ^ 64
 
 -- where each fetch is used up, none is due
-none-of : (p : Program) (reached : ℕ) (fetches : Fetches) → AreUsed fetches
-    → due_of p reached fetches ≡ None
-none-of (Written is) reached fetches used = refl
-none-of (Called rows) reached fetches used =
-    ap (if_reached reached) (slice_get_past fetches.handed fetches.used (omega (arith, used)))
+none-of : (p : Program) (reached used : ℕ) → used ≡ length (fetches_of p)
+    → due_of p reached used ≡ None
+none-of (Written is) reached used all = refl
+none-of (Called rows fetches) reached used all =
+    ap (if_reached reached) (slice_get_past fetches used (omega (arith, all)))
 
-pub used-due : (h : H) → AreUsed h.fetches → due h ≡ None
+pub used-due : (h : H) → AreUsed h → due h ≡ None
 used-due h used =
     none-of h.process.program
-    (h.process.state.place + length (in_progress h.memory.asked h.memory.along)) h.fetches used
+    (h.process.state.place + length (in_progress h.memory.asked h.memory.along)) h.used used
 
-pub begin_call : (h : H) (k : Call) (number : ℕ) → IsNumbered h number → AreUsed h.fetches
+-- and so the code has it
+pub host-used : (h : H) (memory : NodeMemory Managed) (history : List Record) → AreUsed h
+    → host_of memory h.process history ≡ record h { memory = memory; history = history }
+host-used h memory history used =
+    (λ j. record h { memory = memory; history = history; used = sym used j })
+
+-- further calls leave the fetches
+pub handed-fetches : (more : List (List Call)) (p : Program)
+    → length (fetches_of p) ≡ length (fetches_of (handed more p))
+handed-fetches more (Written is) = refl
+handed-fetches more (Called rows fs) = refl
+
+pub handing-used : (more : List (List Call)) (h : H) → AreUsed h → AreUsed (handing more h)
+handing-used more h used = used ∙ handed-fetches more h.process.program
+
+pub begin_call : (h : H) (k : Call) (number : ℕ) → IsNumbered h number → AreUsed h
     → h.memory.asked ≡ None
     → step_of h.process ≡ Asks k → IsCall h k (call_begun managed_ops h.memory k (along_of h.process) number)
 begin_call h k number n used idle asks = record {
+  used = used;
   turn = none-due managed_ops h (used-due h used) ∙ ap (turned_at managed_ops h) idle
       ∙ ap (steps managed_ops h) asks
       ∙ ap (λ b. if b
@@ -156,16 +175,17 @@ begin_call h k number n used idle asks = record {
 }
 
 -- where no call is made along with it, the memory has it begin alone
-pub begin_alone : (h : H) (k : Call) (number : ℕ) → IsNumbered h number → AreUsed h.fetches
+pub begin_alone : (h : H) (k : Call) (number : ℕ) → IsNumbered h number → AreUsed h
     → h.memory.asked ≡ None → step_of h.process ≡ Asks k → along_of h.process ≡ []
     → IsCall h k (call_begun managed_ops h.memory k [] number)
 begin_alone h k number n used idle asks alone =
     subst (λ (ks : List Call). IsCall h k (call_begun managed_ops h.memory k ks number)) alone
     (begin_call h k number n used idle asks)
 
-pub poll_call : (h : H) (k : Call) → AreUsed h.fetches → h.memory.asked ≡ Some k
+pub poll_call : (h : H) (k : Call) → AreUsed h → h.memory.asked ≡ Some k
     → IsCall h k (polled managed_ops h.memory)
 poll_call h k used asked = record {
+  used = used;
   turn = none-due managed_ops h (used-due h used) ∙ ap (turned_at managed_ops h) asked;
   nothing =
       subst (ChangesNothing h.memory) (sym (polled_so managed_ops h.memory k asked))
@@ -179,22 +199,21 @@ module _ (h : H) (k : Call) (a : CallBegun Managed) (calls : IsCall h k a) where
 
   -- it has a reply
   called_answered : (box after : Outbox) (node : ℕ) (memory : NodeMemory Managed)
-      (process : Process) (history : List Record) (fetches : Fetches) (answer : CallProgress)
-      (r : Reply) → fetches ≡ h.fetches → node ≡ number_of h → answer ≡ a.answer → answer ≡ Given r → memory ≡ a.after
+      (process : Process) (history : List Record) (answer : CallProgress) (r : Reply)
+      → node ≡ number_of h → answer ≡ a.answer → answer ≡ Given r → memory ≡ a.after
       → HasNumbers box a.posted → after ≡ posted_by box a.posted
       → history ≡ h.history ++ record { node = node; call = k; reply = r } ∷ []
       → process ≡ answered_with h.process r
-      → HasTurn h box (host_of fetches memory process history) after
-  called_answered box after node memory process history fetches answer r stay mine same is next
-      numbers sent kept goes = record {
+      → HasTurn h box (host_of memory process history) after
+  called_answered box after node memory process history answer r mine same is next numbers sent kept
+      goes = record {
         outcome = record { after = recorded h a.after k r; posted = a.posted };
         turn = by_answer answer (Given r) same is;
-        host = ap (λ fs. host_of fs memory process history) stay
-            ∙ (ap (λ m. host_of h.fetches m process history) next
-            ∙ (ap (λ p. host_of h.fetches a.after p history) goes
-            ∙ (ap (λ rs. host_of h.fetches a.after (answered_with h.process r) rs) kept
-            ∙ ap (λ i. host_of h.fetches a.after (answered_with h.process r)
-            (h.history ++ record { node = i; call = k; reply = r } ∷ [])) mine)));
+        host = ap (λ m. host_of m process history) next ∙ (ap (λ p. host_of a.after p history) goes
+            ∙ (ap (λ rs. host_of a.after (answered_with h.process r) rs) kept
+            ∙ (ap (λ i. host_of a.after (answered_with h.process r)
+            (h.history ++ record { node = i; call = k; reply = r } ∷ [])) mine
+            ∙ (λ j. record (recorded h a.after k r) { used = sym calls.used j }))));
         numbers = numbers;
         sent = sent;
       }
@@ -203,11 +222,11 @@ module _ (h : H) (k : Call) (a : CallBegun Managed) (calls : IsCall h k a) where
   called_awaited : (box after : Outbox) (memory : NodeMemory Managed) (answer : CallProgress)
       → answer ≡ a.answer → answer ≡ Awaited → memory ≡ a.after → HasNumbers box a.posted
       → after ≡ posted_by box a.posted
-      → HasTurn h box (host_of h.fetches memory h.process h.history) after
+      → HasTurn h box (host_of memory h.process h.history) after
   called_awaited box after memory answer same is next numbers sent = record {
     outcome = record { after = record h { memory = a.after }; posted = a.posted };
     turn = by_answer answer Awaited same is;
-    host = ap (λ m. host_of h.fetches m h.process h.history) next;
+    host = ap (λ m. host_of m h.process h.history) next ∙ host-used h a.after h.history calls.used;
     numbers = numbers;
     sent = sent;
   }
@@ -215,32 +234,32 @@ module _ (h : H) (k : Call) (a : CallBegun Managed) (calls : IsCall h k a) where
   -- nothing changes
   not_called : (box after : Outbox) (memory : NodeMemory Managed) (answer : CallProgress)
       → answer ≡ a.answer → answer ≡ Unserved → memory ≡ a.after → after ≡ posted_by box a.posted
-      → AfterHostTurn false h box (host_of h.fetches memory h.process h.history) after
+      → AfterHostTurn false h box (host_of memory h.process h.history) after
   not_called box after memory answer same is next sent =
       let none = calls.nothing (sym same ∙ is) in (
         by_answer answer Unserved same is,
-        ap (λ m. host_of h.fetches m h.process h.history) (next ∙ none.0),
+        ap (λ m. host_of m h.process h.history) (next ∙ none.0)
+            ∙ host-used h h.memory h.history calls.used,
         sent ∙ (ap (posted_by box) none.1 ∙ after_none box),
       )
 
   -- one of the three
   pub called : (box after : Outbox) (node : ℕ) (memory : NodeMemory Managed) (process : Process)
-      (history : List Record) (fetches : Fetches) (served : Bool) (answer : CallProgress)
-      → fetches ≡ h.fetches → node ≡ number_of h
+      (history : List Record) (served : Bool) (answer : CallProgress) → node ≡ number_of h
       → answer ≡ a.answer → memory ≡ a.after → HasNumbers box a.posted
       → after ≡ posted_by box a.posted → served ≡ is_served answer
       → history ≡ kept_by h.history node k answer → process ≡ told_by h.process answer
-      → AfterHostTurn served h box (host_of fetches memory process history) after
-  called box after node memory process history fetches served (Given r) stay mine same next numbers
-      sent is kept goes =
-      rw is (called_answered box after node memory process history fetches (Given r) r stay mine same
-      refl next numbers sent kept goes)
-  called box after node memory process history fetches served Awaited stay mine same next numbers
-      sent is kept goes =
-      rw (stay, is, kept, goes) (called_awaited box after memory Awaited same refl next numbers sent)
-  called box after node memory process history fetches served Unserved stay mine same next numbers
-      sent is kept goes =
-      rw (stay, is, kept, goes) (not_called box after memory Unserved same refl next sent)
+      → AfterHostTurn served h box (host_of memory process history) after
+  called box after node memory process history served (Given r) mine same next numbers sent is kept
+      goes =
+      rw is (called_answered box after node memory process history (Given r) r mine same refl next
+      numbers sent kept goes)
+  called box after node memory process history served Awaited mine same next numbers sent is kept
+      goes =
+      rw (is, kept, goes) (called_awaited box after memory Awaited same refl next numbers sent)
+  called box after node memory process history served Unserved mine same next numbers sent is kept
+      goes =
+      rw (is, kept, goes) (not_called box after memory Unserved same refl next sent)
 
   -- numbers are at an end for what it would post
   cannot_by : (box : Outbox) → has_numbers box.link a.posted ≡ false → (r : CallProgress) → a.answer ≡ r

@@ -173,7 +173,7 @@ pub record IsHeard (v : SiteView) (f : Frame) (w : Verdict) (h : H) (box : Outbo
   pub config : h.memory.coherence.config ≡ v.node.core.memory.coherence.config
   pub me : h.memory.coherence.me ≡ v.node.core.memory.coherence.me
   pub asking : IsAskingHost v.node.core → IsAskingHost h
-  pub fetches : h.fetches ≡ v.node.core.fetches
+  pub used : AreUsed v.node.core → AreUsed h
 
 quietly_as : (w : Verdict) (m : Node H) (f : Frame) → (w ≡ verdict.NotMine → ⊥)
     → (w ≡ verdict.Next → f.body ≡ None) → received_as rules w m f ≡ accepting f (Some (stays m))
@@ -199,7 +199,7 @@ heard_quietly v f w ne none = record {
   config = refl;
   me = refl;
   asking = λ a. a;
-  fetches = refl;
+  used = λ a. a;
 }
 
 -- by a message that is served
@@ -229,7 +229,7 @@ told_message v f w m next body numbers few =
       config = same.config;
       me = same.me;
       asking = λ a. serve-asking managed_ops v.node.core f.source m a;
-      fetches = refl;
+      used = λ a. a;
     }
 
 pub heard_message : (v : SiteView) (f : Frame) (w : Verdict) (m : Message)
@@ -332,7 +332,7 @@ heard_site v k f bytes w fits r ne h box new events site x is listed =
       config = x.config ∙ site.config ∙ sym (ap (λ (b : Outbox). b.config) same);
       me = x.me ∙ site.me ∙ sym (ap (λ (b : Outbox). b.me) same);
       asking = x.asking site.asking;
-      fetched = subst AreUsed (sym x.fetches) site.fetched;
+      fetched = x.used site.fetched;
       made = delivery_made bytes w v (shown_of v.opened v.keep h new events) limits site.made d;
       held = hearing-holds v (shown_of v.opened v.keep h new events) f w site.held (record {
         link = x.link;

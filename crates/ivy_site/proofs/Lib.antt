@@ -5,7 +5,6 @@ pub mod Calling
 pub mod Pulsing
 pub mod Turned
 pub mod Made
-pub mod Unhanded
 pub mod Handed
 pub mod HeldStrings
 pub mod Receiving

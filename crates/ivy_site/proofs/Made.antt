@@ -1,5 +1,5 @@
 -- A site stays what its events make, whatever its calls do.
-use Rattle.std.proofs.Common.{◌≡◌, ◌≢◌, ℕ, replicate, inl, inr, arith, List, [], ◌∷◌, ◌++◌, Option, Some, None, Contains, refl, sym, ap, subst, ◌∙◌, append-nil, append_assoc}
+use Rattle.std.proofs.Common.{◌≡◌, ◌≢◌, ℕ, replicate, inl, inr, arith, List, [], ◌∷◌, ◌++◌, length, Option, Some, None, Contains, refl, sym, ap, subst, ◌∙◌, append-nil, append_assoc}
 use Rattle.std.specs.Prelude.{IfSome}
 use Rattle.std.proofs.lemmas.List.Elements.{Contains-append_left, Contains-append_right, Contains-push}
 use Rattle.std.proofs.lemmas.Bool.{cases_lt}
@@ -9,19 +9,14 @@ use Rattle.ivy_link.specs.Windows.{first_window, place_at}
 use Rattle.ivy_model.specs.declared.Config.{Config}
 use Rattle.ivy_model.specs.stated.Config.{IsConfig}
 use Rattle.ivy_wire.proofs.Frames.{spelled_once}
-use Rattle.ivy_link.specs.stated.Linked.{first_link}
 use Rattle.ivy_link.specs.declared.Verdict.{Verdict}
 use Rattle.ivy_link.specs.stated.Accepted.{offered}
 use Rattle.ivy_link.specs.declared.Verdict.TheVariants as verdict
 use Rattle.ivy_host.specs.declared.opening.Opening.{Opening}
-use Rattle.ivy_host.specs.declared.opening.Opening.TheVariants.{Configured, Steady}
 use Rattle.ivy_host.specs.stated.Managers.{Managed, managed_ops}
-use Rattle.ivy_host.specs.Handing.{begun_with}
-use Rattle.ivy_host.specs.stated.Fetches.{Fetches, HandedFetch, no_fetches}
 use Rattle.ivy_host.specs.stated.Hosts.{Host, host_rules}
-use Rattle.ivy_moves.specs.Carrying.{node_changed}
-use Rattle.ivy_host.specs.stated.Openings.{first_host, first_node, managed_start}
-use Rattle.ivy_program.specs.stated.Programs.{Program}
+use Rattle.ivy_host.specs.stated.Openings.{first_node, managed_start}
+use Rattle.ivy_program.specs.stated.Programs.{HandedFetch, Program, fetches_of}
 use Rattle.ivy_moves.specs.stated.Cores.{Core}
 use Rattle.ivy_moves.specs.declared.keep.Keep.{Keep}
 use Rattle.ivy_moves.specs.Marks.{Mark, Turn, Delivery}
@@ -32,10 +27,10 @@ use Rattle.ivy_moves.proofs.Early.{early-append}
 use Rattle.ivy_moves.proofs.Parts.{all-append, single, pulsing-marks}
 use Rattle.ivy_site.specs.declared.turn.Turn as turn
 use Rattle.ivy_site.specs.declared.turn.Turn.TheVariants.{Idle, Moved, Ended}
-use Rattle.ivy_host.proofs.Programs.{turned-program, turned-handed, posting-core, delivered-program, delivered-fetches}
+use Rattle.ivy_host.proofs.Programs.{turned-program, posting-core, delivered-program}
 use Rattle.ivy_link.specs.Outboxes.{Outbox, TakesFirst}
 use Rattle.ivy_site.specs.SiteView.{SiteView, after_hearing, after_delivery, after_pulse_to, box_of, boxed}
-use Rattle.ivy_site.specs.Sites.{AreUsed, early_at, origin_of, IsSite, HoldsEarly, IsMadeByEvents, AfterTurn, SiteDelivers, SiteTurns, first_opened, IsSentBy}
+use Rattle.ivy_site.specs.Sites.{early_at, IsSite, HoldsEarly, IsMadeByEvents, AfterTurn, SiteDelivers, first_opened, IsSentBy}
 
 abbrev rules : Core (Host Managed)
 rules = host_rules managed_ops
@@ -43,32 +38,33 @@ rules = host_rules managed_ops
 abbrev program_in : SiteView → Program
 program_in s = s.node.core.process.program
 
-abbrev fetches_in : SiteView → List HandedFetch
-fetches_in s = s.node.core.fetches.handed
-
--- it began as the same node
-pub origin-same : (old new : SiteView) → new.config ≡ old.config → new.opened ≡ old.opened
-    → new.me ≡ old.me → program_in new ≡ program_in old → fetches_in new ≡ fetches_in old
-    → origin_of new ≡ origin_of old
-origin-same old new config opened me program fetches =
-    (λ k. node_changed (begun_with (fetches k))
-    (first_node (managed_start (opened k)) (config k) (me k) (program k)))
-
 -- the events so far, and one effect more
 grown : (old new : SiteView) (ms : List Mark) (e : Effect (Host Managed)) → IsMadeByEvents old
     → AllHappen rules old.config old.node ms e → new.config ≡ old.config
-    → origin_of new ≡ origin_of old
+    → new.opened ≡ old.opened → new.me ≡ old.me → program_in new ≡ program_in old
     → new.events ≡ old.events ++ ms → new.node ≡ e.after → new.waiting ≡ old.waiting ++ e.sent
     → IsMadeByEvents new
-grown old new ms e h more config origin events node waiting = record {
+grown old new ms e h more config opened me program events node waiting = record {
   effect = followed_by h.effect e;
   happen =
-      subst (λ n. AllHappen rules new.config n new.events (followed_by h.effect e)) (sym origin)
-      (subst (λ c. AllHappen rules c (origin_of old) new.events (followed_by h.effect e)) (sym config)
-      (subst (λ ms. AllHappen rules old.config (origin_of old) ms (followed_by h.effect e))
+      subst (λ p. AllHappen rules new.config
+      (first_node (managed_start new.opened) new.config new.me p) new.events
+      (followed_by h.effect e)) (sym program)
+      (subst (λ i. AllHappen rules new.config
+      (first_node (managed_start new.opened) new.config i (program_in old))
+      new.events (followed_by h.effect e)) (sym me)
+      (subst (λ o. AllHappen rules new.config
+      (first_node (managed_start o) new.config old.me (program_in old)) new.events
+      (followed_by h.effect e)) (sym opened)
+      (subst (λ c. AllHappen rules c
+      (first_node (managed_start old.opened) c old.me (program_in old)) new.events
+      (followed_by h.effect e)) (sym config)
+      (subst (λ ms. AllHappen rules old.config
+      (first_node (managed_start old.opened) old.config old.me (program_in old)) ms (followed_by h.effect e))
       (sym events)
-      (all-append rules old.config (origin_of old) old.events ms h.effect e h.happen
-      (subst (λ n. AllHappen rules old.config n ms e) h.node more))));
+      (all-append rules old.config (first_node (managed_start old.opened) old.config old.me (program_in old))
+      old.events ms h.effect e h.happen
+      (subst (λ n. AllHappen rules old.config n ms e) h.node more))))));
   node = node;
   taken = h.taken;
   waits = ap (λ l. l ++ e.sent) h.waits ∙ append_assoc h.taken old.waiting e.sent
@@ -79,16 +75,6 @@ unchanged : (old new : SiteView) → IsMadeByEvents old → new ≡ old → IsMa
 unchanged old new h same = subst IsMadeByEvents (sym same) h
 
 -- a turn
-turn_origin : (old new : SiteView) → SiteTurns old new → origin_of new ≡ origin_of old
-turn_origin old new t =
-    let core = posting-core old.node t.outcome.after t.outcome.posted t.effect t.sent in
-    origin-same old new (ap (λ (s : SiteView). s.config) t.after)
-    (ap (λ (s : SiteView). s.opened) t.after) (ap (λ (s : SiteView). s.me) t.after)
-    (ap program_in t.after ∙ ap (λ (k : Host Managed). k.process.program) core
-    ∙ turned-program old.node.core t.outcome t.turn)
-    (ap fetches_in t.after ∙ ap (λ (k : Host Managed). k.fetches.handed) core
-    ∙ turned-handed old.node.core t.outcome t.turn)
-
 pub turn_made : (t : turn.Turn) (old new : SiteView) → IsMadeByEvents old → AfterTurn t old new
     → IsMadeByEvents new
 unfolding turned
@@ -98,23 +84,16 @@ turn_made Moved old new h after =
     grown old new (Turn ∷ []) after.effect h
     (single rules old.config old.node Turn after.effect
     ((after.outcome, after.turn), ap (turned_to rules old.node) after.turn ∙ after.sent))
-    (ap (λ (s : SiteView). s.config) after.after) (turn_origin old new after)
+    (ap (λ (s : SiteView). s.config) after.after) (ap (λ (s : SiteView). s.opened) after.after)
+    (ap (λ (s : SiteView). s.me) after.after)
+    (ap program_in after.after
+    ∙ ap (λ (k : Host Managed). k.process.program)
+    (posting-core old.node after.outcome.after after.outcome.posted after.effect after.sent)
+    ∙ turned-program old.node.core after.outcome after.turn)
     (ap (λ (s : SiteView). s.events) after.after) (ap (λ (s : SiteView). s.node) after.after)
     (ap (λ (s : SiteView). s.waiting) after.after)
 
 -- a delivery
-delivery_origin : (bytes : List ℕ) (v : Verdict) (old new : SiteView)
-    → (d : SiteDelivers bytes v old new) → IsConfig old.config → (w : Verdict)
-    → new ≡ after_hearing old bytes w d.frame.source d.effect → origin_of new ≡ origin_of old
-delivery_origin bytes v old new d limits w after =
-    origin-same old new (ap (λ (s : SiteView). s.config) after)
-    (ap (λ (s : SiteView). s.opened) after) (ap (λ (s : SiteView). s.me) after)
-    (ap program_in after
-    ∙ delivered-program old.config limits old.node d.frame bytes d.effect d.spelled d.delivered)
-    (ap fetches_in after
-    ∙ ap (λ (x : Fetches). x.handed)
-    (delivered-fetches old.config limits old.node d.frame bytes d.effect d.spelled d.delivered))
-
 delivered_made : (bytes : List ℕ) (v : Verdict) (old new : SiteView) → IsMadeByEvents old
     → (d : SiteDelivers bytes v old new) → v ≢ verdict.NotMine
     → verdict_of old.config old.node bytes ≡ v → IsConfig old.config → (w : Verdict)
@@ -123,7 +102,10 @@ delivered_made bytes v old new h d mine is limits w after =
     grown old new (Delivery bytes ∷ []) d.effect h
     (single rules old.config old.node (Delivery bytes) d.effect
     ((λ not. mine (sym is ∙ not)), d.delivered))
-    (ap (λ (s : SiteView). s.config) after) (delivery_origin bytes v old new d limits w after)
+    (ap (λ (s : SiteView). s.config) after) (ap (λ (s : SiteView). s.opened) after)
+    (ap (λ (s : SiteView). s.me) after)
+    (ap program_in after
+    ∙ delivered-program old.config limits old.node d.frame bytes d.effect d.spelled d.delivered)
     (ap (λ (s : SiteView). s.events) after) (ap (λ (s : SiteView). s.node) after)
     (ap (λ (s : SiteView). s.waiting) after)
 
@@ -196,29 +178,9 @@ first_holds opened keep c me program from place bytes is =
           (omega (arith, past, length-replicate {A = Option (List ℕ)} 32 None))
     ]
 
--- no fetch is handed
-first_used : (opened : Opening) (keep : Keep) (c : Config) (me : ℕ) (program : Program)
-    → AreUsed (first_opened opened keep c me program).node.core.fetches
-first_used Configured keep c me program = refl
-first_used Steady keep c me program = refl
-
--- the first site as the code makes it: no fetch is handed
-abbrev pub first_plain : Opening → Keep → Config → ℕ → Program → SiteView
-first_plain opened keep c me program = record (first_opened opened keep c me program) {
-  node = record {
-    core = record (first_host (managed_start opened) c me program) { fetches = no_fetches };
-    link = first_link me c.nodes;
-  };
-}
-
-pub plain_is : (opened : Opening) (keep : Keep) (c : Config) (me : ℕ) (program : Program) (s : SiteView)
-    → s ≡ first_plain opened keep c me program → s ≡ first_opened opened keep c me program
-plain_is Configured keep c me program s is = is
-plain_is Steady keep c me program s is = is
-
 pub first_site : (opened : Opening) (keep : Keep) (c : Config) (me : ℕ) (program : Program) (s : SiteView)
-    → s ≡ first_opened opened keep c me program → IsSite s
-first_site opened keep c me program s is =
+    → fetches_of program ≡ [] → s ≡ first_opened opened keep c me program → IsSite s
+first_site opened keep c me program s none is =
     subst IsSite (sym is)
     (record {
       config = refl;
@@ -226,25 +188,18 @@ first_site opened keep c me program s is =
       asking = λ call asked. absurd (none-some call asked);
       made = first_made opened keep c me program;
       held = first_holds opened keep c me program;
-      fetched = first_used opened keep c me program;
+      fetched = sym (ap (λ (fs : List HandedFetch). length fs) none);
     })
 
 -- a pulse
-pulse_origin : (to : ℕ) (old new : SiteView) → new ≡ after_pulse_to old to (pulsing old.node to)
-    → origin_of new ≡ origin_of old
-unfolding pulsing
-pulse_origin to old new after =
-    origin-same old new (ap (λ (s : SiteView). s.config) after)
-    (ap (λ (s : SiteView). s.opened) after) (ap (λ (s : SiteView). s.me) after)
-    (ap program_in after) (ap fetches_in after)
-
 pub pulse_made-on : (to : ℕ) (old new : SiteView) → IsMadeByEvents old
     → new ≡ after_pulse_to old to (pulsing old.node to) → IsMadeByEvents new
 unfolding pulsing
 pulse_made-on to old new h after =
     grown old new (pulse_marks to (pulsing old.node to).sent) (pulsing old.node to) h
     (pulsing-marks rules old.config old.node to (pulsing old.node to).sent refl)
-    (ap (λ (s : SiteView). s.config) after) (pulse_origin to old new after)
+    (ap (λ (s : SiteView). s.config) after) (ap (λ (s : SiteView). s.opened) after)
+    (ap (λ (s : SiteView). s.me) after) (ap program_in after)
     (ap (λ (s : SiteView). s.events) after) (ap (λ (s : SiteView). s.node) after)
     (ap (λ (s : SiteView). s.waiting) after)
 
@@ -305,13 +260,20 @@ all_taken s h = record {
 
 -- what came too early by more events
 early_grown : (old new : SiteView) (ms : List Mark) → IsMadeByEvents old → new.config ≡ old.config
-    → origin_of new ≡ origin_of old → new.events ≡ old.events ++ ms
+    → new.opened ≡ old.opened → new.me ≡ old.me → program_in new ≡ program_in old → new.events ≡ old.events ++ ms
     → early_at new ≡ early_at old ++ early_in rules old.config old.node ms
-early_grown old new ms h config origin events =
-    ap (λ n. early_in rules new.config n new.events) origin
-    ∙ ap (λ c. early_in rules c (origin_of old) new.events) config
-    ∙ ap (early_in rules old.config (origin_of old)) events
-    ∙ early-append rules old.config (origin_of old) old.events ms h.effect h.happen
+early_grown old new ms h config opened me program events =
+    ap (λ p. early_in rules new.config (first_node (managed_start new.opened) new.config new.me p)
+    new.events) program
+    ∙ ap (λ i. early_in rules new.config
+    (first_node (managed_start new.opened) new.config i (program_in old)) new.events) me
+    ∙ ap (λ o. early_in rules new.config
+    (first_node (managed_start o) new.config old.me (program_in old)) new.events) opened
+    ∙ ap (λ c. early_in rules c (first_node (managed_start old.opened) c old.me (program_in old))
+    new.events) config
+    ∙ ap (early_in rules old.config (first_node (managed_start old.opened) old.config old.me (program_in old))) events
+    ∙ early-append rules old.config (first_node (managed_start old.opened) old.config old.me (program_in old))
+    old.events ms h.effect h.happen
     ∙ ap (λ n. early_at old ++ early_in rules old.config n ms) (sym h.node)
 
 early_same : (old new : SiteView) → new ≡ old → early_at new ≡ early_at old ++ []
@@ -324,7 +286,12 @@ turn_early Idle old new h after = early_same old new after.1
 turn_early Ended old new h after = early_same old new after.2
 turn_early Moved old new h after =
     early_grown old new (Turn ∷ []) h (ap (λ (s : SiteView). s.config) after.after)
-    (turn_origin old new after) (ap (λ (s : SiteView). s.events) after.after)
+    (ap (λ (s : SiteView). s.opened) after.after) (ap (λ (s : SiteView). s.me) after.after)
+    (ap program_in after.after
+    ∙ ap (λ (k : Host Managed). k.process.program)
+    (posting-core old.node after.outcome.after after.outcome.posted after.effect after.sent)
+    ∙ turned-program old.node.core after.outcome after.turn)
+    (ap (λ (s : SiteView). s.events) after.after)
 
 pulse_nothing : (n : Node (Host Managed)) (c : Config) (to : ℕ) (strings : List (List ℕ))
     → early_in rules c n (pulse_marks to strings) ≡ []
@@ -336,7 +303,8 @@ pub pulse_early : (to : ℕ) (old new : SiteView) → IsMadeByEvents old
 unfolding pulsing
 pulse_early to old new h after =
     early_grown old new (pulse_marks to (pulsing old.node to).sent) h
-    (ap (λ (s : SiteView). s.config) after) (pulse_origin to old new after)
+    (ap (λ (s : SiteView). s.config) after) (ap (λ (s : SiteView). s.opened) after)
+    (ap (λ (s : SiteView). s.me) after) (ap program_in after)
     (ap (λ (s : SiteView). s.events) after)
     ∙ ap (λ l. early_at old ++ l) (pulse_nothing old.node old.config to (pulsing old.node to).sent)
 
@@ -348,7 +316,9 @@ delivered_early : (bytes : List ℕ) (v : Verdict) (old new : SiteView) → IsCo
     → early_at new ≡ early_at old ++ early_as v bytes
 delivered_early bytes v old new limits h d w after is =
     early_grown old new (Delivery bytes ∷ []) h (ap (λ (s : SiteView). s.config) after)
-    (delivery_origin bytes v old new d limits w after)
+    (ap (λ (s : SiteView). s.opened) after) (ap (λ (s : SiteView). s.me) after)
+    (ap program_in after
+    ∙ delivered-program old.config limits old.node d.frame bytes d.effect d.spelled d.delivered)
     (ap (λ (s : SiteView). s.events) after)
     ∙ ap (λ l. early_at old ++ l)
     (append-nil (early_as (verdict_of old.config old.node bytes) bytes))

@@ -76,7 +76,7 @@ pulsed_site v s to new after = record {
   me = ap (λ (x : SiteView). x.node.core.memory.coherence.me) after ∙ s.me
       ∙ sym (ap (λ (x : SiteView). x.me) after);
   asking = subst (λ (x : SiteView). IsAskingHost x.node.core) (sym after) s.asking;
-  fetched = subst (λ (x : SiteView). AreUsed x.node.core.fetches) (sym after) s.fetched;
+  fetched = subst (λ (x : SiteView). AreUsed x.node.core) (sym after) s.fetched;
   made = pulse_made-on to v new s.made after;
   held = quiet_holds v new s.held (record {
     held = ap (λ (x : SiteView). x.held) after;

@@ -8,7 +8,6 @@ use Rattle.ivy_model.specs.declared.Row.{Row}
 use Rattle.ivy_model.specs.Rows.{calls_of, numbers_in, record_in, row}
 use Rattle.ivy_model.proofs.Rows.{length-numbers_in, length-row}
 use Rattle.ivy_host.specs.declared.opening.Opening.{Opening}
-use Rattle.ivy_host.specs.stated.Fetches.{Fetches}
 use Rattle.ivy_host.specs.stated.Hosts.{Host}
 use Rattle.ivy_host.specs.stated.Managers.{Managed, managed_ops}
 use Rattle.ivy_alloc.specs.declared.CallProgress.TheVariants.{Given}
@@ -26,8 +25,9 @@ use Rattle.ivy_program.specs.stated.InstructionSteps.{AsksRow, Process, answered
 use Rattle.ivy_site.specs.Calls.{AreTaken, IsTaken}
 use Rattle.ivy_site.specs.Inside.{HasTurn, host_of}
 use Rattle.ivy_site.specs.SiteView.{SiteView, box_of, shown_of}
-use Rattle.ivy_site.specs.Sites.{IsSite}
-use Rattle.ivy_site.proofs.Calling.{called, poll_call}
+use Rattle.ivy_program.specs.stated.Programs.{fetches_of}
+use Rattle.ivy_site.specs.Sites.{AreUsed, IsSite}
+use Rattle.ivy_site.proofs.Calling.{called, poll_call, host-used}
 use Rattle.ivy_site.proofs.InRow.{record-node}
 use Rattle.ivy_site.proofs.Turned.{called_site, called_turn, has_turned}
 
@@ -36,31 +36,31 @@ abbrev replies_of : List Record → List Reply
 replies_of records = map (λ (r : Record). r.reply) records
 
 -- a site whose call in progress has its reply, and what taking that makes of it
-module _ (opened : Opening) (keep : Keep) (fs : Fetches) (m mid : NodeMemory Managed) (p : Process) (history : List Record)
+module _ (opened : Opening) (keep : Keep) (m mid : NodeMemory Managed) (p : Process) (history : List Record)
     (box : Outbox) (events : List Mark) (r : Record)
-    (site : IsSite (shown_of opened keep (host_of fs m p history) box events))
+    (site : IsSite (shown_of opened keep (host_of m p history) box events))
     (asked : m.asked ≡ Some r.call) (mine : r.node ≡ box.me)
     (there : polled managed_ops m ≡ record { answer = Given r.reply; after = mid; posted = [] }) where
   abbrev before : SiteView
-  before = shown_of opened keep (host_of fs m p history) box events
+  before = shown_of opened keep (host_of m p history) box events
 
   abbrev later : SiteView
   later =
-      shown_of opened keep (host_of fs mid (answered_with p r.reply) (history ++ r ∷ [])) box
+      shown_of opened keep (host_of mid (answered_with p r.reply) (history ++ r ∷ [])) box
       (events ++ Turn ∷ [])
 
   posts : (polled managed_ops m).posted ≡ []
   posts = ap (λ (b : CallBegun Managed). b.posted) there
 
-  turn : HasTurn (host_of fs m p history) box
-      (host_of fs mid (answered_with p r.reply) (history ++ r ∷ [])) box
+  turn : HasTurn (host_of m p history) box
+      (host_of mid (answered_with p r.reply) (history ++ r ∷ [])) box
   turn =
-      has_turned true refl (host_of fs m p history) box
-      (host_of fs mid (answered_with p r.reply) (history ++ r ∷ [])) box
-      (called (host_of fs m p history) r.call (polled managed_ops m)
-      (poll_call (host_of fs m p history) r.call site.fetched asked)
-      box box r.node mid (answered_with p r.reply) (history ++ r ∷ []) fs true (Given r.reply)
-      refl (mine ∙ sym site.me) (sym (ap (λ (b : CallBegun Managed). b.answer) there))
+      has_turned true refl (host_of m p history) box
+      (host_of mid (answered_with p r.reply) (history ++ r ∷ [])) box
+      (called (host_of m p history) r.call (polled managed_ops m)
+      (poll_call (host_of m p history) r.call refl asked)
+      box box r.node mid (answered_with p r.reply) (history ++ r ∷ []) true (Given r.reply)
+      (mine ∙ sym site.me) (sym (ap (λ (b : CallBegun Managed). b.answer) there))
       (sym (ap (λ (b : CallBegun Managed). b.after) there))
       (subst (HasNumbers box) (sym posts) (takes_none box))
       (sym (ap (posted_by box) posts ∙ after_none box)) refl refl refl)
@@ -68,81 +68,81 @@ module _ (opened : Opening) (keep : Keep) (fs : Fetches) (m mid : NodeMemory Man
   once_taken : IsTaken r before later
   once_taken = record {
     asked = asked;
-    turns = called_turn before before refl (host_of fs m p history)
-        (host_of fs mid (answered_with p r.reply) (history ++ r ∷ [])) box events (events ++ Turn ∷ [])
+    turns = called_turn before before refl (host_of m p history)
+        (host_of mid (answered_with p r.reply) (history ++ r ∷ [])) box events (events ++ Turn ∷ [])
         refl turn refl refl;
     recorded = refl;
   }
 
   once_site : IsSite later
   once_site =
-      called_site before (host_of fs m p history)
-      (host_of fs mid (answered_with p r.reply) (history ++ r ∷ [])) box
+      called_site before (host_of m p history)
+      (host_of mid (answered_with p r.reply) (history ++ r ∷ [])) box
       events (events ++ Turn ∷ []) site refl turn refl refl
 
 -- the site once these replies were taken, and its memory is this
-abbrev after : Opening → Keep → Fetches → NodeMemory Managed → Process → List Record → Outbox → List Mark
+abbrev after : Opening → Keep → NodeMemory Managed → Process → List Record → Outbox → List Mark
     → List Record → SiteView
-after opened keep fs m p history box events rs =
-    shown_of opened keep (host_of fs m (answered_all p (replies_of rs)) (history ++ rs)) box
+after opened keep m p history box events rs =
+    shown_of opened keep (host_of m (answered_all p (replies_of rs)) (history ++ rs)) box
     (events ++ turns (length rs))
 
-after-one : (opened : Opening) (keep : Keep) (fs : Fetches) (m : NodeMemory Managed) (p : Process) (history : List Record)
+after-one : (opened : Opening) (keep : Keep) (m : NodeMemory Managed) (p : Process) (history : List Record)
     (box : Outbox) (events : List Mark) (r : Record) (rs : List Record)
-    → after opened keep fs m (answered_with p r.reply) (history ++ r ∷ []) box (events ++ Turn ∷ []) rs
-    ≡ after opened keep fs m p history box events (r ∷ rs)
-after-one opened keep fs m p history box events r rs =
+    → after opened keep m (answered_with p r.reply) (history ++ r ∷ []) box (events ++ Turn ∷ []) rs
+    ≡ after opened keep m p history box events (r ∷ rs)
+after-one opened keep m p history box events r rs =
     ap (λ (hs : List Record).
-    shown_of opened keep (host_of fs m (answered_all p (replies_of (r ∷ rs))) hs) box
+    shown_of opened keep (host_of m (answered_all p (replies_of (r ∷ rs))) hs) box
     ((events ++ Turn ∷ []) ++ turns (length rs))) (append_assoc history (r ∷ []) rs)
     ∙ ap (λ (es : List Mark).
-    shown_of opened keep (host_of fs m (answered_all p (replies_of (r ∷ rs))) (history ++ r ∷ rs)) box es)
+    shown_of opened keep (host_of m (answered_all p (replies_of (r ∷ rs))) (history ++ r ∷ rs)) box es)
     (append_assoc events (Turn ∷ []) (turns (length rs)))
 
-after-none : (opened : Opening) (keep : Keep) (fs : Fetches) (m : NodeMemory Managed) (p : Process) (history : List Record)
+after-none : (opened : Opening) (keep : Keep) (m : NodeMemory Managed) (p : Process) (history : List Record)
     (box : Outbox) (events : List Mark)
-    → after opened keep fs m p history box events [] ≡ shown_of opened keep (host_of fs m p history) box events
-after-none opened keep fs m p history box events =
-    ap (λ (hs : List Record). shown_of opened keep (host_of fs m p hs) box (events ++ [])) (append-nil history)
-    ∙ ap (λ (es : List Mark). shown_of opened keep (host_of fs m p history) box es) (append-nil events)
+    → after opened keep m p history box events [] ≡ shown_of opened keep (host_of m p history) box events
+after-none opened keep m p history box events =
+    ap (λ (hs : List Record). shown_of opened keep (host_of m p hs) box (events ++ [])) (append-nil history)
+    ∙ ap (λ (es : List Mark). shown_of opened keep (host_of m p history) box es) (append-nil events)
 
 -- the replies in a row are taken, and the site stays one
 pub record IsAfterTaking (kind : Row) (numbers : List ℕ) (addr : ℕ) (old new : SiteView) : Type 0 where
   pub taken : AreTaken (row kind old.me addr numbers) old new
   pub site : IsSite new
 
-taking_at : (kind : Row) (numbers : List ℕ) (addr : ℕ) (opened : Opening) (keep : Keep) (fs : Fetches) (m new : NodeMemory Managed)
+taking_at : (kind : Row) (numbers : List ℕ) (addr : ℕ) (opened : Opening) (keep : Keep) (m new : NodeMemory Managed)
     (p : Process) (history : List Record) (box : Outbox) (events : List Mark)
-    → IsSite (shown_of opened keep (host_of fs m p history) box events)
+    → IsSite (shown_of opened keep (host_of m p history) box events)
     → TakesRecords managed_ops (row kind box.me addr numbers) m new
-    → IsAfterTaking kind numbers addr (shown_of opened keep (host_of fs m p history) box events)
-    (after opened keep fs new p history box events (row kind box.me addr numbers))
-taking_at kind [] addr opened keep fs m new p history box events site is =
-    let same : after opened keep fs new p history box events []
-    ≡ shown_of opened keep (host_of fs m p history) box events =
-    after-none opened keep fs new p history box events
-    ∙ ap (λ (x : NodeMemory Managed). shown_of opened keep (host_of fs x p history) box events) is in
+    → IsAfterTaking kind numbers addr (shown_of opened keep (host_of m p history) box events)
+    (after opened keep new p history box events (row kind box.me addr numbers))
+taking_at kind [] addr opened keep m new p history box events site is =
+    let same : after opened keep new p history box events []
+    ≡ shown_of opened keep (host_of m p history) box events =
+    after-none opened keep new p history box events
+    ∙ ap (λ (x : NodeMemory Managed). shown_of opened keep (host_of x p history) box events) is in
     record { taken = same; site = subst IsSite (sym same) site }
-taking_at kind (number ∷ more) addr opened keep fs m new p history box events site is =
+taking_at kind (number ∷ more) addr opened keep m new p history box events site is =
     let r : Record = record_in kind box.me addr number in
     let mid : NodeMemory Managed = is.0 in
     let mine : r.node ≡ box.me = record-node kind box.me addr number in
-    let first : IsTaken r (shown_of opened keep (host_of fs m p history) box events)
-    (shown_of opened keep (host_of fs mid (answered_with p r.reply) (history ++ r ∷ [])) box (events ++ Turn ∷ [])) =
-    once_taken opened keep fs m mid p history box events r site is.1 mine is.2 in
+    let first : IsTaken r (shown_of opened keep (host_of m p history) box events)
+    (shown_of opened keep (host_of mid (answered_with p r.reply) (history ++ r ∷ [])) box (events ++ Turn ∷ [])) =
+    once_taken opened keep m mid p history box events r site is.1 mine is.2 in
     let then : IsSite
-    (shown_of opened keep (host_of fs mid (answered_with p r.reply) (history ++ r ∷ [])) box (events ++ Turn ∷ [])) =
-    once_site opened keep fs m mid p history box events r site is.1 mine is.2 in
-    let rest = taking_at kind more (addr + 8) opened keep fs mid new (answered_with p r.reply) (history ++ r ∷ []) box
+    (shown_of opened keep (host_of mid (answered_with p r.reply) (history ++ r ∷ [])) box (events ++ Turn ∷ [])) =
+    once_site opened keep m mid p history box events r site is.1 mine is.2 in
+    let rest = taking_at kind more (addr + 8) opened keep mid new (answered_with p r.reply) (history ++ r ∷ []) box
     (events ++ Turn ∷ []) then is.3 in
     let rs : List Record = row kind box.me (addr + 8) more in
-    let all = after-one opened keep fs new p history box events r rs in
+    let all = after-one opened keep new p history box events r rs in
     record {
       taken = (
-        shown_of opened keep (host_of fs mid (answered_with p r.reply) (history ++ r ∷ [])) box (events ++ Turn ∷ []),
+        shown_of opened keep (host_of mid (answered_with p r.reply) (history ++ r ∷ [])) box (events ++ Turn ∷ []),
         first,
         subst (λ (s : SiteView). AreTaken rs
-            (shown_of opened keep (host_of fs mid (answered_with p r.reply) (history ++ r ∷ [])) box
+            (shown_of opened keep (host_of mid (answered_with p r.reply) (history ++ r ∷ [])) box
             (events ++ Turn ∷ [])) s) all
             rest.taken,
       );
@@ -192,20 +192,22 @@ row_asks kind v site words bytes addr m is =
 pub row_taken : (kind : Row) (n v : SiteView) → v ≡ n → IsSite v → (words : ℕ) (bytes : List ℕ)
     (addr : ℕ) → (m : NodeMemory Managed)
     → TakesRecords managed_ops (row kind v.me addr (numbers_in words bytes)) v.node.core.memory m
-    → (h : Host Managed)
-    → h.fetches ≡ v.node.core.fetches → h.memory ≡ m
+    → (h : Host Managed) → AreUsed h → h.memory ≡ m
     → ((replies : List Reply) → length replies ≡ words
     → h.process ≡ answered_all v.node.core.process replies)
     → (i : ℕ) → i ≡ v.me
     → h.history ≡ v.node.core.history ++ row kind i addr (numbers_in words bytes)
     → (events : List Mark) → events ≡ v.events ++ turns words
     → IsAfterTaking kind (numbers_in words bytes) addr n (shown_of v.opened v.keep h (box_of v) events)
-row_taken kind n v same site words bytes addr m is h stay next goes i mine kept events listed =
+row_taken kind n v same site words bytes addr m is h whole next goes i mine kept events listed =
     let numbers : List ℕ = numbers_in words bytes in
     let rs : List Record = row kind v.me addr numbers in
     let long : length rs ≡ words = length-row kind v.me addr numbers ∙ length-numbers_in words bytes in
-    let made = taking_at kind numbers addr v.opened v.keep v.node.core.fetches v.node.core.memory m v.node.core.process
-    v.node.core.history (box_of v) v.events site is in
+    let so : v.node.core ≡ host_of v.node.core.memory v.node.core.process v.node.core.history =
+    sym (host-used v.node.core v.node.core.memory v.node.core.history site.fetched) in
+    let made = taking_at kind numbers addr v.opened v.keep v.node.core.memory m v.node.core.process
+    v.node.core.history (box_of v) v.events
+    (subst (λ (x : Host Managed). IsSite (shown_of v.opened v.keep x (box_of v) v.events)) so site) is in
     let program : h.process ≡ answered_all v.node.core.process (replies_of rs) =
     goes (replies_of rs) (length-map rs (λ (r : Record). r.reply) ∙ long) in
     let history : h.history ≡ v.node.core.history ++ rs =
@@ -213,7 +215,15 @@ row_taken kind n v same site words bytes addr m is h stay next goes i mine kept 
     let marks : events ≡ v.events ++ turns (length rs) =
     listed ∙ ap (λ (j : ℕ). v.events ++ turns j) (sym long) in
     let to : shown_of v.opened v.keep h (box_of v) events
-    ≡ after v.opened v.keep v.node.core.fetches m v.node.core.process v.node.core.history (box_of v) v.events rs =
-    (λ k. shown_of v.opened v.keep (host_of (stay k) (next k) (program k) (history k)) (box_of v) (marks k)) in
+    ≡ after v.opened v.keep m v.node.core.process v.node.core.history (box_of v) v.events rs =
+    (λ k. shown_of v.opened v.keep (record {
+      memory = next k;
+      process = program k;
+      history = history k;
+      used = (whole ∙ ap (λ (q : Process). length (fetches_of q.program)) program) k;
+    }) (box_of v) (marks k)) in
     subst (λ (o : SiteView). IsAfterTaking kind numbers addr o (shown_of v.opened v.keep h (box_of v) events))
-    same (subst (λ (x : SiteView). IsAfterTaking kind numbers addr v x) (sym to) made)
+    (ap (λ (x : Host Managed). shown_of v.opened v.keep x (box_of v) v.events) (sym so) ∙ same)
+    (subst (λ (x : SiteView). IsAfterTaking kind numbers addr
+    (shown_of v.opened v.keep (host_of v.node.core.memory v.node.core.process v.node.core.history)
+    (box_of v) v.events) x) (sym to) made)

@@ -1,10 +1,11 @@
 -- A site's turn, from what its parts did: `v` is what the fields are seen as, `n` the value.
-use Rattle.std.proofs.Common.{◌≡◌, Bool, true, false, List, [], ◌∷◌, ◌++◌, Option, None, Some, MatchOption, refl, sym, ap, ◌∙◌, subst}
+use Rattle.std.proofs.Common.{◌≡◌, Bool, true, false, List, [], ◌∷◌, ◌++◌, length, Option, None, Some, MatchOption, refl, sym, ap, ◌∙◌, subst}
 use Rattle.ivy_model.specs.declared.Call.{Call}
 use Rattle.std.proofs.lemmas.Option.{none-some}
 use Rattle.ivy_model.specs.declared.Fault.{Fault}
 use Rattle.ivy_model.specs.declared.Record.{Record}
 use Rattle.ivy_model.specs.declared.Reply.{Reply}
+use Rattle.ivy_program.specs.stated.Programs.{Program, fetches_of}
 use Rattle.ivy_host.specs.stated.Managers.{Managed, managed_ops}
 use Rattle.ivy_program.specs.declared.machine.Next.{Next}
 use Rattle.ivy_program.specs.declared.machine.Next.TheVariants as next
@@ -24,10 +25,9 @@ use Rattle.ivy_site.specs.declared.turn.Turn.TheVariants as turn
 use Rattle.ivy_link.specs.stated.Linked.{Linked, peer_at, after_sends}
 use Rattle.ivy_link.proofs.Sending.{sends-me}
 use Rattle.ivy_link.proofs.Holds.{sends-delivered}
-use Rattle.ivy_host.specs.stated.Fetches.{Fetches}
-use Rattle.ivy_host.proofs.Programs.{asked-fetches, posting-link}
+use Rattle.ivy_host.proofs.Programs.{asked-used, posting-link, turned-program}
 use Rattle.ivy_host.proofs.Turns.{none-due}
-use Rattle.ivy_site.proofs.Calling.{used-due}
+use Rattle.ivy_site.proofs.Calling.{host-used, used-due}
 use Rattle.ivy_site.proofs.HeldStrings.{IsQuiet, quiet_holds}
 use Rattle.ivy_site.proofs.Made.{turn_made, turn_early}
 use Rattle.ivy_site.proofs.Turning.{turn_steps, moved_quietly, moved_by_call, spent_call}
@@ -49,58 +49,59 @@ with_core v h events =
       keep = v.keep;
     }
 
-hosts : (fs : Fetches) (m m' : NodeMemory Managed) (p p' : Process) (hs hs' : List Record) → m ≡ m'
-    → p ≡ p' → hs ≡ hs' → host_of fs m p hs ≡ host_of fs m' p' hs'
-hosts fs m m' p p' hs hs' a b d =
-    ap (λ x. host_of fs x p hs) a
-    ∙ (ap (λ x. host_of fs m' x hs) b ∙ ap (λ x. host_of fs m' p' x) d)
+hosts : (m m' : NodeMemory Managed) (p p' : Process) (hs hs' : List Record) → m ≡ m' → p ≡ p'
+    → hs ≡ hs' → host_of m p hs ≡ host_of m' p' hs'
+hosts m m' p p' hs hs' a b d =
+    ap (λ x. host_of x p hs) a ∙ (ap (λ x. host_of m' x hs) b ∙ ap (λ x. host_of m' p' x) d)
 
-stays_so : (v : SiteView) (m : NodeMemory Managed) (p : Process) (hs : List Record)
+stays_so : (v : SiteView) → AreUsed v.node.core → (m : NodeMemory Managed) (p : Process) (hs : List Record)
     (events : List Mark) → m ≡ v.node.core.memory → p ≡ v.node.core.process
-    → hs ≡ v.node.core.history → events ≡ v.events → with_core v (host_of v.node.core.fetches m p hs) events ≡ v
-stays_so v m p hs events a b d e =
+    → hs ≡ v.node.core.history → events ≡ v.events → with_core v (host_of m p hs) events ≡ v
+stays_so v used m p hs events a b d e =
     ap (λ h. with_core v h events)
-    (hosts v.node.core.fetches m v.node.core.memory p v.node.core.process hs v.node.core.history a b d)
+    (hosts m v.node.core.memory p v.node.core.process hs v.node.core.history a b d
+    ∙ host-used v.node.core v.node.core.memory v.node.core.history used)
     ∙ ap (λ es. with_core v v.node.core es) e
 
 -- the program has ended
-pub ended_turn : (n v : SiteView) → v ≡ n → AreUsed v.node.core.fetches
+pub ended_turn : (n v : SiteView) → v ≡ n → AreUsed v.node.core
     → (x : Next) (p : Process) (hs : List Record) (events : List Mark)
     → v.node.core.memory.asked ≡ None → TellsStep x v.node.core.process p → x ≡ next.Ended
     → hs ≡ v.node.core.history → events ≡ v.events
     → HasEnded n.node.core.process × (turn_of managed_ops n.node.core ≡ None)
-    × (with_core v (host_of v.node.core.fetches v.node.core.memory p hs) events ≡ n)
+    × (with_core v (host_of v.node.core.memory p hs) events ≡ n)
 ended_turn n v same used x p hs events idle steps is history listed =
     let s : TellsStep next.Ended v.node.core.process p =
     subst (λ y. TellsStep y v.node.core.process p) is steps in (
       subst (λ (y : SiteView). HasEnded y.node.core.process) same s.0,
       subst (λ (y : SiteView). turn_of managed_ops y.node.core ≡ None) same
           (turn_steps v.node.core Ends used idle s.0),
-      stays_so v v.node.core.memory p hs events refl s.1 history listed ∙ same,
+      stays_so v used v.node.core.memory p hs events refl s.1 history listed ∙ same,
     )
 
 -- an instruction of its own
-pub local_turn : (n v : SiteView) → v ≡ n → AreUsed v.node.core.fetches
+pub local_turn : (n v : SiteView) → v ≡ n → AreUsed v.node.core
     → (x : Next) (p : Process) (hs : List Record) (events : List Mark)
     → v.node.core.memory.asked ≡ None → TellsStep x v.node.core.process p → x ≡ next.Local
     → hs ≡ v.node.core.history → events ≡ v.events ++ Turn ∷ []
-    → SiteTurns n (with_core v (host_of v.node.core.fetches v.node.core.memory p hs) events)
+    → SiteTurns n (with_core v (host_of v.node.core.memory p hs) events)
 local_turn n v same used x p hs events idle steps is history listed =
     let s : TellsStep next.Local v.node.core.process p =
     subst (λ y. TellsStep y v.node.core.process p) is steps in
-    let h : H =
-    host_of v.node.core.fetches v.node.core.memory (at_state v.node.core.process p.state) v.node.core.history in
-    let so : host_of v.node.core.fetches v.node.core.memory p hs ≡ h =
-    hosts v.node.core.fetches v.node.core.memory v.node.core.memory p h.process hs h.history refl s.1 history in
+    let h : H = record v.node.core { process = at_state v.node.core.process p.state } in
+    let so : host_of v.node.core.memory p hs ≡ h =
+    hosts v.node.core.memory v.node.core.memory p h.process hs h.history refl s.1 history
+    ∙ host-used h h.memory h.history used in
     subst (λ y. SiteTurns n (with_core v y events)) (sym so)
     (moved_quietly n v same h events (turn_steps v.node.core (Local p.state) used idle s.0) listed)
 
 -- a program that makes a call does not go on yet
 pub makes_call : (h : H) (c : Call) (x : Next) (p : Process) (hs : List Record)
-    → TellsStep x h.process p → x ≡ next.Call c → hs ≡ h.history → host_of h.fetches h.memory p hs ≡ h
-makes_call h c x p hs steps is history =
+    → AreUsed h → TellsStep x h.process p → x ≡ next.Call c → hs ≡ h.history
+    → host_of h.memory p hs ≡ h
+makes_call h c x p hs used steps is history =
     let s : TellsStep (next.Call c) h.process p = subst (λ y. TellsStep y h.process p) is steps in
-    (λ j. host_of h.fetches h.memory (s.1 j) (history j))
+    (λ j. host_of h.memory (s.1 j) (history j)) ∙ host-used h h.memory h.history used
 
 -- `k` is the host as the code has it then
 pub spent_turn : (n v : SiteView) → v ≡ n → (k : H) (f : Fault) → k ≡ v.node.core
@@ -142,7 +143,7 @@ pub record IsHanded (s : SiteView) : Type 0 where
   pub held : HoldsEarly s
 
 pub turned_site : (v : SiteView) (k h : H) (box : Outbox) (reserved events : List Mark)
-    → IsHanded v → k ≡ v.node.core → HasTurn k (box_of v) h box → AreUsed h.fetches
+    → IsHanded v → k ≡ v.node.core → HasTurn k (box_of v) h box → AreUsed h
     → reserved ≡ v.events → events ≡ reserved ++ Turn ∷ [] → IsSite (shown_of v.opened v.keep h box events)
 turned_site v k h box reserved events s rests b0 used room listed =
     let b : HasTurn v.node.core (box_of v) h box =
@@ -173,10 +174,12 @@ called_site v k h box reserved events s rests b room listed =
     subst (λ x. HasTurn x (box_of v) h box) rests b in
     turned_site v k h box reserved events
     (record { config = s.config; me = s.me; asking = s.asking; made = s.made; held = s.held }) rests b
-    (subst AreUsed
-    (sym (ap (λ (x : H). x.fetches) t.host
-    ∙ asked-fetches v.node.core v.node.core.memory.asked t.outcome
-    (sym (none-due managed_ops v.node.core (used-due v.node.core s.fetched)) ∙ t.turn))) s.fetched)
+    (subst AreUsed (sym t.host)
+    (asked-used v.node.core v.node.core.memory.asked t.outcome
+    (sym (none-due managed_ops v.node.core (used-due v.node.core s.fetched)) ∙ t.turn)
+    ∙ s.fetched
+    ∙ sym (ap (λ (p : Program). length (fetches_of p))
+    (turned-program v.node.core t.outcome t.turn))))
     room listed
 
 -- what holds of a site holds after an instruction of its own
@@ -184,16 +187,16 @@ pub local_site : (v : SiteView) (x : Next) (p : Process) (hs : List Record) (eve
     → IsSite v → v.node.core.memory.asked ≡ None → TellsStep x v.node.core.process p
     → x ≡ next.Local
     → hs ≡ v.node.core.history → events ≡ v.events ++ Turn ∷ []
-    → IsSite (with_core v (host_of v.node.core.fetches v.node.core.memory p hs) events)
+    → IsSite (with_core v (host_of v.node.core.memory p hs) events)
 local_site v x p hs events s idle steps is history listed = record {
   config = s.config;
   me = s.me;
   asking = λ call asked. absurd (none-some call (sym idle ∙ asked));
-  fetched = s.fetched;
-  made = turn_made turn.Moved v (with_core v (host_of v.node.core.fetches v.node.core.memory p hs) events) s.made
+  fetched = refl;
+  made = turn_made turn.Moved v (with_core v (host_of v.node.core.memory p hs) events) s.made
       (local_turn v v refl s.fetched x p hs events idle steps is history listed);
-  held = quiet_holds v (with_core v (host_of v.node.core.fetches v.node.core.memory p hs) events) s.held
-      (turns_quietly v (with_core v (host_of v.node.core.fetches v.node.core.memory p hs) events) s.made
+  held = quiet_holds v (with_core v (host_of v.node.core.memory p hs) events) s.held
+      (turns_quietly v (with_core v (host_of v.node.core.memory p hs) events) s.made
       (local_turn v v refl s.fetched x p hs events idle steps is history listed));
 }
 

@@ -24,7 +24,7 @@ H = Host Managed
 abbrev turn : H → Option (Outcome H)
 turn = turn_of managed_ops
 
-pub turn_steps : (h : H) (t : Step) → AreUsed h.fetches → h.memory.asked ≡ None
+pub turn_steps : (h : H) (t : Step) → AreUsed h → h.memory.asked ≡ None
     → step_of h.process ≡ t → turn h ≡ steps managed_ops h t
 turn_steps h t used idle is =
     none-due managed_ops h (used-due h used) ∙ ap (turned_at managed_ops h) idle

@@ -13,10 +13,11 @@ use Rattle.ivy_host.specs.stated.Managers.{Managed, managed_ops}
 use Rattle.ivy_memory.specs.stated.Memories.{NodeMemory, in_progress, memory_fetched}
 use Rattle.ivy_memory.specs.BatchedCalls.{row_has_to_wait}
 use Rattle.ivy_memory.specs.BatchedReplies.{HasReplies, left_in}
+use Rattle.ivy_memory.specs.Memories.{only_waits}
 use Rattle.ivy_host.specs.stated.Hosts.{number_of}
 use Rattle.ivy_moves.specs.declared.keep.Keep.TheVariants.{Nothing}
 use Rattle.ivy_moves.specs.Histories.{HistoryState}
-use Rattle.ivy_program.specs.OwnCode.{IsFree}
+use Rattle.ivy_program.specs.OwnCode.{IsFree, LacksReplies, process_ahead}
 use Rattle.ivy_program.specs.Programs.{IsCalled}
 use Rattle.ivy_program.specs.stated.InstructionSteps.{Asks, Process, step_of}
 use Rattle.ivy_site.specs.Handed.{site_handed, site_fetching}
@@ -145,19 +146,25 @@ abbrev pub can_fetch : SiteView → ℕ → Bool → Bool
 can_fetch s page write =
     (memory_fetched managed_ops s.node.core.memory page write (length s.node.core.history + 1)).begun
 
+-- own code may have a page fetched: each call that it made has its reply or is in progress, and the one
+-- that is in progress can only wait
+pub record MayFetch (m : NodeMemory Managed) (p : Process) : Type 0 where
+  pub begun : LacksReplies (length (in_progress m.asked m.along)) p
+  pub waits : only_waits m ≡ true
+
 -- own code has the node fetch a page, to read or to write, and has a turn, in which it asks for it: no
 -- call is of it, and no reply
 pub record BeginsFetch (page : ℕ) (write : Bool) (old new : SiteView) : Type 0 where
   pub turns : SiteTurns (site_fetching page write old) new
   pub asks : can_fetch old page write ≡ true
-  pub process : new.node.core.process ≡ old.node.core.process
+  pub process : new.node.core.process ≡ process_ahead page write old.node.core.process
   pub recorded : new.node.core.history ≡ old.node.core.history
 
--- or it does nothing: a call before has no reply, or it is no own code; or the page is not there; or it
+-- or it does nothing: it is no own code, or a call of it comes first; or the page is not there; or it
 -- need not be asked for, or can't be now
 pub record FetchesNone (page : ℕ) (write : Bool) (old new : SiteView) : Type 0 where
   pub same : new ≡ old
-  pub why : IsFree old.node.core.process → page < old.config.pages
+  pub why : MayFetch old.node.core.memory old.node.core.process → page < old.config.pages
       → can_fetch old page write ≡ false
 
 -- what a fetch came to

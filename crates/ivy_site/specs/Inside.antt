@@ -17,7 +17,7 @@ use Rattle.ivy_alloc.specs.declared.CallProgress.TheVariants.{Given, Unserved}
 use Rattle.ivy_memory.specs.stated.Memories as memories
 use Rattle.ivy_link.specs.Outboxes.{Outbox, HasNumbers, posted_by}
 use Rattle.ivy_host.specs.Handing.{fetching}
-use Rattle.ivy_host.specs.stated.Fetches.{Fetches, HandedFetch}
+use Rattle.ivy_program.specs.stated.Programs.{fetches_of}
 use Rattle.ivy_host.specs.stated.Hosts.{Host, turn_of}
 use Rattle.ivy_link.specs.Holding.{ready_of}
 use Rattle.ivy_site.specs.Calls.{reply_in, recorded_by}
@@ -70,22 +70,18 @@ abbrev pub host_can_fetch : Host Managed → ℕ → Bool → Bool
 host_can_fetch h page write =
     (memories.memory_fetched managed_ops h.memory page write (length h.history + 1)).begun
 
--- the host of these
-abbrev pub host_of : Fetches → memories.NodeMemory Managed → Process → List Record → Host Managed
-host_of fetches memory process history = record {
+-- the host of these, whose program has no fetch that is not used up
+abbrev pub host_of : memories.NodeMemory Managed → Process → List Record → Host Managed
+host_of memory process history = record {
   memory = memory;
   process = process;
   history = history;
-  fetches = fetches;
+  used = length (fetches_of process.program);
 }
-
--- these were handed, and each of them is used up
-abbrev pub all_used : List HandedFetch → Fetches
-all_used handed = record { handed = handed; used = length handed }
 
 -- the host that the code has
 abbrev pub host_in : {A : Type 0} → host.Host A → Host Managed
-host_in h = host_of (all_used h.fetches.told) h.memory h.machine h.history.records
+host_in h = host_of h.memory h.machine h.history.records
 
 -- whether the answer is a reply, or that the call waits
 abbrev pub is_served : CallProgress → Bool

@@ -13,7 +13,7 @@ use Rattle.ivy_link.specs.declared.Verdict.{Verdict}
 use Rattle.ivy_link.specs.declared.Verdict.TheVariants as verdict
 use Rattle.ivy_link.specs.Windows.{first_window, place_at}
 use Rattle.ivy_link.specs.Holding.{window_of, after_hold, ready_of, after_taking}
-use Rattle.ivy_program.specs.stated.Programs.{Program}
+use Rattle.ivy_program.specs.stated.Programs.{Program, fetches_of}
 use Rattle.ivy_program.specs.InstructionSteps.{HasEnded}
 use Rattle.ivy_program.specs.stated.InstructionSteps.{AsksRow}
 use Rattle.ivy_host.specs.declared.opening.Opening.{Opening}
@@ -23,15 +23,12 @@ use Rattle.ivy_moves.specs.declared.keep.Keep.{Keep}
 use Rattle.ivy_moves.specs.declared.keep.Keep.TheVariants.{All}
 use Rattle.ivy_moves.specs.Marks.{Turn}
 use Rattle.ivy_moves.specs.stated.Cores.{Outcome}
-use Rattle.ivy_moves.specs.Carrying.{node_changed}
 use Rattle.ivy_moves.specs.stated.Nodes.{Node, Effect, posting, turned, delivered}
 use Rattle.ivy_moves.specs.Parts.{AllHappen}
 use Rattle.ivy_moves.specs.Early.{early_in}
 use Rattle.ivy_site.specs.declared.turn.Turn as turn
 use Rattle.ivy_site.specs.declared.turn.Turn.TheVariants.{Idle, Moved, Ended}
 use Rattle.ivy_link.specs.stated.Linked.{peer_at}
-use Rattle.ivy_host.specs.Handing.{begun_with}
-use Rattle.ivy_host.specs.stated.Fetches.{Fetches}
 use Rattle.ivy_host.specs.stated.Hosts.{Host, host_rules, turn_of}
 use Rattle.ivy_host.specs.stated.Openings.{first_node, managed_start}
 use Rattle.ivy_coherence.specs.EventLimits.{most_posted}
@@ -67,18 +64,10 @@ first_keeping = first_opened Configured
 abbrev pub first_shown : Config → ℕ → Program → SiteView
 first_shown = first_keeping All
 
--- the node as it began, with the program and the fetches that it was handed since
-abbrev pub origin_of : SiteView → Node (Host Managed)
-origin_of s = node_changed (begun_with s.node.core.fetches.handed)
-    (first_node (managed_start s.opened) s.config s.me s.node.core.process.program)
-
--- no fetch was handed to it
-abbrev pub IsUnhanded : SiteView → Type 0
-IsUnhanded s = s.node.core.fetches.handed ≡ []
-
 -- what came to a site too early, told from its events
 abbrev pub early_at : SiteView → List (List ℕ)
-early_at s = early_in (host_rules managed_ops) s.config (origin_of s) s.events
+early_at s = early_in (host_rules managed_ops) s.config
+    (first_node (managed_start s.opened) s.config s.me s.node.core.process.program) s.events
 
 -- it is the same node, under the same configuration, which began as it did, and keeps the same lists
 abbrev pub IsSameNode : SiteView → SiteView → Type 0
@@ -185,11 +174,12 @@ abbrev pub IsSpentDelivery : SiteView → List ℕ → Fault → Type 0
 IsSpentDelivery old bytes fault =
     fault ≡ NumbersSpent → delivered (host_rules managed_ops) old.config old.node bytes ≡ None
 
--- the node is what its events make of the first one of its program and its fetches, and the strings
--- that wait are the last of those that the events sent
+-- the node is what its events make of the first one of its program, and the strings that wait are
+-- the last of those that the events sent
 pub record IsMadeByEvents (s : SiteView) : Type 0 where
   pub effect : Effect (Host Managed)
-  pub happen : AllHappen (host_rules managed_ops) s.config (origin_of s) s.events effect
+  pub happen : AllHappen (host_rules managed_ops) s.config
+      (first_node (managed_start s.opened) s.config s.me s.node.core.process.program) s.events effect
   pub node : s.node ≡ effect.after
   pub taken : List (List ℕ)
   pub waits : effect.sent ≡ taken ++ s.waiting
@@ -214,9 +204,9 @@ abbrev pub HoldsEarly : SiteView → Type 0
 HoldsEarly s = (source place : ℕ) (bytes : List ℕ)
     → place_at (window_of s.held source) place ≡ Some bytes → IsHeld s source place bytes
 
--- each fetch that was handed is used up, so that none is due
-abbrev pub AreUsed : Fetches → Type 0
-AreUsed fetches = fetches.used ≡ length fetches.handed
+-- each page that its program has fetched is used up, so that none is due
+abbrev pub AreUsed : Host Managed → Type 0
+AreUsed h = h.used ≡ length (fetches_of h.process.program)
 
 -- what holds of a site, beside what its parts keep
 pub record IsSite (s : SiteView) : Type 0 where
@@ -226,7 +216,7 @@ pub record IsSite (s : SiteView) : Type 0 where
       → AsksRow s.node.core.process (call ∷ s.node.core.memory.along)
   pub made : IsMadeByEvents s
   pub held : HoldsEarly s
-  pub fetched : AreUsed s.node.core.fetches
+  pub fetched : AreUsed s.node.core
 
 -- the first string that waits is taken, if there is one, and nothing else changes
 abbrev pub TakesFrame : Option (List ℕ) → SiteView → SiteView → Type 0

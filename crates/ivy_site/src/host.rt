@@ -7,6 +7,7 @@ ghost use Rattle.ivy_moves.specs.Marks.{turns};
 ghost use Rattle.ivy_model.specs.Wants.{RanOut};
 ghost use Rattle.ivy_program.specs.OwnCode.{AsksNext, IsFree, Rests, asking, process_handed};
 ghost use Rattle.ivy_program.specs.Programs.{one_by_one};
+ghost use Rattle.ivy_program.specs.stated.Programs.{HandedFetch};
 ghost use Rattle.ivy_program.specs.Programs.{IsCalled};
 ghost use Rattle.ivy_model.specs.declared.Reply.{Reply};
 ghost use Rattle.ivy_program.specs.stated.InstructionSteps.{Asks, along_of, step_of};
@@ -17,11 +18,10 @@ ghost use Rattle.ivy_memory.specs.BatchedCalls.{first_call, other_calls, row_has
 ghost use Rattle.ivy_site.specs.Calls.{MayCallTogether, TakesReplies, TakesRow, recorded_by, reply_in};
 ghost use Rattle.ivy_site.specs.Inside.{host_in, is_served, kept_by, told_by, HasTurn, AfterHostTurn, HasNoNumbers};
 
-use crate::fetching::Ahead;
 use crate::manager::NodeManager;
 use ivy_link::Outbox;
 use ivy_memory::{CallProgress, Memory};
-use ivy_model::{Call, Fault, Record, Reply, Row, Story};
+use ivy_model::{Call, Fault, Record, Reply, Row};
 use ivy_moves::{Events, History};
 use ivy_program::Machine;
 use std::alloc::Allocator;
@@ -52,8 +52,6 @@ pub(crate) struct Host<A: Allocator> {
     pub(crate) memory: Memory<NodeManager<A>, A>,
     pub(crate) machine: Machine<A>,
     pub(crate) history: History<A>,
-    // for the proof: the pages that it was handed to fetch.
-    pub(crate) fetches: Story<Ahead>,
 }
 
 impl<A: Allocator + Copy> Host<A> {
@@ -68,7 +66,6 @@ impl<A: Allocator + Copy> Host<A> {
         ensures machine { self.new.machine ≡ told_by self.old.machine answer }
         ensures history { self.new.history.records ≡ kept_by self.old.history.records node call answer }
         ensures kept { self.new.history.kept ≡ self.old.history.kept }
-        ensures fetches { self.new.fetches.told ≡ self.old.fetches.told }
     {
         match answer {
             CallProgress::Given(reply) => {
@@ -92,7 +89,6 @@ impl<A: Allocator + Copy> Host<A> {
         ensures machine { self.new.machine ≡ told_by (process_handed ((call ∷ []) ∷ []) self.old.machine) answer }
         ensures history { self.new.history.records ≡ kept_by self.old.history.records node call answer }
         ensures kept { self.new.history.kept ≡ self.old.history.kept }
-        ensures fetches { self.new.fetches.told ≡ self.old.fetches.told }
     {
         match answer {
             CallProgress::Given(reply) => {
@@ -226,10 +222,9 @@ impl<A: Allocator + Copy> Host<A> {
         requires within { 8 * words ≤ length bytes.now }
         requires below { addr + 8 * words < 2 ^ 64 }
         ensures memory { self.new.memory ≡ self.old.memory }
-        ensures machine { (rows : List (List Call)) → self.old.machine ≡ asking rows None → self.new.machine ≡ asking (rows ++ one_by_one (calls_of (row kind 0 addr (numbers_in words bytes.now)))) None }
+        ensures machine { (fetches : List HandedFetch) (rows : List (List Call)) → self.old.machine ≡ asking fetches rows None → self.new.machine ≡ asking fetches (rows ++ one_by_one (calls_of (row kind 0 addr (numbers_in words bytes.now)))) None }
         ensures history { self.new.history.records ≡ self.old.history.records ++ row kind node addr (numbers_in words bytes.now) }
         ensures kept { self.new.history.kept ≡ self.old.history.kept }
-        ensures fetches { self.new.fetches.told ≡ self.old.fetches.told }
         ensures events { events.new.marks ≡ events.old.marks ++ turns words }
         ensures listed { events.new.kept ≡ events.old.kept }
     {
@@ -321,7 +316,6 @@ impl<A: Allocator + Copy> Host<A> {
         ensures machine { (replies : List Reply) → length replies ≡ taken → self.new.machine ≡ answered_all self.old.machine replies }
         ensures history { self.new.history.records ≡ self.old.history.records ++ row kind node addr (numbers_in taken bytes.now) }
         ensures kept { self.new.history.kept ≡ self.old.history.kept }
-        ensures fetches { self.new.fetches.told ≡ self.old.fetches.told }
         ensures events { events.new.marks ≡ events.old.marks ++ turns taken }
         ensures listed { events.new.kept ≡ events.old.kept }
     {

@@ -68,7 +68,7 @@ impl<A: Allocator + Copy> Site<A> {
     ) -> Result<Site<A>, Fault>
         requires limits { IsConfig config.now }
         requires here { me < config.now.nodes }
-        ensures first { IfOk result (λ site. site ≡ first_opened opening keep config.now me (Called [])) }
+        ensures first { IfOk result (λ site. site ≡ first_opened opening keep config.now me (Called [] [])) }
         ensures memory { IsOkUnless result Fault.Memory }
     {
         Site::with_machine(alloc, config, me, opening, Machine::open(), keep)

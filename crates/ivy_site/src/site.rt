@@ -5,7 +5,7 @@ ghost use Rattle.ivy_model.specs.stated.Config.{IsConfig};
 ghost use Rattle.ivy_model.specs.Wants.{RanOut};
 ghost use Rattle.ivy_wire.specs.stated.DecodeErrors.{checked};
 ghost use Rattle.ivy_program.specs.OwnCode.{IsFree};
-ghost use Rattle.ivy_program.specs.stated.Programs.{Called};
+ghost use Rattle.ivy_program.specs.stated.Programs.{Called, fetches_of};
 ghost use Rattle.ivy_program.specs.stated.States.{first_state};
 ghost use Rattle.ivy_program.specs.InstructionSteps.{HasEnded};
 ghost use Rattle.ivy_moves.specs.stated.Nodes.{pulsing};
@@ -29,7 +29,7 @@ use crate::opened::opened_memory;
 use crate::turn::Turn;
 use ivy_host::Opening;
 use ivy_link::{MOST_AHEAD, Outbox, Verdict};
-use ivy_model::{Call, Config, Fault, Reply, Row, Story};
+use ivy_model::{Call, Config, Fault, Reply, Row};
 use ivy_moves::{Event, Events, History, Keep};
 use ivy_program::{Machine, Next, Program};
 use ivy_wire::{Bytes, head_of, message_of, read_frame};
@@ -180,7 +180,7 @@ impl<A: Allocator + Copy> Site<A> {
     pub fn open(alloc: A, config: &Config, me: u8) -> Result<Site<A>, Fault>
         requires limits { IsConfig config.now }
         requires here { me < config.now.nodes }
-        ensures first { IfOk result (λ site. site ≡ first_shown config.now me (Called [])) }
+        ensures first { IfOk result (λ site. site ≡ first_shown config.now me (Called [] [])) }
         ensures memory { IsOkUnless result Fault.Memory }
     {
         Site::open_keeping(alloc, config, me, Keep::All)
@@ -192,13 +192,12 @@ impl<A: Allocator + Copy> Site<A> {
     pub fn open_keeping(alloc: A, config: &Config, me: u8, keep: Keep) -> Result<Site<A>, Fault>
         requires limits { IsConfig config.now }
         requires here { me < config.now.nodes }
-        ensures first { IfOk result (λ site. site ≡ first_keeping keep config.now me (Called [])) }
+        ensures first { IfOk result (λ site. site ≡ first_keeping keep config.now me (Called [] [])) }
         ensures memory { IsOkUnless result Fault.Memory }
     {
         Site::open_by(alloc, config, me, Opening::Configured, keep)
     }
 
-    #[tactic(auto, using(crate::proofs::Made::plain_is))]
     /// Node `me` with a machine that has done nothing yet, which begins so.
     pub(crate) fn with_machine(
         alloc: A,
@@ -211,6 +210,7 @@ impl<A: Allocator + Copy> Site<A> {
         requires limits { IsConfig config.now }
         requires here { me < config.now.nodes }
         requires begins { machine.state ≡ first_state }
+        requires unfetched { fetches_of machine.program ≡ [] }
         ensures first { IfOk result (λ site. site ≡ first_opened opening keep config.now me machine.program) }
         ensures memory { IsOkUnless result Fault.Memory }
     {
@@ -222,7 +222,6 @@ impl<A: Allocator + Copy> Site<A> {
                 memory,
                 machine,
                 history: History::new(alloc, keep.keeps_history()),
-                fetches: Story::new(),
             },
             opening,
             keep,

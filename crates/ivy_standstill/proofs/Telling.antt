@@ -58,7 +58,7 @@ module _ (c : Config) (opened : Opening) (programs : List Program) where
         (beginning c opened (all_handed (λ _. p.known.handed) programs)) j s.events made.effect)
         at
         (its_list c opened (all_handed (λ _. p.known.handed) programs) s made h.config h.began
-        h.unhanded (runs_there programs s p.known.handed h.program));
+        (runs_there programs s p.known.handed h.program));
     node = made.node;
   }
 

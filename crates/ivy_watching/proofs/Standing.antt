@@ -49,7 +49,7 @@ module _ {Out : Type 0} (done : ℕ → List Answer → Out → Type 0) where
       → Told c opened programs v → IsStandstill nodes → AllStand done nodes outs
       → IsOwnStandstill c opened done nodes outs
   own_standstill c opened limits programs its nodes outs v many all told tells still stand =
-      let long : length (all_open c) ≡ c.nodes = length-replicate c.nodes (Called []) in
+      let long : length (all_open c) ≡ c.nodes = length-replicate c.nodes (Called [] []) in
       let r : IsHandedSoFar c opened (all_open c) nodes =
       reported_so_far c opened (all_open c) limits long nodes v (many ∙ sym long)
       (subst (λ ps. AreToldSoFar c opened ps v nodes) its told)

@@ -18,7 +18,7 @@ use Rattle.proof_worlds.specs.stated.RunState.{Run}
 
 -- own code at so many nodes, of which none has made a call
 abbrev pub own_code : ℕ → List Program
-own_code nodes = replicate nodes (Called [])
+own_code nodes = replicate nodes (Called [] [])
 
 -- the list in which what stands in this place is changed
 abbrev pub changed_at : {X : Type 0} → ℕ → (X → X) → List X → List X

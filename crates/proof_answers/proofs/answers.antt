@@ -3,7 +3,12 @@ pub mod Events
 pub mod Acknowledged
 pub mod Pulsed
 pub mod Unhanded
+pub mod Later
+pub mod Apart
+pub mod Weights
+pub mod MessageWeights
 pub mod Turning
 pub mod Falling
 pub mod Counts
+pub mod WorkMost
 pub mod Answering

@@ -3,7 +3,10 @@ pub mod WaitRanks
 pub mod Bases
 pub mod Unlocking
 pub mod Leading
+pub mod Locked
 pub mod Aims
+pub mod TryingTurns
 pub mod ReadWriteRounds
+pub mod TriedRounds
 pub mod HeapRounds
 pub mod Calls

@@ -4,3 +4,4 @@ pub mod Posting
 pub mod Owing
 pub mod Sweeping
 pub mod Swept
+pub mod MoreSweeps

@@ -1,2 +1,3 @@
 pub mod FewUnderWay
 pub mod Sweeps
+pub mod MoreSweeps

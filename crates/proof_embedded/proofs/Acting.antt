@@ -1,5 +1,5 @@
 -- What a site does, of what kind it is; and what stays true of the site.
-use Rattle.std.proofs.Common.{◌≡◌, ◌≢◌, ◌⊎◌, ℕ, ◌+◌, ◌<◌, List, [], ◌∷◌, ◌++◌, Contains, append-nil, sym, ap, subst, ◌∙◌, arith, ⊎_elim}
+use Rattle.std.proofs.Common.{◌≡◌, ◌≢◌, ◌⊎◌, ℕ, ◌+◌, ◌<◌, Bool, List, [], ◌∷◌, ◌++◌, Contains, append-nil, sym, ap, subst, ◌∙◌, arith, ⊎_elim}
 use Rattle.std.proofs.lemmas.List.Elements.{Contains-append_cases, Contains-push_cases}
 use Rattle.ivy_model.specs.declared.Call.{Call}
 use Rattle.ivy_model.specs.declared.Config.{Config}
@@ -8,31 +8,39 @@ use Rattle.ivy_wire.specs.stated.Data.{Frame, Message}
 use Rattle.ivy_link.specs.declared.Verdict.{Verdict}
 use Rattle.ivy_link.specs.declared.Verdict.TheVariants as verdict
 use Rattle.ivy_program.specs.OwnCode.{process_handed}
-use Rattle.ivy_program.specs.Programs.{handed}
+use Rattle.ivy_program.specs.Programs.{IsCalled, ahead, handed}
 use Rattle.ivy_program.specs.stated.Programs.{Program}
 use Rattle.ivy_program.specs.stated.InstructionSteps.{Asks, AsksRow, Process, answered_with}
-use Rattle.ivy_program.proofs.running.Handing.{handed_called, handed_reply, handed_step}
+use Rattle.ivy_program.proofs.running.Handing.{ahead_called, ahead_row, handed_called, handed_reply, handed_step}
 use Rattle.ivy_moves.specs.Early.{early_as}
 use Rattle.ivy_moves.specs.stated.Nodes.{pulsing}
 use Rattle.ivy_host.specs.stated.Hosts.{Host, serving}
 use Rattle.ivy_host.specs.stated.Managers.{Managed, managed_ops}
 use Rattle.ivy_host.proofs.Programs.{posting-core, turned-program}
-use Rattle.ivy_host.proofs.WellBehaved.{serve-asking}
+use Rattle.ivy_host.proofs.WellBehaved.{IsAskingHost, serve-asking, turn-asking}
+use Rattle.ivy_site.proofs.Calling.{handing-used}
 use Rattle.ivy_site.specs.declared.turn.Turn.TheVariants.{Moved}
-use Rattle.ivy_site.specs.Handed.{site_handed}
+use Rattle.ivy_site.specs.Handed.{site_fetching, site_handed}
 use Rattle.ivy_site.specs.SiteView.{SiteView, after_pulse_to}
-use Rattle.ivy_site.specs.Sites.{AfterDelivery, FollowsDelivery, IsMadeByEvents, SiteDelivers, SiteGoesOn, SiteTurns, early_at, holding_in, without_ready}
+use Rattle.ivy_site.specs.Sites.{AfterDelivery, AreUsed, FollowsDelivery, IsMadeByEvents, SiteDelivers, SiteGoesOn, SiteTurns, early_at, holding_in, without_ready}
 use Rattle.ivy_site.proofs.Handed.{handed_early, handed_made}
 use Rattle.ivy_site.proofs.Made.{delivery_early, pulse_early, pulse_made-on, turn_early, turn_made}
 use Rattle.ivy_world.proofs.GoingOn.{IsLater, delivered_later, once_later}
-use Rattle.ivy_embedded.proofs.Going.{IsOwn, core_of, turned_own}
+use Rattle.ivy_embedded.proofs.Going.{IsOwn, core_of, turned_core, turned_own}
+use Rattle.proof_embedded.proofs.Additions.{Page, grown_early, grown_made}
 use Rattle.proof_embedded.proofs.Emptied.{Carries, delivery_carries, goes_carries, kept, none_more, pulse_carries, turn_carries}
 use Rattle.proof_embedded.proofs.Served.{delivery_keeps, goes_keeps}
 
--- its owner makes further calls; it has a turn, is delivered a string, goes on with strings of a node
--- that it held, or pulses to a node
+-- A page is handed to be fetched ahead, and the site has a turn, after which no fetch is left.
+pub record IsFetched (page : ℕ) (write : Bool) (a b : SiteView) : Type 0 where
+  pub turns : SiteTurns (site_fetching page write a) b
+  pub used : AreUsed (core_of b)
+
+-- its owner makes further calls, or has a page fetched ahead; it has a turn, is delivered a string, goes
+-- on with strings of a node that it held, or pulses to a node
 pub data Act : Type 0 where
   Hands : List (List Call) → Act
+  Fetches : ℕ → Bool → Act
   Turns : Act
   Delivers : List ℕ → Verdict → Act
   Goes : ℕ → List (List ℕ) → Act
@@ -40,6 +48,7 @@ pub data Act : Type 0 where
 
 abbrev pub Acts : Act → SiteView → SiteView → Type 0
 Acts (Hands rows) a b = b ≡ site_handed rows a
+Acts (Fetches page write) a b = IsFetched page write a b
 Acts Turns a b = SiteTurns a b
 Acts (Delivers bytes v) a b = AfterDelivery bytes v a b
 Acts (Goes source more) a b = SiteGoesOn source more a b
@@ -58,6 +67,12 @@ acts_carry (Hands rows) a b same = record {
   waiting = none_more (site_handed rows a) b same;
   goes = λ ws. kept (site_handed rows a) b same ws;
 }
+acts_carry (Fetches page write) a b f =
+    let k = turn_carries (site_fetching page write a) b f.turns in record {
+      more = k.more;
+      waiting = k.waiting;
+      goes = λ ws. record { turns = k.goes ws; used = f.used };
+    }
 acts_carry Turns a b t =
     let k = turn_carries a b t in record { more = k.more; waiting = k.waiting; goes = k.goes }
 acts_carry (Delivers bytes v) a b d =
@@ -88,7 +103,31 @@ own_handed rows a own = record {
   called = handed_called rows (core_of a).process.program own.called;
   asking = λ call is.
       row_handed rows (core_of a).process (call ∷ (core_of a).memory.along) (own.asking call is);
-  fetched = own.fetched;
+  fetched = handing-used rows (core_of a) own.fetched;
+}
+
+-- a page is fetched
+
+pub fetched_program : (page : ℕ) (write : Bool) (a b : SiteView) → IsFetched page write a b
+    → b.node.core.process.program ≡ ahead page write a.node.core.process.program
+fetched_program page write a b f =
+    ap (λ (s : SiteView). s.node.core.process.program) f.turns.after
+    ∙ ap (λ (k : Host Managed). k.process.program)
+    (posting-core (site_fetching page write a).node f.turns.outcome.after f.turns.outcome.posted
+    f.turns.effect f.turns.sent)
+    ∙ turned-program (core_of (site_fetching page write a)) f.turns.outcome f.turns.turn
+
+pub own_fetched : (page : ℕ) (write : Bool) (a b : SiteView) → IsFetched page write a b
+    → IsOwn (core_of a) → IsOwn (core_of b)
+own_fetched page write a b f own = record {
+  called = subst IsCalled (sym (fetched_program page write a b f))
+      (ahead_called page write (core_of a).process.program own.called);
+  asking = subst IsAskingHost (turned_core (site_fetching page write a) b f.turns)
+      (turn-asking managed_ops (core_of (site_fetching page write a)) f.turns.outcome
+      (λ call is.
+      ahead_row page write (core_of a).process (call ∷ (core_of a).memory.along) (own.asking call is))
+      f.turns.turn);
+  fetched = f.used;
 }
 
 -- own code, as messages keep it
@@ -106,6 +145,7 @@ pub own_on : (x : Act) (a b : SiteView) → IsConfig a.config → Acts x a b →
 unfolding pulsing
 own_on (Hands rows) a b limits same own =
     subst (λ s. IsOwn (core_of s)) (sym same) (own_handed rows a own)
+own_on (Fetches page write) a b limits f own = own_fetched page write a b f own
 own_on Turns a b limits t own = turned_own a b own t
 own_on (Delivers bytes v) a b limits d own =
     delivery_keeps IsOwn own_served bytes v a b limits d own
@@ -284,6 +324,18 @@ module _ (c : Config) (limits : IsConfig c) (i : ℕ) (sent : List (List ℕ)) w
             n.early bytes (subst (λ l. Contains l bytes) (handed_early rows a n.made) has);
         own = own_handed rows a n.own;
       })
+  node_on (Fetches page write) a b was f n =
+      let fetching : SiteView = site_fetching page write a in
+      let made : IsMadeByEvents fetching = grown_made (Page page write ∷ []) a n.made in
+      let later = turn_later fetching b made f.turns in record {
+        config = later.config ∙ n.config;
+        me = later.me ∙ n.me;
+        made = later.made;
+        early = no_earlier sent a b
+            (turn_early Moved fetching b made f.turns
+            ∙ ap (λ l. l ++ []) (grown_early (Page page write ∷ []) a n.made)) n.early;
+        own = own_fetched page write a b f n.own;
+      }
   node_on Turns a b was t n =
       by_later Turns a b n t (turn_later a b n.made t)
       (no_earlier sent a b (turn_early Moved a b n.made t) n.early)

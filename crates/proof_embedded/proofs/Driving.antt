@@ -1,6 +1,6 @@
 -- Nodes that a program drives are the nodes of a world that moves lead to: each request makes moves
 -- of its node, or none.
-use Rattle.std.proofs.Common.{◌≡◌, ◌≢◌, ◌⊎◌, ℕ, zero, suc, ◌+◌, ◌<◌, List, [], ◌∷◌, ◌++◌, length, length-set, map, set, slice_get, take, Option, Some, None, Contains, append-nil, append_assoc, refl, sym, ap, subst, ◌∙◌, arith, inl, inr, ⊎_elim, option_map}
+use Rattle.std.proofs.Common.{◌≡◌, ◌≢◌, ◌⊎◌, ℕ, zero, suc, ◌+◌, ◌<◌, Bool, true, false, List, [], ◌∷◌, ◌++◌, length, length-set, map, set, slice_get, take, Option, Some, None, Contains, append-nil, append_assoc, refl, sym, ap, subst, ◌∙◌, arith, inl, inr, ⊎_elim, option_map}
 use Rattle.std.proofs.lemmas.List.{map-set, set-set}
 use Rattle.std.proofs.lemmas.List.Elements.{Contains-append_left, Contains-append_right, Contains-append_cases, Contains-push_cases}
 use Rattle.std.proofs.lemmas.Option.{same_Some, none-some, slice_get-map, slice_get_read}
@@ -28,11 +28,13 @@ use Rattle.ivy_link.specs.declared.Verdict.{Verdict}
 use Rattle.ivy_moves.proofs.Places.{set-cases, set-there, set_same}
 use Rattle.ivy_site.specs.declared.turn.Turn.TheVariants.{Moved}
 use Rattle.ivy_site.specs.Calls.{AreAnswered, AreTaken, BeginsRow}
-use Rattle.ivy_site.specs.Handed.{site_handed}
+use Rattle.ivy_site.specs.Handed.{site_fetching, site_handed}
 use Rattle.ivy_site.specs.SiteView.{SiteView, after_pulse_to}
 use Rattle.ivy_site.specs.Sites.{SiteTurns, AfterDelivery, first_opened}
 use Rattle.ivy_embedded.specs.Nodes.{Embedded, opened_embedded, strings_of, waiting_in}
+use Rattle.ivy_embedded.specs.declared.lending.Lending.{Lending as Mark}
 use Rattle.ivy_embedded.specs.Exports.{AfterBegin, AfterCall, ChangesWaiting, Takes}
+use Rattle.ivy_embedded.specs.Fetches.{AfterAhead, is_to_write}
 use Rattle.ivy_embedded.specs.declared.status.TheConstants.{DONE, SHORT_BUFFER, NO_FRAME}
 use Rattle.proof_worlds.specs.stated.Keeping.{Keeps}
 use Rattle.ivy_world.specs.WorldSites.{programs_of, world_of, run_of, first_sites_from, AfterMove}
@@ -41,9 +43,10 @@ use Rattle.ivy_world.proofs.Making.{turn_went, pulse_went}
 use Rattle.ivy_world.proofs.Worlds.{first_running-of, running_each}
 use Rattle.proof_worlds.proofs.consistency.Untorn.{serve-keeps}
 use Rattle.proof_worlds.proofs.headline.Headline.{keeps-reached, explained-along}
-use Rattle.proof_embedded.specs.Driven.{Request, Begin, Reply, LoadBlock, StoreBlock, BeginLoadBlock, BeginStoreBlock, TakeLoadBlock, TakeStoreBlock, Deliver, NextFrame, Pulse, Driven, TakesOut, Does, Asks, DrivesTo, first_from, opened, moments, node_in, program_in, AreOfOneRun, DrivenNodesAreOfOneRun}
+use Rattle.proof_embedded.specs.Driven.{Request, Begin, Reply, LoadBlock, StoreBlock, BeginLoadBlock, BeginStoreBlock, TakeLoadBlock, TakeStoreBlock, Fetch, Deliver, NextFrame, Pulse, Driven, TakesOut, Does, Asks, DrivesTo, first_from, opened, moments, node_in, program_in, AreOfOneRun, DrivenNodesAreOfOneRun}
 use Rattle.proof_embedded.proofs.Emptied.{with_strings, turn_carries, delivery_carries, pulse_carries}
-use Rattle.proof_embedded.proofs.Points.{RunsWith, running_of, runs_first, runs_with, handed_with, reaches_now}
+use Rattle.proof_embedded.proofs.Additions.{Addition, Page, Rows, site_grown}
+use Rattle.proof_embedded.proofs.Points.{RunsWith, grown_with, reaches_now, running_of, runs_first, runs_with}
 
 -- the node as a site whose strings are on the wire
 abbrev seen : Embedded → SiteView
@@ -135,27 +138,38 @@ module _ (c : Config) (o : Opening) (past : List Driven) (sites : List SiteView)
               (k.goes []) refl refl refl));
         }
 
--- the calls are handed in first
+-- something is handed in first
 module _ (c : Config) (o : Opening) (past : List Driven) (sites : List SiteView)
     (sent : List (List ℕ)) (i : ℕ) (old : SiteView)
     (there : slice_get sites i ≡ Some (with_strings [] old)) (h : RunsWith c o past sites sent)
   where
-    handed : (calls : List Call) (new : SiteView)
-        → (new ≡ site_handed (calls ∷ []) old) ⊎ SiteTurns (site_handed (calls ∷ []) old) new
+    added : (x : Addition) (new : SiteView)
+        → (new ≡ site_grown (x ∷ []) old) ⊎ SiteTurns (site_grown (x ∷ []) old) new
         → Further c o past sites sent i old there h new
-    handed calls new w =
-        let mid : SiteView = site_handed (calls ∷ []) old in
+    added x new w =
+        let mid : SiteView = site_grown (x ∷ []) old in
         let after : List SiteView = set sites i (with_strings [] mid) in
         let at : slice_get after i ≡ Some (with_strings [] mid) =
         set-there sites i (with_strings [] mid) (with_strings [] old) there in
         let f = turned_once c o past after sent i mid at
-        (handed_with c o past sites sent i (with_strings [] old) there (calls ∷ []) h) new w in
+        (grown_with c o past sites sent i (with_strings [] old) there (x ∷ []) h) new w in
         record {
           more = f.more;
           waiting = f.waiting;
           running = subst (λ ss. RunsWith c o past ss (sent ++ f.more))
               (set-set sites i (with_strings [] mid) (with_strings [] new)) f.running;
         }
+
+    -- calls
+    handed : (calls : List Call) (new : SiteView)
+        → (new ≡ site_handed (calls ∷ []) old) ⊎ SiteTurns (site_handed (calls ∷ []) old) new
+        → Further c o past sites sent i old there h new
+    handed calls new w = added (Rows (calls ∷ [])) new w
+
+    -- a page that is fetched ahead
+    fetched : (page : ℕ) (write : Bool) (new : SiteView) → SiteTurns (site_fetching page write old) new
+        → Further c o past sites sent i old there h new
+    fetched page write new t = added (Page page write) new (inr t)
 
     -- together, with a turn in which the first begins, or there are none
     together : (calls : List Call) (new : SiteView) → BeginsRow calls old new
@@ -309,6 +323,15 @@ module _ (c : Config) (o : Opening) (past : List Driven) (nodes : List Embedded)
       replied c o past (map seen nodes) d.sent i (row kind s.site.me addr (numbers_in words bytes))
       s.site t.site seen_there d.running a
 
+  -- by what a fetch comes to
+  ahead : (page : ℕ) (to : Mark) (begun : Bool) (t : Embedded) → AfterAhead begun page to s t
+      → AreDriven c o past (set nodes i t) strings
+  ahead page to true t a =
+      further t a.asks.0
+      (fetched c o past (map seen nodes) d.sent i s.site seen_there d.running page (is_to_write to)
+      t.site a.asks.1.turns)
+  ahead page to false t a = unchanged t a.same
+
   -- a string was taken out, or none was
   seen_same : (t : Embedded) → ChangesWaiting s t → seen t ≡ seen s
   seen_same t same = ap (with_strings []) same
@@ -391,6 +414,9 @@ module _ (c : Config) (o : Opening) (past : List Driven) (nodes : List Embedded)
   did (TakeStoreBlock addr bytes) t more h =
       rw h.0 (⊎_elim (λ does. further t does.4.0 (taken_row Stores addr h.1.1 bytes t does.4.1))
       (λ none. absurd none.0) h.1.2)
+  did (Fetch page number) t more h =
+      rw h.0 (⊎_elim (λ does. ahead page does.1 does.3 t does.5) (λ refused. unchanged t refused.1)
+      h.1.2)
   did (Deliver bytes) t more h =
       rw h.0 (⊎_elim
       (λ does. further t does.3.0
@@ -451,7 +477,7 @@ driven_on c o past (request ∷ requests) old end h d =
 
 no_programs : ℕ → List Program
 no_programs zero = []
-no_programs (suc left) = Called [] ∷ no_programs left
+no_programs (suc left) = Called [] [] ∷ no_programs left
 
 so_many : (left : ℕ) → length (no_programs left) ≡ left
 unfolding no_programs
@@ -463,7 +489,7 @@ first_seen : (o : Opening) (c : Config) (me left : ℕ)
 unfolding no_programs
 first_seen o c me zero = refl
 first_seen o c me (suc left) =
-    ap (λ l. first_opened o History c me (Called []) ∷ l) (first_seen o c (me + 1) left)
+    ap (λ l. first_opened o History c me (Called [] []) ∷ l) (first_seen o c (me + 1) left)
 
 pub none_waits : (o : Opening) (c : Config) (me left i : ℕ) (e : Embedded)
     → slice_get (first_from o c me left) i ≡ Some e → waiting_in e ≡ []

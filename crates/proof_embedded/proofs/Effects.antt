@@ -1,5 +1,5 @@
 -- What each function of a node does, by acts of its site, or what it does beside.
-use Rattle.std.proofs.Common.{◌≡◌, ◌≢◌, ◌⊎◌, inl, inr, ℕ, ◌+◌, ◌*◌, ◌<◌, true, List, [], ◌∷◌, Contains, refl, sym, ap, subst, ◌∙◌, ⊎_elim}
+use Rattle.std.proofs.Common.{◌≡◌, ◌≢◌, ◌⊎◌, inl, inr, ℕ, ◌+◌, ◌*◌, ◌<◌, Bool, true, false, List, [], ◌∷◌, Contains, refl, sym, ap, subst, ◌∙◌, ⊎_elim}
 use Rattle.ivy_model.specs.declared.Call.{Call}
 use Rattle.ivy_model.specs.declared.Call.TheVariants.{Load}
 use Rattle.ivy_model.specs.declared.Config.{Config}
@@ -11,22 +11,23 @@ use Rattle.ivy_model.proofs.Rows.{length-numbers_in}
 use Rattle.ivy_memory.specs.stated.Asking.{asked_of}
 use Rattle.ivy_program.specs.stated.Programs.{Program}
 use Rattle.ivy_site.specs.Calls.{BeginsRow}
-use Rattle.ivy_site.specs.Handed.{site_handed}
+use Rattle.ivy_site.specs.Handed.{site_fetching, site_handed}
 use Rattle.ivy_site.specs.SiteView.{SiteView}
 use Rattle.ivy_site.specs.Sites.{SiteGoesOn}
 use Rattle.ivy_embedded.specs.declared.lending.Lending.{Lending as Mark}
 use Rattle.ivy_embedded.specs.declared.lending.Lending.TheVariants.{ToRead}
 use Rattle.ivy_embedded.specs.Exports.{Takes}
+use Rattle.ivy_embedded.specs.Fetches.{AfterAhead, is_to_write}
 use Rattle.ivy_embedded.specs.Lending.{LendsSoundly, lending_asked, may_ask}
 use Rattle.ivy_embedded.specs.Nodes.{Embedded}
 use Rattle.ivy_embedded.proofs.Delivering.{delivery_program}
 use Rattle.ivy_embedded.proofs.Going.{IsOwn, asked_config, begun_config, core_of, turned_config}
 use Rattle.proof_lent.proofs.Members.{In}
-use Rattle.proof_embedded.specs.Driven.{Request, Begin, Reply, LoadBlock, StoreBlock, BeginLoadBlock, BeginStoreBlock, TakeLoadBlock, TakeStoreBlock, Deliver, NextFrame, Pulse, TakesOut, Does}
-use Rattle.proof_embedded.proofs.Acting.{Act, Goes, own_on}
+use Rattle.proof_embedded.specs.Driven.{Request, Begin, Reply, LoadBlock, StoreBlock, BeginLoadBlock, BeginStoreBlock, TakeLoadBlock, TakeStoreBlock, Fetch, Deliver, NextFrame, Pulse, TakesOut, Does}
+use Rattle.proof_embedded.proofs.Acting.{Act, Goes, IsFetched, own_on}
 use Rattle.proof_embedded.proofs.Lifted.{Extends, acts_config, extends_back}
 use Rattle.proof_embedded.proofs.Quiet.{AllAct, AreQuiet, Chain, IsQuiet, load_quiet, may_quiet, sound_held, sound_quiet, stores_quiet}
-use Rattle.proof_embedded.proofs.Requests.{answered, begun, delivered, gone_on, nothing_done, polled, pulsed, taken, together}
+use Rattle.proof_embedded.proofs.Requests.{answered, begun, delivered, fetched, gone_on, nothing_done, polled, pulsed, taken, together}
 
 -- what holds of a node at each moment
 pub record IsKept (c : Config) (e : Embedded) : Type 0 where
@@ -62,6 +63,12 @@ loads_quiet c lent me addr (number ∷ more) r (inl e) =
 loads_quiet c lent me addr (number ∷ more) r (inr h) = loads_quiet c lent me (addr + 8) more r h
 
 -- what is lent stays so
+
+ahead_lent : (page : ℕ) (to : Mark) (begun : Bool) (s t : Embedded) → AfterAhead begun page to s t
+    → t.lent ≡ s.lent
+ahead_lent page to true s t a = a.asks.2
+ahead_lent page to false s t a = ap (λ (e : Embedded). e.lent) a.same
+
 pub asked_lent : (request : Request) (strings more : List (List ℕ)) (s t : Embedded)
     → Does request strings s t more → t.lent ≡ s.lent
 asked_lent (Begin kind width place operand expected) strings more s t h =
@@ -80,6 +87,9 @@ asked_lent (TakeLoadBlock addr) strings more s t h =
     ⊎_elim (λ does. does.4.2) (λ none. absurd none.0) h.1.3
 asked_lent (TakeStoreBlock addr bytes) strings more s t h =
     ⊎_elim (λ does. does.4.2) (λ none. absurd none.0) h.1.2
+asked_lent (Fetch page number) strings more s t h =
+    ⊎_elim (λ does. ahead_lent page does.1 does.3 s t does.5)
+    (λ refused. ap (λ (e : Embedded). e.lent) refused.1) h.1.2
 asked_lent (Deliver bytes) strings more s t h =
     ⊎_elim (λ does. does.3.2) (λ refused. ap (λ (e : Embedded). e.lent) refused.1) h.2.2
 asked_lent NextFrame strings more s t h = h.6
@@ -121,6 +131,18 @@ module _ (c : Config) (limits : IsConfig c) (strings : List (List ℕ)) (s t : E
     chain = gone_on c s.lent strings s.site t.site kept.own (sound_held s kept.sound)
         (after (acts_config (Goes peer more) s.site t.site limits_here g)) limits_here peer more g;
   }
+
+  fetched_ahead : (page : ℕ) (to : Mark) (begun : Bool) → AfterAhead begun page to s t
+      → IsActed c strings s t
+  fetched_ahead page to true a =
+      let f : IsFetched page (is_to_write to) s.site t.site =
+      record { turns = a.asks.1.turns; used = a.used } in record {
+        first = a.asks.0;
+        chain = fetched c s.lent strings s.site t.site kept.own (sound_held s kept.sound)
+            (after (turned_config (site_fetching page (is_to_write to) s.site) t.site f.turns)) page
+            (is_to_write to) f a.asks.1.recorded;
+      }
+  fetched_ahead page to false a = unchanged a.same
 
   pub effect : (request : Request) (more : List (List ℕ)) → Does request strings s t more
       → HasEffect c strings s t more
@@ -206,6 +228,10 @@ module _ (c : Config) (limits : IsConfig c) (strings : List (List ℕ)) (s t : E
               does.4.1 kept.own (sound_held s kept.sound) before;
         })
         (λ none. absurd none.0) h.1.2,
+    h.0,
+  )
+  effect (Fetch page number) more h = inl (
+    ⊎_elim (λ does. fetched_ahead page does.1 does.3 does.5) (λ refused. unchanged refused.1) h.1.2,
     h.0,
   )
   effect (Deliver bytes) more h = inl (

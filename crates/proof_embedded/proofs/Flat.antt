@@ -1,5 +1,5 @@
 -- All that programs of nodes that lend make is of one flat memory: a run of the nodes is one of a world
--- whose programs make, from the opening on, all calls that the owners make in the end.
+-- whose programs have, from the opening on, all that the owners hand in in the end.
 use Rattle.std.proofs.Common.{◌≡◌, ◌≢◌, ◌⊎◌, ℕ, zero, suc, ◌+◌, ◌<◌, List, [], ◌∷◌, ◌++◌, length, map, set, slice_get, replicate, Contains, Option, Some, None, option_map, refl, sym, ap, subst, ◌∙◌, append-nil, append_assoc, arith, ⊎_elim}
 use Rattle.std.proofs.lemmas.List.{length-map, length-set}
 use Rattle.std.proofs.lemmas.Option.{none-some, same_Some, slice_get-map}
@@ -18,7 +18,6 @@ use Rattle.ivy_host.proofs.WellBehaved.{first-asking}
 use Rattle.ivy_site.specs.SiteView.{SiteView}
 use Rattle.ivy_site.specs.Sites.{first_opened}
 use Rattle.ivy_site.proofs.Made.{first_made}
-use Rattle.ivy_site.proofs.Unhanded.{first_unhanded}
 use Rattle.ivy_world.specs.WorldSites.{first_sites_from, world_of}
 use Rattle.ivy_world.proofs.Worlds.{first_run-of, first_running-of}
 use Rattle.proof_worlds.specs.stated.Keeping.{Keeps}
@@ -399,12 +398,12 @@ first_node : (o : Opening) (c : Config) (i : ℕ)
 first_node o c i = record {
   config = refl;
   me = refl;
-  made = first_made o History c i (Called []);
+  made = first_made o History c i (Called [] []);
   early = λ bytes has. has;
   own = record {
     called = tt;
-    asking = first-asking managed_ops (managed_start o) c i (Called []);
-    fetched = sym (ap length (first_unhanded o c i (Called [])));
+    asking = first-asking managed_ops (managed_start o) c i (Called [] []);
+    fetched = refl;
   };
 }
 

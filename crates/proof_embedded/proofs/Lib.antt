@@ -1,3 +1,5 @@
+pub mod Additions
+pub mod Grown
 pub mod Emptied
 pub mod Points
 pub mod Driving

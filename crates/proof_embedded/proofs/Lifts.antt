@@ -1,6 +1,5 @@
--- What a site does it does where its owner will make further calls.
+-- What a site does it does where its owner will hand in more.
 use Rattle.std.proofs.Common.{◌≡◌, ℕ, List, [], ◌∷◌, Contains, option_map, refl, sym, ap, subst, ◌∙◌}
-use Rattle.ivy_model.specs.declared.Call.{Call}
 use Rattle.ivy_model.specs.stated.Config.{IsConfig}
 use Rattle.ivy_wire.specs.stated.Data.{Frame}
 use Rattle.ivy_link.specs.declared.Verdict.{Verdict}
@@ -8,30 +7,27 @@ use Rattle.ivy_link.specs.declared.Verdict.TheVariants as verdict
 use Rattle.ivy_moves.specs.Carrying.{changed, effect_changed}
 use Rattle.ivy_moves.specs.stated.Nodes.{Effect, pulsing}
 use Rattle.ivy_moves.proofs.Unseen.{delivered-over, posting-over, pulsing-over}
-use Rattle.ivy_host.specs.Handing.{handing}
 use Rattle.ivy_host.specs.stated.Hosts.{Host, host_rules}
 use Rattle.ivy_host.specs.stated.Managers.{Managed, managed_ops}
-use Rattle.ivy_host.proofs.HandedHosts.{unseen}
-use Rattle.ivy_site.specs.Handed.{site_handed}
 use Rattle.ivy_site.specs.SiteView.{SiteView, after_delivery, after_pulse_to}
 use Rattle.ivy_site.specs.Sites.{AfterDelivery, FollowsDelivery, GoesOnOnce, IsMadeByEvents, SiteDelivers, SiteGoesOn, SiteTurns, without_ready}
-use Rattle.ivy_site.proofs.Handed.{handed_early}
 use Rattle.ivy_world.proofs.GoingOn.{delivered_later, once_later}
+use Rattle.proof_embedded.proofs.Additions.{Addition, grown_early, grown_unseen, growing, site_grown}
 
-module _ (m : List (List Call)) where
-  -- the site, whose owner will make these calls too
+module _ (m : List Addition) where
+  -- the site, whose owner will hand in this too
   abbrev up : SiteView → SiteView
-  up = site_handed m
+  up = site_grown m
 
   abbrev up_effect : Effect (Host Managed) → Effect (Host Managed)
-  up_effect = effect_changed (handing m)
+  up_effect = effect_changed (growing m)
 
   pub lift_turn : (a b : SiteView) → SiteTurns a b → SiteTurns (up a) (up b)
   lift_turn a b t = record {
-    outcome = changed (handing m) t.outcome;
-    turn = (unseen managed_ops m).turn a.node.core t.outcome t.turn;
+    outcome = changed (growing m) t.outcome;
+    turn = (grown_unseen m).turn a.node.core t.outcome t.turn;
     effect = up_effect t.effect;
-    sent = posting-over (host_rules managed_ops) a.config (handing m) (unseen managed_ops m) a.node
+    sent = posting-over (host_rules managed_ops) a.config (growing m) (grown_unseen m) a.node
         t.outcome.after t.outcome.posted
         ∙ ap (option_map up_effect) t.sent;
     after = ap up t.after;
@@ -51,7 +47,7 @@ module _ (m : List (List Call)) where
     spelled = d.spelled;
     is = d.is;
     effect = up_effect d.effect;
-    delivered = delivered-over (host_rules managed_ops) a.config (handing m) (unseen managed_ops m)
+    delivered = delivered-over (host_rules managed_ops) a.config (growing m) (grown_unseen m)
         a.node bytes
         ∙ ap (option_map up_effect) d.delivered;
     after = ap up d.after ∙ after_up a bytes v d.frame.source d.effect;
@@ -62,7 +58,7 @@ module _ (m : List (List Call)) where
   unfolding lift_delivers
   lift_once source bytes a b made g = record {
     ready = g.ready;
-    early = subst (λ l. Contains l bytes) (sym (handed_early m a made)) g.early;
+    early = subst (λ l. Contains l bytes) (sym (grown_early m a made)) g.early;
     next = lift_delivers bytes verdict.Next (without_ready a source) b g.next;
     from = g.from;
   }
@@ -101,4 +97,4 @@ module _ (m : List (List Call)) where
   lift_pulse to a b p =
       ap up p
       ∙ ap (after_pulse_to (up a) to)
-      (sym (pulsing-over (host_rules managed_ops) a.config (handing m) (unseen managed_ops m) a.node to))
+      (sym (pulsing-over (host_rules managed_ops) a.config (growing m) (grown_unseen m) a.node to))

@@ -1,5 +1,5 @@
--- The nodes of a run at each moment are those of a world of programs that make all calls that the
--- owners make in the end.
+-- The nodes of a run at each moment are those of a world of programs that make all calls, and have all
+-- pages fetched, that the owners hand in in the end.
 use Rattle.std.proofs.Common.{◌≡◌, ◌⊎◌, inl, inr, ℕ, List, [], ◌∷◌, ◌++◌, length, set, slice_get, Contains, Some, refl, sym, ap, subst, ◌∙◌, arith, ⊎_elim}
 use Rattle.std.proofs.lemmas.List.{length-set}
 use Rattle.std.proofs.lemmas.List.Elements.{Contains-append_cases, Contains-append_left, Contains-append_right}
@@ -38,7 +38,7 @@ use Rattle.proof_embedded.proofs.Touching.{AllExtend, AreKept, IsTouched, emptie
 
 module _ (o : Opening) (c : Config) (limits : IsConfig c) (ps : List Program)
     (few : length ps ≡ c.nodes) where
-  -- of programs that make these calls in the end
+  -- of programs that are these in the end
   pub record IsMoment (d : Driven) : Type 0 where
     pub sent : List (List ℕ)
     pub are : AreSites c (along ps d.nodes)

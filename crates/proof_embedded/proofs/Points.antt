@@ -1,11 +1,10 @@
 -- A run of driven nodes, and the moments of their past that are points of it: what each node was
 -- answered then, and had in progress, it had at a point of its events in the run. So it stays as moves
--- are added, and where calls are handed in.
-use Rattle.std.proofs.Common.{◌≡◌, ℕ, List, [], ◌∷◌, ◌++◌, length, map, set, slice_get, Some, append-nil, append_assoc, option_map, refl, sym, ap, subst, ◌∙◌, arith, inl, inr}
+-- are added, and where more is handed in.
+use Rattle.std.proofs.Common.{◌≡◌, ℕ, List, [], ◌∷◌, ◌++◌, length, length-set, map, set, slice_get, Some, append-nil, append_assoc, option_map, refl, sym, ap, subst, ◌∙◌, arith, inl, inr}
 use Rattle.std.specs.Prelude.{All}
 use Rattle.std.proofs.lemmas.List.Elements.{All-nil, All-cons}
 use Rattle.std.proofs.lemmas.Option.{same_Some, slice_get-map, slice_get_cases, slice_get_within}
-use Rattle.ivy_model.specs.declared.Call.{Call}
 use Rattle.ivy_model.specs.declared.Config.{Config}
 use Rattle.ivy_model.specs.stated.Config.{IsConfig}
 use Rattle.ivy_model.specs.stated.Explains.{Answered}
@@ -19,18 +18,16 @@ use Rattle.ivy_moves.specs.stated.Worlds.{World, Moves, Leads}
 use Rattle.ivy_moves.proofs.Carried.{carry_over, changed-one}
 use Rattle.ivy_moves.proofs.Parts.{runs_are_their_parts}
 use Rattle.ivy_moves.proofs.Unseen.{events-over}
-use Rattle.ivy_host.specs.Handing.{handing}
 use Rattle.ivy_host.specs.stated.Hosts.{Host, host_rules, answered_by}
 use Rattle.ivy_host.specs.stated.Managers.{Managed, managed_ops}
 use Rattle.ivy_host.specs.declared.opening.Opening.{Opening}
 use Rattle.ivy_host.specs.stated.Openings.{managed_start, opening}
-use Rattle.ivy_host.proofs.HandedHosts.{opening_handed, unseen}
-use Rattle.ivy_site.specs.Handed.{site_handed}
 use Rattle.ivy_site.specs.SiteView.{SiteView}
 use Rattle.ivy_embedded.specs.Nodes.{Embedded}
 use Rattle.ivy_world.specs.WorldSites.{programs_of, world_of, IsRunning, AreSites}
-use Rattle.ivy_world.proofs.HandedWorlds.{handed_running, more_at, world_changed, programs_handed}
 use Rattle.proof_embedded.specs.Driven.{Driven, node_in}
+use Rattle.proof_embedded.proofs.Additions.{Addition, grown_unseen, growing, site_grown}
+use Rattle.proof_embedded.proofs.Grown.{more_at, opening_grown, programs_grown, sites_grown, world_grown}
 
 abbrev W : Type 0
 W = World (Host Managed)
@@ -110,13 +107,13 @@ module _ (c : Config) where
             });
       }
 
-  -- calls are handed in
-  pub reaches_handed : (past : List Driven) (more : ℕ → List (List Call)) (w end u : W)
-      → Reaches c past w end → IsChangedBy (λ i. handing (more i)) w u
-      → (further : W) × IsChangedBy (λ i. handing (more i)) end further × Reaches c past u further
-  reaches_handed past more w end u r above =
+  -- more is handed in
+  pub reaches_grown : (past : List Driven) (more : ℕ → List Addition) (w end u : W)
+      → Reaches c past w end → IsChangedBy (λ i. growing (more i)) w u
+      → (further : W) × IsChangedBy (λ i. growing (more i)) end further × Reaches c past u further
+  reaches_grown past more w end u r above =
       let over =
-      carry_over R c (λ i. handing (more i)) (λ i. unseen managed_ops (more i)) w end
+      carry_over R c (λ i. growing (more i)) (λ i. grown_unseen (more i)) w end
       (λ j. parts_of R c r.moves w end r.leads j)
       (record { moves = r.moves; leads = r.leads; are = λ j. refl }) u above in (
         over.0,
@@ -127,13 +124,13 @@ module _ (c : Config) where
           points = λ k d below i e at.
               (let p = r.points k d below i e at in
               record {
-                node = node_changed (handing (more i)) p.node;
+                node = node_changed (growing (more i)) p.node;
                 there = above.there i p.node p.there;
                 before = p.before;
                 after = p.after;
                 parts = sym (over.1.are i) ∙ p.parts;
-                effect = effect_changed (handing (more i)) p.effect;
-                happen = (events-over R c (handing (more i)) (unseen managed_ops (more i)) p.node
+                effect = effect_changed (growing (more i)) p.effect;
+                happen = (events-over R c (growing (more i)) (grown_unseen (more i)) p.node
                     p.before p.effect p.happen).happen;
                 same = p.same;
               });
@@ -232,27 +229,25 @@ runs_with c o past sites sites' sent sent' step h are count programs made = reco
       (world_of sites' sent') h.reached step made);
 }
 
--- calls are handed in
-pub handed_with : (c : Config) (o : Opening) (past : List Driven) (sites : List SiteView)
+-- more is handed in
+pub grown_with : (c : Config) (o : Opening) (past : List Driven) (sites : List SiteView)
     (sent : List (List ℕ)) (node : ℕ) (old : SiteView) → slice_get sites node ≡ Some old
-    → (more : List (List Call))
-    → RunsWith c o past sites sent → RunsWith c o past (set sites node (site_handed more old)) sent
-handed_with c o past sites sent node old there more h =
-    let runs = running_of c o past sites sent h in
-    let sites' : List SiteView = set sites node (site_handed more old) in
-    let each : ℕ → List (List Call) = more_at c o sites sent node old there more runs in
-    let base = handed_running c o sites sent node old there more runs in
+    → (more : List Addition)
+    → RunsWith c o past sites sent → RunsWith c o past (set sites node (site_grown more old)) sent
+grown_with c o past sites sent node old there more h =
+    let sites' : List SiteView = set sites node (site_grown more old) in
+    let each : ℕ → List Addition = more_at c sites sent node old there more h.nodes in
     let over =
-    reaches_handed c past each (opening (managed_start o) c (programs_of sites))
+    reaches_grown c past each (opening (managed_start o) c (programs_of sites))
     (world_of sites sent) (opening (managed_start o) c (programs_of sites')) h.reached
-    (opening_handed (managed_start o) c each (programs_of sites) (programs_of sites')
-    (programs_handed c o sites sent node old there more runs)) in
+    (opening_grown (managed_start o) c each (programs_of sites) (programs_of sites')
+    (programs_grown c sites sent node old there more h.nodes)) in
     record {
       limits = h.limits;
-      count = base.count;
-      nodes = base.nodes;
+      count = length-set sites node (site_grown more old) ∙ h.count;
+      nodes = sites_grown c sites sent node old there more h.nodes;
       reached = subst (Reaches c past (opening (managed_start o) c (programs_of sites')))
-          (changed-one (λ i. handing (each i)) (world_of sites sent) over.0 (world_of sites' sent)
-          over.1 (world_changed c o sites sent node old there more runs))
+          (changed-one (λ i. growing (each i)) (world_of sites sent) over.0 (world_of sites' sent)
+          over.1 (world_grown c sites sent node old there more h.nodes))
           over.2;
     }

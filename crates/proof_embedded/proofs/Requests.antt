@@ -1,5 +1,5 @@
 -- What the functions of a node do to its site, by acts of its kind, while its pages are lent.
-use Rattle.std.proofs.Common.{◌≡◌, ◌⊎◌, inl, inr, ℕ, ◌<◌, List, [], ◌∷◌, ◌++◌, length, map, drop, Contains, Option, Some, None, refl, ap, subst, ⊎_elim}
+use Rattle.std.proofs.Common.{◌≡◌, ◌⊎◌, inl, inr, ℕ, ◌<◌, Bool, List, [], ◌∷◌, ◌++◌, length, map, drop, Contains, Option, Some, None, refl, ap, subst, ⊎_elim}
 use Rattle.std.specs.Prelude.{MatchOption}
 use Rattle.ivy_model.specs.declared.Call.{Call}
 use Rattle.ivy_model.specs.declared.Config.{Config}
@@ -23,7 +23,7 @@ use Rattle.ivy_embedded.proofs.Going.{IsOwn, core_of, recorded_waits, turned_les
 use Rattle.ivy_embedded.proofs.Holding.{IsHeld, turned_held}
 use Rattle.ivy_embedded.proofs.Unanswered.{asks_unanswered}
 use Rattle.proof_lent.proofs.Members.{In}
-use Rattle.proof_embedded.proofs.Acting.{Hands, Turns, Delivers, Goes, Pulses, own_handed, own_on}
+use Rattle.proof_embedded.proofs.Acting.{Hands, Fetches, Turns, Delivers, Goes, Pulses, IsFetched, own_fetched, own_handed, own_on}
 use Rattle.proof_embedded.proofs.Quiet.{AreQuiet, Chain, IsQuiet, IsQuietAct, asked_quiet, handed_quiet, none_grown, one_grown}
 use Rattle.proof_embedded.proofs.Served.{delivery_keeps, goes_keeps}
 
@@ -132,6 +132,20 @@ module _ (c : Config) (lent : List Lending) (strings : List (List ℕ)) where
     together (call ∷ calls) begins =
         begun_so (call ∷ calls) a b begins.turns
         (turned_from (call ∷ calls) begins.turns (inl begins.recorded))
+
+    -- a page that is fetched ahead
+    pub fetched : (page : ℕ) (write : Bool) → IsFetched page write a b
+        → (core_of b).history ≡ (core_of a).history → Chain c lent strings a b
+    fetched page write f recorded = record {
+      acts = Fetches page write ∷ [];
+      all = (
+        b,
+        f,
+        tt,
+        quiet_by a refl (own_fetched page write a b f own) (none_grown c lent a b recorded),
+        refl,
+      );
+    }
 
     module _ (limits : IsConfig a.config) where
       pub delivered : (bytes : List ℕ) (v : Verdict) → Contains strings bytes

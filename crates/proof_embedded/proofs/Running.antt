@@ -1,6 +1,6 @@
 -- What the site of a node does, one act after another, while its pages are lent, leads a world that
 -- lends them on.
-use Rattle.std.proofs.Common.{◌≡◌, ℕ, List, [], ◌∷◌, ◌++◌, length, set, slice_get, Contains, Some, inl, inr, refl, sym, ap, subst, ◌∙◌, append-nil, append_assoc}
+use Rattle.std.proofs.Common.{◌≡◌, ℕ, Bool, List, [], ◌∷◌, ◌++◌, length, set, slice_get, Contains, Some, inl, inr, refl, sym, ap, subst, ◌∙◌, append-nil, append_assoc}
 use Rattle.std.proofs.lemmas.List.{length-set, set-set}
 use Rattle.std.proofs.lemmas.List.Elements.{Contains-append_left}
 use Rattle.ivy_model.specs.declared.Call.{Call}
@@ -10,9 +10,9 @@ use Rattle.ivy_pagetable.specs.stated.Tables.{entry_at}
 use Rattle.ivy_program.specs.stated.Programs.{Program}
 use Rattle.ivy_moves.specs.declared.Move.{Move}
 use Rattle.ivy_moves.proofs.Places.{set-there, set_same}
+use Rattle.ivy_site.specs.Handed.{site_fetching}
 use Rattle.ivy_site.specs.SiteView.{SiteView}
 use Rattle.ivy_site.specs.Sites.{early_at}
-use Rattle.ivy_site.proofs.Handed.{handed_early}
 use Rattle.ivy_site.proofs.Made.{all_taken}
 use Rattle.ivy_world.specs.WorldSites.{AreSites, programs_of}
 use Rattle.ivy_embedded.specs.declared.lending.Lending.{Lending as Mark}
@@ -22,11 +22,12 @@ use Rattle.ivy_embedded.proofs.Going.{core_of}
 use Rattle.proof_lent.specs.Lent.{Lending}
 use Rattle.proof_lent.specs.LentWorlds.{SufficesFor}
 use Rattle.proof_embedded.specs.Mapped.{lending_of}
-use Rattle.proof_embedded.proofs.Acting.{Act, Acts, Hands, Turns, Delivers, Goes, Pulses, EarlySent, IsNodeSite, WasSent, acts_carry, node_on}
+use Rattle.proof_embedded.proofs.Acting.{Act, Acts, Hands, Fetches, Turns, Delivers, Goes, Pulses, EarlySent, IsFetched, IsNodeSite, WasSent, acts_carry, node_on}
+use Rattle.proof_embedded.proofs.Additions.{Page, grown_early, grown_made}
 use Rattle.proof_embedded.proofs.Effects.{chain_extends}
 use Rattle.proof_embedded.proofs.Emptied.{with_strings}
 use Rattle.proof_embedded.proofs.LentMoves.{AreOthersQuiet, LeadsLent, QuietAt, goes_lent, had_suffices, leads_both, lent_world, mark_read, others_set}
-use Rattle.proof_embedded.proofs.Lifted.{Extends, HandsNone, Lifted, acts_config, as_run, extends_back, handed_same, lifted}
+use Rattle.proof_embedded.proofs.Lifted.{Extends, HandsNone, acts_config, as_run, extends_back, handed_same, lifted}
 use Rattle.proof_embedded.proofs.Quiet.{AllAct, IsFine, IsQuiet, IsQuietAct}
 use Rattle.proof_embedded.proofs.Stepping.{IsStep, stepped}
 
@@ -56,6 +57,7 @@ was_sent : (strings sent : List (List ℕ)) (x : Act)
     → ((bytes : List ℕ) → Contains strings bytes → Contains sent bytes) → WasSent strings x
     → WasSent sent x
 was_sent strings sent (Hands rows) taken was = tt
+was_sent strings sent (Fetches page write) taken was = tt
 was_sent strings sent Turns taken was = tt
 was_sent strings sent (Delivers bytes v) taken was = taken bytes was
 was_sent strings sent (Goes source more) taken was = tt
@@ -125,45 +127,61 @@ module _ (c : Config) (limits : IsConfig c) (lent : ℕ → ℕ → Lending) (im
     early_run e bytes has =
         node.early bytes
         (subst (λ l. Contains l bytes)
-        (ap (λ q. early_at (as_run q [] a)) e.1 ∙ handed_early e.0 (with_strings [] a) node.made) has)
+        (ap (λ q. early_at (as_run q [] a)) e.1 ∙ grown_early e.0 (with_strings [] a) node.made) has)
+
+    -- by a move of the world, or none
+    by_step : (more : List (List ℕ)) → b.waiting ≡ a.waiting ++ more
+        → IsNodeSite c i sent (with_strings [] b) → IsQuietAct c marks a b
+        → IsStep c limits sites sent i (as_run p [] a) there are count (as_run p more b)
+        → Ran sites sent a b
+    by_step more waiting after quiet (inl still) =
+        rests sites sent a b there are (waiting ∙ ap (λ ws. a.waiting ++ ws) still.0) still.1 after
+    by_step more waiting after quiet (inr step) = record {
+      more = more;
+      waiting = waiting;
+      after = set sites i (as_run p [] b);
+      is = refl;
+      node = sent_more c i sent more (with_strings [] b) after;
+      are = step.1.are;
+      programs = step.1.programs;
+      moves = step.0 ∷ [];
+      leads = (
+        lent_world c lent image (set sites i (as_run p [] b)) (sent ++ more),
+        goes_lent c lent image sites sent (sent ++ more) i (as_run p [] a) (as_run p [] b) step.0
+            there others step.1
+            (λ q. subst (SufficesFor (entry_at (table_of (core_of a)) q)) (sym (own q))
+            (had_suffices (entry_at (table_of (core_of a)) q) (lending_in marks q) (quiet.held q)))
+            (λ call among. quiet_at call (quiet.grown call among))
+            (λ call among. quiet_at call (quiet.asked call among)),
+        refl,
+      );
+    }
 
     act_so : (x : Act) → HandsNone x → Acts x a b → WasSent strings x → IsQuietAct c marks a b
-        → Extends p a → Ran sites sent a b
+        → Extends p b → Ran sites sent a b
     act_so x none acts was quiet e =
-        let l = lifted p x a b none limits_here node.made acts e in
-        by l (stepped c limits sites sent i (as_run p [] a) there are count x (as_run p l.more b) none
-        l.acts (was_sent strings sent x taken was) (early_run e))
-      where
-        by : (l : Lifted p x a b)
-            → IsStep c limits sites sent i (as_run p [] a) there are count (as_run p l.more b)
-            → Ran sites sent a b
-        by l (inl still) =
-            rests sites sent a b there are
-            (l.waiting ∙ ap (λ ws. a.waiting ++ ws) still.0) still.1 (node_after x acts was)
-        by l (inr step) = record {
-          more = l.more;
-          waiting = l.waiting;
-          after = set sites i (as_run p [] b);
-          is = refl;
-          node = sent_more c i sent l.more (with_strings [] b) (node_after x acts was);
-          are = step.1.are;
-          programs = step.1.programs;
-          moves = step.0 ∷ [];
-          leads = (
-            lent_world c lent image (set sites i (as_run p [] b)) (sent ++ l.more),
-            goes_lent c lent image sites sent (sent ++ l.more) i (as_run p [] a) (as_run p [] b) step.0
-                there others step.1
-                (λ q. subst (SufficesFor (entry_at (table_of (core_of a)) q)) (sym (own q))
-                (had_suffices (entry_at (table_of (core_of a)) q) (lending_in marks q) (quiet.held q)))
-                (λ call among. quiet_at call (quiet.grown call among))
-                (λ call among. quiet_at call (quiet.asked call among)),
-            refl,
-          );
-        }
+        let before = extends_back p x a b limits_here acts e in
+        let l = lifted p x a b none limits_here node.made acts before in
+        by_step l.more l.waiting (node_after x acts was) quiet
+        (stepped c limits sites sent i (as_run p [] a) there are count x (as_run p l.more b) none
+        l.acts (was_sent strings sent x taken was) (early_run before))
 
-    one : (x : Act) → Acts x a b → WasSent strings x → IsFine c marks x a b → Extends p a
+    -- a page that is fetched is among those of the program already: the site has a turn
+    fetched_so : (page : ℕ) (write : Bool) → (f : IsFetched page write a b) → IsQuietAct c marks a b
+        → Extends p b → Ran sites sent a b
+    fetched_so page write f quiet e =
+        let fetching : SiteView = site_fetching page write a in
+        let l = lifted p Turns fetching b tt limits_here
+        (grown_made (Page page write ∷ []) (with_strings [] a) node.made) f.turns
+        (extends_back p Turns fetching b limits_here f.turns e) in
+        by_step l.more l.waiting (node_after (Fetches page write) f tt) quiet
+        (stepped c limits sites sent i (as_run p [] a) there are count Turns (as_run p l.more b) tt
+        l.acts tt (early_run (extends_back p (Fetches page write) a b limits_here f e)))
+
+    one : (x : Act) → Acts x a b → WasSent strings x → IsFine c marks x a b → Extends p b
         → Ran sites sent a b
     one (Hands rows) acts was fine e = hands rows acts
+    one (Fetches page write) acts was fine e = fetched_so page write acts fine e
     one Turns acts was fine e = act_so Turns tt acts was fine e
     one (Delivers bytes v) acts was fine e = act_so (Delivers bytes v) tt acts was fine e
     one (Goes source more) acts was fine e = act_so (Goes source more) tt acts was fine e
@@ -208,8 +226,7 @@ module _ (c : Config) (limits : IsConfig c) (lent : ℕ → ℕ → Lending) (im
       subst IsConfig (sym (acts_config x a h.0 limits_a h.1)) limits_a in
       let e_mid = chain_extends c marks strings p xs h.0 b limits_mid h.4 e in
       let first =
-      one sites sent a h.0 there are count others taken node x h.1 h.2 h.3
-      (extends_back p x a h.0 limits_a h.1 e_mid) in
+      one sites sent a h.0 there are count others taken node x h.1 h.2 h.3 e_mid in
       joined sites sent a h.0 b first
       (ran xs first.after (sent ++ first.more) h.0 b h.4
       (ap (λ ss. slice_get ss i) first.is

@@ -17,7 +17,7 @@ use Rattle.ivy_site.specs.Sites.{AfterDelivery, IsMadeByEvents, SiteGoesOn, earl
 use Rattle.ivy_world.specs.WorldSites.{AfterMove, AreSites, programs_of, world_of}
 use Rattle.ivy_world.proofs.GoingOn.{delivery_went, went_there}
 use Rattle.ivy_world.proofs.Making.{changed_are, pulse_went, same_map, turn_went}
-use Rattle.proof_embedded.proofs.Acting.{Act, Acts, Hands, Turns, Delivers, Goes, Pulses, EarlySent, WasSent}
+use Rattle.proof_embedded.proofs.Acting.{Act, Acts, Hands, Fetches, Turns, Delivers, Goes, Pulses, EarlySent, WasSent}
 use Rattle.proof_embedded.proofs.Lifted.{HandsNone}
 
 module _ (c : Config) (limits : IsConfig c) (sites : List SiteView) (sent : List (List ℕ)) (i : ℕ)
@@ -94,6 +94,7 @@ module _ (c : Config) (limits : IsConfig c) (sites : List SiteView) (sent : List
   pub stepped : (x : Act) (done : SiteView) → HandsNone x → Acts x old done → WasSent sent x
       → EarlySent sent old → IsStep done
   stepped (Hands rows) done none same was early = absurd none
+  stepped (Fetches page write) done none f was early = absurd none
   stepped Turns done none t was early = inr (
     move.Turn i,
     went_there c sites (set sites i (emptied done)) sent (sent ++ done.waiting) (move.Turn i)

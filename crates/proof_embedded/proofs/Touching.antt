@@ -1,15 +1,13 @@
--- What happens touches one node, or none: what it does there, and that the calls made in the end
--- extend what the node's owner has made at each moment.
+-- What happens touches one node, or none: what it does there, and that what is handed in in the end
+-- extends what the node's owner has handed in at each moment.
 use Rattle.std.proofs.Common.{◌≡◌, ◌⊎◌, inl, inr, ℕ, List, [], ◌∷◌, map, set, take, slice_get, Contains, Some, option_map, refl, sym, ap, subst, ◌∙◌, arith, ⊎_elim}
 use Rattle.std.proofs.lemmas.Bool.{cases_eq}
 use Rattle.std.proofs.lemmas.List.Elements.{Contains-append_left, Contains-append_right, Contains-push_cases}
 use Rattle.std.proofs.lemmas.Option.{same_Some, slice_get-map}
 use Rattle.ivy_model.specs.declared.Config.{Config}
 use Rattle.ivy_model.specs.stated.Config.{IsConfig}
-use Rattle.ivy_program.specs.Programs.{handed}
 use Rattle.ivy_program.specs.stated.Programs.{Program}
 use Rattle.ivy_moves.proofs.Places.{set-cases, set-elsewhere, set-there}
-use Rattle.ivy_host.proofs.HandedHosts.{handed_none}
 use Rattle.ivy_site.specs.SiteView.{SiteView}
 use Rattle.ivy_embedded.specs.declared.lending.Lending.{Lending as Mark}
 use Rattle.ivy_embedded.specs.Exports.{ChangesWaiting}
@@ -19,6 +17,7 @@ use Rattle.ivy_embedded.specs.declared.status.TheConstants.{DONE}
 use Rattle.ivy_embedded.proofs.Going.{IsOwn, core_of}
 use Rattle.proof_embedded.specs.Driven.{Driven, program_in}
 use Rattle.proof_embedded.specs.Mapped.{Mapped, Happening, Ask, Lend, GiveBack, GoOn, Look, Point, HappensSo, HappenTo, IsCalled}
+use Rattle.proof_embedded.proofs.Additions.{grown}
 use Rattle.proof_embedded.proofs.Driving.{done_none, done_short}
 use Rattle.proof_embedded.proofs.Effects.{HasEffect, IsActed, IsEmptied, IsKept, asked_lent, chain_config, chain_extends, chain_own, effect, went_on}
 use Rattle.proof_embedded.proofs.Lifted.{Extends, program_of}
@@ -59,7 +58,7 @@ called c i old new call acted = record {
   effect = inl (acted, call.strings);
 }
 
--- the programs have all calls that the owners make
+-- the programs have all that the owners hand in
 abbrev pub AllExtend : List Program → Driven → Type 0
 AllExtend ps d = (i : ℕ) (e : Embedded) (p : Program) → slice_get d.nodes i ≡ Some e
     → slice_get ps i ≡ Some p → Extends p e.site
@@ -156,7 +155,7 @@ module _ (c : Config) (limits : IsConfig c) where
       let chain = acted.0.chain in
       chain_extends c s.lent strings p chain.acts s.site t.site within chain.all e
   extends_by p strings more s t kept (inr emptied) e =
-      (e.0, e.1 ∙ ap (λ (x : SiteView). handed e.0 (program_of x)) (emptied_same s t strings more emptied))
+      (e.0, e.1 ∙ ap (λ (x : SiteView). grown e.0 (program_of x)) (emptied_same s t strings more emptied))
 
   pub kept_on : (d d' : Driven) → AreKept c d → (d' ≡ d) ⊎ IsTouched c d d' → AreKept c d'
   kept_on d d' kept (inl same) j e at = subst (AreKept c) (sym same) kept j e at
@@ -194,7 +193,7 @@ module _ (c : Config) (limits : IsConfig c) where
       let is : program_in e ≡ p =
       same_Some (program_in e) p
       (sym (slice_get-map program_in d.nodes i ∙ ap (option_map program_in) at) ∙ has) in
-      ([], sym is ∙ sym (handed_none (program_in e)))
+      ([], sym is)
 
   pub extended : (hs : List Happening) (m end : Mapped) → HappenTo c m hs end → AreKept c m.driven
       → AllExtend (map program_in end.driven.nodes) m.driven

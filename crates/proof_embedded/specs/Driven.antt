@@ -14,11 +14,13 @@ use Rattle.ivy_host.specs.stated.Managers.{Managed, managed_ops}
 use Rattle.ivy_embedded.specs.Blocks.{RefusesBlock, RefusesStores, StoresNoneRead}
 use Rattle.ivy_embedded.specs.Nodes.{Embedded, opened_embedded}
 use Rattle.ivy_embedded.specs.Exports.{Answers, Begins, BeginsBlock, CarriesOut, Delivers, IsRequest, Polls, Pulses, RefusesCall, RefusesPoll, RefusesPulse, RefusesString, TakesAt, TakesBlock, marks_at}
+use Rattle.ivy_embedded.specs.Fetches.{Fetches, RefusesFetch}
 use Rattle.ivy_embedded.specs.declared.status.TheConstants.{DONE}
 use Rattle.proof_worlds.specs.stated.Keeping.{Keeps}
 
 -- what the program asks of a node; the five numbers are those that a call is begun with, and a block
--- is read or written from an address on, or begun, and then taken, with these bytes of its buffer
+-- is read or written from an address on, or begun, and then taken, with these bytes of its buffer; a
+-- page is fetched ahead for what a number says
 pub data Request : Type 0 where
   Begin : ℕ → ℕ → ℕ → ℕ → ℕ → Request
   Reply : Request
@@ -28,6 +30,7 @@ pub data Request : Type 0 where
   BeginStoreBlock : ℕ → List ℕ → Request
   TakeLoadBlock : ℕ → Request
   TakeStoreBlock : ℕ → List ℕ → Request
+  Fetch : (page number : ℕ) → Request
   Deliver : List ℕ → Request
   NextFrame : Request
   Pulse : ℕ → Request
@@ -72,6 +75,9 @@ Does (TakeLoadBlock addr) strings s t more = (more ≡ strings)
 Does (TakeStoreBlock addr bytes) strings s t more = (more ≡ strings)
     × ((status words : ℕ) × Answers status (Some s) (Some t)
     (TakesBlock Stores addr bytes status words) (λ _. ⊥))
+Does (Fetch page number) strings s t more = (more ≡ strings)
+    × ((status told : ℕ) × Answers status (Some s) (Some t) (Fetches page number status told)
+    (RefusesFetch page number status))
 Does (Deliver bytes) strings s t more = (more ≡ strings) × Contains strings bytes
     × ((status what : ℕ) × Answers status (Some s) (Some t) (Delivers bytes status what)
     (RefusesString bytes status))
@@ -107,7 +113,7 @@ opened o c = record { nodes = first_from o c 0 c.nodes; strings = [] }
 abbrev pub node_in : Embedded → Node (Host Managed)
 node_in e = e.site.node
 
--- the calls that were begun at the node
+-- the calls that were begun at the node, and the pages that were fetched ahead there
 abbrev pub program_in : Embedded → Program
 program_in e = e.site.node.core.process.program
 
@@ -124,8 +130,9 @@ AreUntorn order d = (i : ℕ) (e : Embedded) → slice_get d.nodes i ≡ Some e
     → IsUntorn order i (answered_by (node_in e).core)
 
 -- they are the nodes of a world that moves lead to from this opening of programs that make the
--- calls begun, all that is promised of such a world holds of it, and the strings were sent in it; an
--- order explains it, and tears no calls apart that a node had in progress together at such a moment
+-- calls begun and fetch the pages fetched, all that is promised of such a world holds of it, and the
+-- strings were sent in it; an order explains it, and tears no calls apart that a node had in progress
+-- together at such a moment
 pub record AreOfOneRun (o : Opening) (c : Config) (past : List Driven) (d : Driven)
     : Type 0 where
   pub world : World (Host Managed)

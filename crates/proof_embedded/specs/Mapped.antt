@@ -181,7 +181,8 @@ module _ (c : Config) where
       × GrowAsOneMemory led.0 (made ++ more) hs end led.2)
 
   -- the nodes are those of a world that moves lead to from this opening of programs that make the
-  -- calls begun, all that is promised of such a world holds of it, and the strings were sent in it
+  -- calls begun and fetch the pages fetched, all that is promised of such a world holds of it, and the
+  -- strings were sent in it
   pub record AreOfOneWorld (o : Opening) (d : Driven) : Type 0 where
     pub world : World (Host Managed)
     pub keeps : Keeps (record {

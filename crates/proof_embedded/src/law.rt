@@ -5,9 +5,10 @@ ghost use Rattle.proof_embedded.specs.Mapped.{BlocksArePages, NodesThatLendAreFl
 /// Nodes that a program drives are the nodes of one run. This is a fact, and the call does nothing.
 ///
 /// All nodes of a configuration begin by one opening, whichever it is. Then the program makes any calls of the functions
-/// that begin a call, ask for its reply, read or write a block, begin one and take its replies, deliver a string, take a
-/// string out and pulse, at any of the nodes, in any order, with whatever they answer. It delivers only strings that were
-/// taken out before. So the nodes are those of a world that moves lead to, of programs that make the calls begun.
+/// that begin a call, ask for its reply, read or write a block, begin one and take its replies, fetch a page ahead, deliver a
+/// string, take a string out and pulse, at any of the nodes, in any order, with whatever they answer. It delivers only
+/// strings that were taken out before. So the nodes are those of a world that moves lead to, of programs that make the calls
+/// begun and fetch the pages fetched.
 ///
 /// All holds of them that is promised of such a world: one order of records, growing from move to move, is legal and
 /// has each node's history as its part. A block that is read or written is a call for each of its words, and one that

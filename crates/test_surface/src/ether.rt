@@ -130,7 +130,7 @@ fn open_ether<S: Setup>(
     config: &Config,
 ) -> (Ether<S, Global>, Vec<Pass<Wired<Global>>, Global>)
     requires config { config.now ≡ S.config }
-    requires programs { S.programs ≡ replicate S.config.nodes (Called []) }
+    requires programs { S.programs ≡ replicate S.config.nodes (Called [] []) }
 {
     Ether::<S, Global>::open(alloc, config, 1, 2).expect(rt, "memory")
 }

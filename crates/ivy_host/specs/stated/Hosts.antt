@@ -7,20 +7,21 @@ use Rattle.ivy_model.specs.declared.Reply.{Reply}
 use Rattle.ivy_model.specs.stated.Explains.{Answered}
 use Rattle.ivy_wire.specs.stated.Data.{Message}
 use Rattle.ivy_pagetable.specs.stated.Manager.{Ops}
+use Rattle.ivy_program.specs.stated.Programs.{HandedFetch}
 use Rattle.ivy_program.specs.stated.InstructionSteps.{Process, Step, Local, Asks, Ends, step_of, along_of, at_state, answered_with}
 use Rattle.ivy_moves.specs.stated.Cores.{Core, Outcome}
 use Rattle.ivy_alloc.specs.declared.CallProgress.{CallProgress}
 use Rattle.ivy_alloc.specs.declared.CallProgress.TheVariants.{Given, Awaited, Unserved}
 use Rattle.ivy_memory.specs.stated.Memories.{NodeMemory, CallBegun, MemoryFetch, in_progress, call_begun, polled, memory_fetched, memory_handled, memory_told}
-use Rattle.ivy_host.specs.stated.Fetches.{Fetches, HandedFetch, due_of, used_up}
+use Rattle.ivy_host.specs.stated.Fetches.{due_of}
 
--- a node's memory, its program and where it stands, what it was answered, and the pages that it was
--- handed to fetch ahead
+-- a node's memory, its program and where it stands, what it was answered, and how many of the pages
+-- that its program has fetched ahead are used up
 pub record Host (S : Type 0) : Type 0 where
   pub memory : NodeMemory S
   pub process : Process
   pub history : List Record
-  pub fetches : Fetches
+  pub used : ℕ
 
 module _ {S : Type 0} where
   -- the number of the host's node
@@ -38,7 +39,7 @@ module _ {S : Type 0} where
     memory = m;
     process = answered_with n.process r;
     history = n.history ++ record { node = number_of n; call = c; reply = r } ∷ [];
-    fetches = n.fetches;
+    used = n.used;
   }
 
   -- the host goes on to this one, and posts nothing
@@ -56,12 +57,12 @@ module _ {S : Type 0} where
   -- the fetch that is due: no more calls were handed before it than were answered or are in progress
   abbrev pub due : Host S → Option HandedFetch
   due n = due_of n.process.program
-      (n.process.state.place + length (in_progress n.memory.asked n.memory.along)) n.fetches
+      (n.process.state.place + length (in_progress n.memory.asked n.memory.along)) n.used
 
   -- a fetch is used up, whatever came of it
   abbrev pub fetched_with : Host S → MemoryFetch S → Outcome (Host S)
   fetched_with n f = record {
-    after = record n { memory = f.after; fetches = used_up n.fetches };
+    after = record n { memory = f.after; used = n.used + 1 };
     posted = f.posted;
   }
 

@@ -12,7 +12,6 @@ use Rattle.ivy_moves.specs.stated.Worlds.{World}
 use Rattle.ivy_memory.specs.stated.Memories.{new_memory}
 use Rattle.ivy_host.specs.declared.opening.Opening.{Opening}
 use Rattle.ivy_host.specs.declared.opening.Opening.TheVariants.{Configured, Steady}
-use Rattle.ivy_host.specs.stated.Fetches.{HandedFetch}
 use Rattle.ivy_host.specs.stated.Hosts.{Host}
 use Rattle.ivy_host.specs.stated.Managers.{Managed, Dynamic, managed_ops}
 
@@ -21,19 +20,14 @@ use Rattle.ivy_host.specs.stated.Managers.{Managed, Dynamic, managed_ops}
 pub record Start (S : Type 0) : Type 0 where
   pub sends_on : Bool
   pub manager : Config → ℕ → S
-  pub fetches : ℕ → List HandedFetch
 
 -- the start by a manager: requests that find a copy awaited are put off
 abbrev pub start_of : {S : Type 0} → Ops S → Start S
-start_of ops = record { sends_on = false; manager = ops.first; fetches = λ me. [] }
+start_of ops = record { sends_on = false; manager = ops.first }
 
 -- the start by steady hints, whatever manager the configuration names
 abbrev pub steady_start : Start Managed
-steady_start = record {
-  sends_on = true;
-  manager = λ c me. Dynamic (steady_hints c me);
-  fetches = λ me. [];
-}
+steady_start = record { sends_on = true; manager = λ c me. Dynamic (steady_hints c me) }
 
 -- so the nodes of a world begin
 abbrev pub managed_start : Opening → Start Managed
@@ -41,13 +35,13 @@ managed_start Configured = start_of managed_ops
 managed_start Steady = steady_start
 
 module _ {S : Type 0} (start : Start S) where
-  -- no instruction was carried out, no reply recorded, and no fetch handed
+  -- no instruction was carried out, no reply recorded, and no fetch used up
   abbrev pub first_host : Config → ℕ → Program → Host S
   first_host c me program = record {
     memory = new_memory start.sends_on c me (start.manager c me);
     process = record { program = program; state = first_state };
     history = [];
-    fetches = record { handed = start.fetches me; used = 0 };
+    used = 0;
   }
 
   -- a node as it begins: no instruction was carried out, and nothing was sent either way

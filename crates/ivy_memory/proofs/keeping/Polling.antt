@@ -1,5 +1,5 @@
 -- A call that is asked for its reply: what it keeps, and how the code has it.
-use Rattle.std.proofs.Common.{◌≡◌, ℕ, ◌+◌, ◌<◌, ◌≤◌, drop, is_some, slice_get, Bool, true, false, List, [], ◌∷◌, length, Option, Some, None, Result, Ok, Err, OnErr, refl, sym, ap, ◌∙◌, subst, arith, if◌then◌else◌, ◌⊎◌, inl, inr}
+use Rattle.std.proofs.Common.{◌≡◌, ℕ, ◌+◌, ◌<◌, ◌≤◌, ◌&&◌, drop, is_none, is_some, slice_get, Bool, true, false, List, [], ◌∷◌, length, Option, Some, None, Result, Ok, Err, OnErr, refl, sym, ap, ◌∙◌, subst, arith, if◌then◌else◌, ◌⊎◌, inl, inr}
 use Rattle.std.specs.Prelude.{All}
 use Rattle.ivy_model.specs.declared.Config.{Config}
 use Rattle.ivy_model.specs.declared.Call.{Call}
@@ -35,7 +35,7 @@ use Rattle.ivy_memory.specs.stated.Asking.{asked_of}
 use Rattle.ivy_alloc.specs.stated.HeapCalls.{HeapSide, closed}
 use Rattle.ivy_memory.specs.stated.Beside.{nothing_beside}
 use Rattle.ivy_memory.specs.stated.Memories.{NodeMemory, CallBegun, reply_of, reply_at, without_call, taken_with, taken_out, answered, unserved, needed, again_unless, again, tried_as, polled_as, polled_at, polled}
-use Rattle.ivy_memory.specs.Memories.{MayFailAgain}
+use Rattle.ivy_memory.specs.Memories.{MayFailAgain, only_waits, waits_as, waits_for}
 use Rattle.ivy_memory.specs.stated.Sound.{IsSoundMemory}
 use Rattle.ivy_memory.proofs.serving.Asking.{can_ask}
 use Rattle.ivy_memory.proofs.serving.Sides.{word_words}
@@ -63,6 +63,36 @@ module _ {S : Type 0} (ops : Ops S) (m : NodeMemory S) (k : Call) (page : ℕ)
   polled-locked called untold =
       polled_so ops m k called ∙ ap (polled_as ops m k) untold
       ∙ tried-locked (asked_of m.coherence.config k)
+
+-- where it can only wait, to ask it for its reply changes nothing
+only-waiting : {S : Type 0} (ops : Ops S) (m : NodeMemory S) (k : Call) (a : Asked)
+    → a ≡ asked_of m.coherence.config k → m.asked ≡ Some k → reply_at m ≡ None
+    → (l : Option ℕ) → l ≡ m.coherence.locked → waits_as a l ≡ true → polled ops m ≡ unserved m
+only-waiting ops m k (asked.Word page word) is called untold None locked waits = absurd cc
+only-waiting ops m k (asked.Word page word) is called untold (Some l) locked waits =
+    polled-locked ops m k l (sym locked) called untold
+only-waiting ops m k (asked.Refused code) is called untold l locked waits =
+    polled_so ops m k called ∙ ap (polled_as ops m k) untold ∙ ap (tried_as ops m k) (sym is)
+only-waiting ops m k (asked.Heap h) is called untold l locked waits =
+    polled_so ops m k called ∙ ap (polled_as ops m k) untold ∙ ap (tried_as ops m k) (sym is)
+
+called-waits : {S : Type 0} (ops : Ops S) (m : NodeMemory S) (k : Call) (r : Option Reply)
+    → r ≡ reply_at m → m.asked ≡ Some k
+    → (is_none r && waits_as (asked_of m.coherence.config k) m.coherence.locked) ≡ true
+    → polled ops m ≡ unserved m
+called-waits ops m k (Some r) is called waits = absurd cc
+called-waits ops m k None is called waits =
+    only-waiting ops m k (asked_of m.coherence.config k) refl called (sym is) m.coherence.locked refl waits
+
+waits-unserved : {S : Type 0} (ops : Ops S) (m : NodeMemory S) (o : Option Call) → o ≡ m.asked
+    → waits_for m o ≡ true → polled ops m ≡ unserved m
+unfolding polled
+waits-unserved ops m None is waits = ap (polled_at ops m) (sym is)
+waits-unserved ops m (Some k) is waits = called-waits ops m k (reply_at m) refl (sym is) waits
+
+pub waiting_unserved : {S : Type 0} (ops : Ops S) (m : NodeMemory S) → only_waits m ≡ true
+    → polled ops m ≡ unserved m
+waiting_unserved ops m waits = waits-unserved ops m m.asked refl waits
 
 pub polled-waits : {S : Type 0} (ops : Ops S) (n v : NodeMemory S) → v ≡ n → (k : Call)
     → v.asked ≡ Some k → reply_at n ≡ None → (o : Option ℕ) → o ≡ v.coherence.locked

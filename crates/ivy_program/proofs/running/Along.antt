@@ -7,7 +7,7 @@ use Rattle.std.proofs.lemmas.List.Elements.{All-nil, All-cons}
 use Rattle.std.proofs.lemmas.Option.{same_Some, none-some}
 use Rattle.ivy_model.specs.declared.Call.{Call}
 use Rattle.ivy_model.specs.stated.Legal.{HasWidth}
-use Rattle.ivy_program.specs.stated.Programs.{Program, Written, Called, calls_in, has_width}
+use Rattle.ivy_program.specs.stated.Programs.{Program, Written, Called, calls_in, has_width, HandedFetch}
 use Rattle.ivy_program.specs.Programs.{IsCalled}
 use Rattle.ivy_program.specs.stated.States.{State, moved_on}
 use Rattle.ivy_program.specs.stated.InstructionSteps.{Process, Asks, Ends, step, step_of, called_at, up_to_width, behind, along, along_of, AsksRow}
@@ -107,8 +107,18 @@ later calls place c next s = record {
 }
 
 module _ (rows : List (List Call)) where
+  pub called_asks : (s : State) (k : Call) (o : Option Call) → slice_get (calls_in rows) s.place ≡ o
+      → called_at o ≡ Asks k → o ≡ Some k
+  called_asks s k None there asks = absurd (let f : Ends ≡ Asks k = asks in cc)
+  called_asks s k (Some c) there asks = either (has_width c) asks
+    where
+      either : (b : Bool) → (if b then Asks c else Ends) ≡ Asks k → Some c ≡ Some k
+      either true is = (let f : Asks c ≡ Asks k = is in let e : c ≡ k = cc in ap Some e)
+      either false is = absurd (let f : Ends ≡ Asks k = is in cc)
+
+module _ (fs : List HandedFetch) (rows : List (List Call)) where
   abbrev at : State → Process
-  at s = record { program = Called rows; state = s }
+  at s = record { program = Called rows fs; state = s }
 
   asks_on : (next : List Call) (s : State) → Stands (calls_in rows) s.place next
       → AsksRow (at s) (up_to_width next)
@@ -125,20 +135,11 @@ module _ (rows : List (List Call)) where
         λ r. next,
       )
 
-  pub called_asks : (s : State) (k : Call) (o : Option Call) → slice_get (calls_in rows) s.place ≡ o
-      → called_at o ≡ Asks k → o ≡ Some k
-  called_asks s k None there asks = absurd (let f : Ends ≡ Asks k = asks in cc)
-  called_asks s k (Some c) there asks = either (has_width c) asks
-    where
-      either : (b : Bool) → (if b then Asks c else Ends) ≡ Asks k → Some c ≡ Some k
-      either true is = (let f : Asks c ≡ Asks k = is in let e : c ≡ k = cc in ap Some e)
-      either false is = absurd (let f : Ends ≡ Asks k = is in cc)
-
-  asks_called : (s : State) (k : Call) → step (Called rows) s ≡ Asks k
+  asks_called : (s : State) (k : Call) → step (Called rows fs) s ≡ Asks k
       → AsksRow (at s) (k ∷ up_to_width (behind rows s.place))
   asks_called s k asks =
       let there : slice_get (calls_in rows) s.place ≡ Some k =
-      called_asks s k (slice_get (calls_in rows) s.place) refl asks in
+      called_asks rows s k (slice_get (calls_in rows) s.place) refl asks in
       let stands = behind_stands rows s.place k there in (
         asks,
         λ r. asks_on (behind rows s.place) (moved_on s)
@@ -152,12 +153,12 @@ asks_along p k asks = at p.program refl asks
     at : (q : Program) → p.program ≡ q → step q p.state ≡ Asks k
         → AsksRow (record { program = q; state = p.state }) (k ∷ along q p.state)
     at (Written is) same asks = (asks, λ r. tt)
-    at (Called rows) same asks = asks_called rows p.state k asks
+    at (Called rows fs) same asks = asks_called fs rows p.state k asks
 
 -- own code alone makes calls along with another
 pub along_called : (p : Program) (s : State) → along p s ≢ [] → IsCalled p
 along_called (Written is) s more = absurd (more refl)
-along_called (Called rows) s more = tt
+along_called (Called rows fs) s more = tt
 
 -- with widths that a word can have
 wide : (calls : List Call) → All HasWidth (up_to_width calls)
@@ -174,4 +175,4 @@ along_wide p = at p.program
   where
     at : (q : Program) → All HasWidth (along q p.state)
     at (Written is) = All-nil HasWidth
-    at (Called rows) = wide (behind rows p.state.place)
+    at (Called rows fs) = wide (behind rows p.state.place)

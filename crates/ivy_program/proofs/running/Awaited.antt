@@ -13,8 +13,8 @@ use Rattle.ivy_model.specs.declared.Row.TheVariants.{Loads, Stores}
 use Rattle.ivy_model.specs.stated.Legal.{HasWidth}
 use Rattle.ivy_model.specs.Rows.{calls_of, numbers_in, record_in, row}
 use Rattle.ivy_model.proofs.Rows.{length-numbers_in, length-row}
-use Rattle.ivy_program.specs.OwnCode.{AsksNext, IsLastOf, Rests, asking, awaiting, process_handed}
-use Rattle.ivy_program.specs.stated.Programs.{Program, Written, Called, calls_in}
+use Rattle.ivy_program.specs.OwnCode.{AsksNext, IsLastOf, LacksReplies, Rests, asking, awaiting, process_handed}
+use Rattle.ivy_program.specs.stated.Programs.{HandedFetch, Program, Written, Called, calls_in, fetches_of}
 use Rattle.ivy_program.specs.stated.States.{first_state, gone_to}
 use Rattle.ivy_program.specs.stated.InstructionSteps.{Process, Asks, Ends, AsksRow, step_of, answered_with, called_at, up_to_width, behind, along_of}
 use Rattle.ivy_program.specs.InstructionSteps.{HasEnded, IsAsking, AsksMany, answered_all}
@@ -36,8 +36,8 @@ there (c ∷ cs) zero within = (c, refl)
 there (c ∷ cs) (suc k) within = there cs k (omega (arith, within))
 
 -- some of the calls of the last row have no reply yet
-module _ (before : List (List Call)) (row : List Call) (wide : All HasWidth row) (left : ℕ)
-    (some : 0 < left) (enough : left ≤ length row) where
+module _ (before : List (List Call)) (row : List Call)
+    (wide : All HasWidth row) (left : ℕ) (some : 0 < left) (enough : left ≤ length row) where
   abbrev rows : List (List Call)
   rows = before ++ row ∷ []
 
@@ -62,7 +62,7 @@ module _ (before : List (List Call)) (row : List Call) (wide : All HasWidth row)
       (let e : length (calls_in before) + place - length (calls_in before) ≡ place = omega arith in e)
 
   -- it asks for the first of them
-  asks_first : (c : Call) → slice_get row place ≡ Some c → step_of (awaiting rows left) ≡ Asks c
+  asks_first : (c : Call) → slice_get row place ≡ Some c → step_of (awaiting [] rows left) ≡ Asks c
   asks_first c is =
       ap called_at (got ∙ is)
       ∙ ap (λ b. if b then Asks c else Ends)
@@ -71,7 +71,7 @@ module _ (before : List (List Call)) (row : List Call) (wide : All HasWidth row)
       (wide place c (slice_get_within row place c is))))
 
   -- and along with it for the others
-  others : along_of (awaiting rows left) ≡ drop (place + 1) row
+  others : along_of (awaiting [] rows left) ≡ drop (place + 1) row
   others =
       ap (λ k. up_to_width (behind rows k)) here
       ∙ ap up_to_width
@@ -80,56 +80,25 @@ module _ (before : List (List Call)) (row : List Call) (wide : All HasWidth row)
       (lt-ltb place (length row) (omega (arith, some, enough))))
       ∙ all_wide (drop (place + 1) row) (All-drop HasWidth (place + 1) row wide)
 
-settled : (rows : List (List Call)) → asking rows None ≡ awaiting rows 0
-settled rows =
-    ap (λ n. record { program = Called rows; state = gone_to first_state n })
+settled : (fs : List HandedFetch) (rows : List (List Call)) → asking fs rows None ≡ awaiting fs rows 0
+settled fs rows =
+    ap (λ n. record { program = Called rows fs; state = gone_to first_state n })
     (let e : length (calls_in rows) ≡ length (calls_in rows) - 0 = omega arith in e)
 
--- own code of which each call has its reply
+same : (fs : List HandedFetch) (rows : List (List Call)) (left : ℕ) → left ≡ 0
+    → asking fs rows None ≡ awaiting fs rows left
+same fs rows left none = settled fs rows ∙ ap (awaiting fs rows) (sym none)
+
+pub rests_none : (fs : List HandedFetch) (rows : List (List Call)) (left : ℕ) → left ≡ 0
+    → Rests (awaiting fs rows left)
+rests_none fs rows left none = (fs, rows, sym (same fs rows left none))
+
 module _ (rows : List (List Call)) (left : ℕ) (none : left ≡ 0) where
-  same : asking rows None ≡ awaiting rows left
-  same = settled rows ∙ ap (awaiting rows) (sym none)
-
-  pub ended_none : HasEnded (awaiting rows left)
-  ended_none = subst HasEnded same (all_answered rows)
-
-  along_none : along_of (awaiting rows left) ≡ []
-  along_none = ap along_of (sym same) ∙ alone_waiting rows None
-
-  pub next_none : AsksNext (awaiting rows left)
-  next_none = subst AsksNext same (asks_next rows None refl)
-
   -- no call is to be named
   pub none_last : (last : Option Call) → IsLastOf rows last left
   none_last last = record { together = λ some. absurd (omega (arith, none, some)) }
 
-  pub rests_none : Rests (awaiting rows left)
-  rests_none = (rows, sym same)
-
--- own code of which the last calls have none
 module _ (rows : List (List Call)) (last : Option Call) (left : ℕ) (is : IsLastOf rows last left) where
-  asks_some : 0 < left → IsAsking (awaiting rows left)
-  asks_some some =
-      let e = is.together some in
-      let c = there e.row (length e.row - left) (omega (arith, some, e.enough)) in
-      subst (λ (rs : List (List Call)). IsAsking (awaiting rs left)) (sym e.rows_are)
-      (c.0, asks_first e.before e.row e.wide left some e.enough c.0 c.1)
-
-  pub none_left : HasEnded (awaiting rows left) → left ≡ 0
-  none_left ended = either left refl
-    where
-      either : (n : ℕ) → left ≡ n → left ≡ 0
-      either zero l = l
-      either (suc n) l =
-          let a = asks_some (omega (arith, l)) in absurd (let f : Asks a.0 ≡ Ends = sym a.1 ∙ ended in cc)
-
-  pub some_left : IsAsking (awaiting rows left) → 0 < left
-  some_left asks = either left refl
-    where
-      either : (n : ℕ) → left ≡ n → 0 < left
-      either zero l = absurd (let f : Asks asks.0 ≡ Ends = sym asks.1 ∙ ended_none rows left l in cc)
-      either (suc n) l = omega (arith, l)
-
   pub inside : left ≤ length (calls_in rows)
   inside = either left refl
     where
@@ -143,6 +112,10 @@ module _ (rows : List (List Call)) (last : Option Call) (left : ℕ) (is : IsLas
           let rs : length (calls_in rows) ≡ length (calls_in (e.before ++ e.row ∷ [])) =
           ap (λ (xs : List (List Call)). length (calls_in xs)) e.rows_are in
           omega (arith, all, rs, e.enough)
+
+  -- so many of them have no reply
+  pub lacking : (fs : List HandedFetch) → LacksReplies left (awaiting fs rows left)
+  lacking fs = record { fetches = fs; rows = rows; program = refl; all = omega (arith, inside) }
 
   -- the same, once some more of them have one
   pub fewer_left : (fewer : ℕ) → fewer ≤ left → IsLastOf rows last fewer
@@ -159,18 +132,61 @@ module _ (rows : List (List Call)) (last : Option Call) (left : ℕ) (is : IsLas
         };
   }
 
+  pub last_wide : 0 < left → (call : Call) → last ≡ Some call → HasWidth call
+  last_wide some call l =
+      let e = is.together some in
+      let at : slice_get e.row (length e.row - 1) ≡ Some call = e.ends ∙ l in
+      subst HasWidth (get_or_from_slice_get e.row (length e.row - 1) call call at)
+      (e.wide (length e.row - 1) call (slice_get_within e.row (length e.row - 1) call at))
+
+-- own code of which each call has its reply
+module _ (rows : List (List Call)) (left : ℕ) (none : left ≡ 0) where
+  pub ended_none : HasEnded (awaiting [] rows left)
+  ended_none = subst HasEnded (same [] rows left none) (all_answered rows)
+
+  along_none : along_of (awaiting [] rows left) ≡ []
+  along_none = ap along_of (sym (same [] rows left none)) ∙ alone_waiting rows None
+
+  pub next_none : AsksNext (awaiting [] rows left)
+  next_none = subst AsksNext (same [] rows left none) (asks_next rows None refl)
+
+-- own code of which the last calls have none
+module _ (rows : List (List Call)) (last : Option Call) (left : ℕ)
+    (is : IsLastOf rows last left) where
+  asks_some : 0 < left → IsAsking (awaiting [] rows left)
+  asks_some some =
+      let e = is.together some in
+      let c = there e.row (length e.row - left) (omega (arith, some, e.enough)) in
+      subst (λ (rs : List (List Call)). IsAsking (awaiting [] rs left)) (sym e.rows_are)
+      (c.0, asks_first e.before e.row e.wide left some e.enough c.0 c.1)
+
+  pub none_left : HasEnded (awaiting [] rows left) → left ≡ 0
+  none_left ended = either left refl
+    where
+      either : (n : ℕ) → left ≡ n → left ≡ 0
+      either zero l = l
+      either (suc n) l =
+          let a = asks_some (omega (arith, l)) in absurd (let f : Asks a.0 ≡ Ends = sym a.1 ∙ ended in cc)
+
+  pub some_left : IsAsking (awaiting [] rows left) → 0 < left
+  some_left asks = either left refl
+    where
+      either : (n : ℕ) → left ≡ n → 0 < left
+      either zero l = absurd (let f : Asks asks.0 ≡ Ends = sym asks.1 ∙ ended_none rows left l in cc)
+      either (suc n) l = omega (arith, l)
+
   -- what is made along with the next of some of them
   along_some : (some : 0 < left) (n : ℕ) → n ≤ left → 0 < n
-      → along_of (awaiting rows n) ≡ drop (length (is.together some).row - n + 1) (is.together some).row
+      → along_of (awaiting [] rows n) ≡ drop (length (is.together some).row - n + 1) (is.together some).row
   along_some some n le any =
       let e = is.together some in
-      ap (λ (rs : List (List Call)). along_of (awaiting rs n)) e.rows_are
+      ap (λ (rs : List (List Call)). along_of (awaiting [] rs n)) e.rows_are
       ∙ others e.before e.row e.wide n any (omega (arith, le, e.enough))
 
-  along_long : length (along_of (awaiting rows left)) ≡ left - 1
+  along_long : length (along_of (awaiting [] rows left)) ≡ left - 1
   along_long = either left refl
     where
-      either : (n : ℕ) → left ≡ n → length (along_of (awaiting rows left)) ≡ left - 1
+      either : (n : ℕ) → left ≡ n → length (along_of (awaiting [] rows left)) ≡ left - 1
       either zero l =
           ap length (along_none rows left l) ∙ (let e : 0 ≡ left - 1 = omega (arith, l) in e)
       either (suc n) l =
@@ -183,14 +199,14 @@ module _ (rows : List (List Call)) (last : Option Call) (left : ℕ) (is : IsLas
 
   -- it is less by the calls that have a reply
   pub along_fewer : (count : ℕ) → count ≤ left
-      → along_of (awaiting rows (left - count)) ≡ drop count (along_of (awaiting rows left))
+      → along_of (awaiting [] rows (left - count)) ≡ drop count (along_of (awaiting [] rows left))
   along_fewer count le = either (left - count) refl
     where
       either : (n : ℕ) → left - count ≡ n
-          → along_of (awaiting rows (left - count)) ≡ drop count (along_of (awaiting rows left))
+          → along_of (awaiting [] rows (left - count)) ≡ drop count (along_of (awaiting [] rows left))
       either zero l =
           along_none rows (left - count) l
-          ∙ sym (drop_all count (along_of (awaiting rows left)) (omega (arith, l, along_long)))
+          ∙ sym (drop_all count (along_of (awaiting [] rows left)) (omega (arith, l, along_long)))
       either (suc n) l =
           let some : 0 < left = omega (arith, l) in
           let e = is.together some in
@@ -202,13 +218,13 @@ module _ (rows : List (List Call)) (last : Option Call) (left : ℕ) (is : IsLas
           ∙ ap (drop count) (sym (along_some some left (omega arith) some))
 
   -- where no call is made along with the next, that is the last
-  module _ (some : 0 < left) (alone : along_of (awaiting rows left) ≡ []) where
+  module _ (some : 0 < left) (alone : along_of (awaiting [] rows left) ≡ []) where
     one : left ≡ 1
     one =
         let e = is.together some in
         let none : drop (length e.row - left + 1) e.row ≡ [] =
         sym (others e.before e.row e.wide left some e.enough)
-        ∙ ap (λ (rs : List (List Call)). along_of (awaiting rs left)) (sym e.rows_are)
+        ∙ ap (λ (rs : List (List Call)). along_of (awaiting [] rs left)) (sym e.rows_are)
         ∙ alone in
         let short : length e.row - (length e.row - left + 1) ≡ 0 =
         sym (length-drop (length e.row - left + 1) e.row) ∙ ap length none in
@@ -220,105 +236,90 @@ module _ (rows : List (List Call)) (last : Option Call) (left : ℕ) (is : IsLas
         let c = there e.row (length e.row - 1) (omega (arith, some, e.enough)) in
         none-some c.0 (sym not ∙ sym e.ends ∙ c.1)
 
-    pub asks_last : (call : Call) → last ≡ Some call → step_of (awaiting rows left) ≡ Asks call
+    pub asks_last : (call : Call) → last ≡ Some call → step_of (awaiting [] rows left) ≡ Asks call
     asks_last call l =
         let e = is.together some in
         let at : length e.row - left ≡ length e.row - 1 = omega (arith, one) in
-        subst (λ (rs : List (List Call)). step_of (awaiting rs left) ≡ Asks call) (sym e.rows_are)
+        subst (λ (rs : List (List Call)). step_of (awaiting [] rs left) ≡ Asks call) (sym e.rows_are)
         (asks_first e.before e.row e.wide left some e.enough call
         (ap (slice_get e.row) at ∙ e.ends ∙ l))
 
   -- whether no call is made along with the next
-  pub alone_left : left ≤ 1 → along_of (awaiting rows left) ≡ []
+  pub alone_left : left ≤ 1 → along_of (awaiting [] rows left) ≡ []
   alone_left few = either left refl
     where
-      either : (n : ℕ) → left ≡ n → along_of (awaiting rows left) ≡ []
+      either : (n : ℕ) → left ≡ n → along_of (awaiting [] rows left) ≡ []
       either zero l = along_none rows left l
       either (suc n) l =
           let some : 0 < left = omega (arith, l) in
           let e = is.together some in
-          ap (λ (rs : List (List Call)). along_of (awaiting rs left)) e.rows_are
+          ap (λ (rs : List (List Call)). along_of (awaiting [] rs left)) e.rows_are
           ∙ others e.before e.row e.wide left some e.enough
           ∙ drop_all (length e.row - left + 1) e.row (omega (arith, few, e.enough))
 
-  pub left_alone : along_of (awaiting rows left) ≡ [] → left ≤ 1
+  pub left_alone : along_of (awaiting [] rows left) ≡ [] → left ≤ 1
   left_alone alone = either left refl
     where
       either : (n : ℕ) → left ≡ n → left ≤ 1
       either zero l = omega (arith, l)
       either (suc n) l = omega (arith, one (omega (arith, l)) alone)
 
-  pub last_wide : 0 < left → (call : Call) → last ≡ Some call → HasWidth call
-  last_wide some call l =
-      let e = is.together some in
-      let at : slice_get e.row (length e.row - 1) ≡ Some call = e.ends ∙ l in
-      subst HasWidth (get_or_from_slice_get e.row (length e.row - 1) call call at)
-      (e.wide (length e.row - 1) call (slice_get_within e.row (length e.row - 1) call at))
-
 -- own code that was answered so many calls
-abbrev answered_at : List (List Call) → ℕ → Process
-answered_at rows place = record { program = Called rows; state = gone_to first_state place }
+abbrev answered_at : List HandedFetch → List (List Call) → ℕ → Process
+answered_at fs rows place = record { program = Called rows fs; state = gone_to first_state place }
 
 -- what a reply changes
-pub answered_one : (rows : List (List Call)) (left : ℕ) (reply : Reply) → 0 < left
+pub answered_one : (fs : List HandedFetch) (rows : List (List Call)) (left : ℕ) (reply : Reply) → 0 < left
     → left ≤ length (calls_in rows)
-    → awaiting rows (left - 1) ≡ answered_with (awaiting rows left) reply
-answered_one rows left reply some within =
-    ap (answered_at rows)
+    → awaiting fs rows (left - 1) ≡ answered_with (awaiting fs rows left) reply
+answered_one fs rows left reply some within =
+    ap (answered_at fs rows)
     (let e : length (calls_in rows) - (left - 1) ≡ length (calls_in rows) - left + 1 =
     omega (arith, some, within) in e)
 
-asked_within : (rows : List (List Call)) (place : ℕ) (calls : List Call)
-    → place ≤ length (calls_in rows) → AsksRow (answered_at rows place) calls
+asked_within : (fs : List HandedFetch) (rows : List (List Call)) (place : ℕ) (calls : List Call)
+    → place ≤ length (calls_in rows) → AsksRow (answered_at fs rows place) calls
     → place + length calls ≤ length (calls_in rows)
-asked_within rows place [] le asks = omega (arith, le)
-asked_within rows place (c ∷ cs) le asks =
+asked_within fs rows place [] le asks = omega (arith, le)
+asked_within fs rows place (c ∷ cs) le asks =
     let at : slice_get (calls_in rows) place ≡ Some c =
     called_asks rows (gone_to first_state place) c (slice_get (calls_in rows) place) refl asks.0 in
     let next : place < length (calls_in rows) = slice_get_within (calls_in rows) place c at in
     let rest : place + 1 + length cs ≤ length (calls_in rows) =
-    asked_within rows (place + 1) cs (omega (arith, next)) (asks.1 Done) in
+    asked_within fs rows (place + 1) cs (omega (arith, next)) (asks.1 Done) in
     omega (arith, rest)
 
-answered_many : (rows : List (List Call)) (place : ℕ) (replies : List Reply)
-    → answered_at rows (place + length replies) ≡ answered_all (answered_at rows place) replies
-answered_many rows place [] = ap (answered_at rows) (omega arith)
-answered_many rows place (r ∷ rs) =
-    ap (answered_at rows) (let e : place + suc (length rs) ≡ place + 1 + length rs = omega arith in e)
-    ∙ answered_many rows (place + 1) rs
+answered_many : (fs : List HandedFetch) (rows : List (List Call)) (place : ℕ) (replies : List Reply)
+    → answered_at fs rows (place + length replies) ≡ answered_all (answered_at fs rows place) replies
+answered_many fs rows place [] = ap (answered_at fs rows) (omega arith)
+answered_many fs rows place (r ∷ rs) =
+    ap (answered_at fs rows) (let e : place + suc (length rs) ≡ place + 1 + length rs = omega arith in e)
+    ∙ answered_many fs rows (place + 1) rs
 
-module _ (rows : List (List Call)) (last : Option Call) (left count : ℕ) (is : IsLastOf rows last left)
-    (asks : AsksMany (awaiting rows left) count) where
+module _ (fs : List HandedFetch) (rows : List (List Call)) (last : Option Call) (left count : ℕ)
+    (is : IsLastOf rows last left) (asks : AsksMany (awaiting fs rows left) count) where
   -- no more calls have their replies than had none
   pub asked_left : count ≤ left
   asked_left =
       let all : left ≤ length (calls_in rows) = inside rows last left is in
       let most : length (calls_in rows) - left + length asks.0 ≤ length (calls_in rows) =
-      asked_within rows (length (calls_in rows) - left) asks.0 (omega arith) asks.2 in
+      asked_within fs rows (length (calls_in rows) - left) asks.0 (omega arith) asks.2 in
       omega (arith, all, most, asks.1)
 
   pub answered_row : (replies : List Reply) → length replies ≡ count
-      → awaiting rows (left - count) ≡ answered_all (awaiting rows left) replies
+      → awaiting fs rows (left - count) ≡ answered_all (awaiting fs rows left) replies
   answered_row replies long =
-      ap (answered_at rows)
+      ap (answered_at fs rows)
       (let e : length (calls_in rows) - (left - count) ≡ length (calls_in rows) - left + length replies =
       (let all : left ≤ length (calls_in rows) = inside rows last left is in
       omega (arith, all, asked_left, long)) in e)
-      ∙ answered_many rows (length (calls_in rows) - left) replies
+      ∙ answered_many fs rows (length (calls_in rows) - left) replies
 
--- a row more is made, where each call has its reply
-module _ (rows : List (List Call)) (left : ℕ) (none : left ≡ 0) (calls : List Call) where
+module _ (rows : List (List Call)) (calls : List Call) where
   longer : length (calls_in (rows ++ calls ∷ [])) ≡ length (calls_in rows) + length calls
   longer =
       ap length (calls-append rows (calls ∷ []) ∙ ap (λ xs. calls_in rows ++ xs) (append-nil calls))
       ∙ length-append (calls_in rows) calls
-
-  pub handed_together : (count : ℕ) → length calls ≡ count
-      → awaiting (rows ++ calls ∷ []) count ≡ process_handed (calls ∷ []) (awaiting rows left)
-  handed_together count long =
-      ap (answered_at (rows ++ calls ∷ []))
-      (let e : length (calls_in (rows ++ calls ∷ [])) - count ≡ length (calls_in rows) - left =
-      omega (arith, longer, long, none) in e)
 
   pub ends_together : (count : ℕ) → length calls ≡ count → All HasWidth calls → (last : Option Call)
       → last ≡ slice_get calls (count - 1) → IsLastOf (rows ++ calls ∷ []) last count
@@ -334,28 +335,39 @@ module _ (rows : List (List Call)) (left : ℕ) (none : left ≡ 0) (calls : Lis
         };
   }
 
+-- a row more is made, where each call has its reply
+module _ (fs : List HandedFetch) (rows : List (List Call)) (left : ℕ) (none : left ≡ 0) (calls : List Call) where
+  pub handed_together : (count : ℕ) → length calls ≡ count
+      → awaiting fs (rows ++ calls ∷ []) count ≡ process_handed (calls ∷ []) (awaiting fs rows left)
+  handed_together count long =
+      ap (answered_at fs (rows ++ calls ∷ []))
+      (let e : length (calls_in (rows ++ calls ∷ [])) - count ≡ length (calls_in rows) - left =
+      omega (arith, longer rows calls, long, none) in e)
+
 -- a call that is answered at once
-pub handed_answered : (rows : List (List Call)) (left : ℕ) (call : Call) (reply : Reply) → left ≡ 0
-    → awaiting (rows ++ (call ∷ []) ∷ []) left
-    ≡ answered_with (process_handed ((call ∷ []) ∷ []) (awaiting rows left)) reply
-handed_answered rows left call reply none =
-    ap (answered_at (rows ++ (call ∷ []) ∷ []))
+pub handed_answered : (fs : List HandedFetch) (rows : List (List Call)) (left : ℕ) (call : Call)
+    (reply : Reply) → left ≡ 0
+    → awaiting fs (rows ++ (call ∷ []) ∷ []) left
+    ≡ answered_with (process_handed ((call ∷ []) ∷ []) (awaiting fs rows left)) reply
+handed_answered fs rows left call reply none =
+    ap (answered_at fs (rows ++ (call ∷ []) ∷ []))
     (let e : length (calls_in (rows ++ (call ∷ []) ∷ [])) - left ≡ length (calls_in rows) - left + 1 =
     (let all : length (calls_in (rows ++ (call ∷ []) ∷ [])) ≡ length (calls_in rows) + 1 =
-    longer rows left none (call ∷ []) in omega (arith, all, none)) in e)
+    longer rows (call ∷ []) in omega (arith, all, none)) in e)
 
 rows_of : Program → List (List Call)
 rows_of (Written instructions) = []
-rows_of (Called rows) = rows
+rows_of (Called rows fs) = rows
 
 -- rows more that are answered at once
-pub handed_rows : (rows : List (List Call)) (left : ℕ) → left ≡ 0
-    → (before more : List (List Call)) → awaiting rows left ≡ asking before None
-    → awaiting (rows ++ more) left ≡ asking (before ++ more) None
+pub handed_rows : (fs : List HandedFetch) (rows : List (List Call)) (left : ℕ) → left ≡ 0
+    → (gs : List HandedFetch) (before more : List (List Call))
+    → awaiting fs rows left ≡ asking gs before None
+    → awaiting fs (rows ++ more) left ≡ asking gs (before ++ more) None
 unfolding rows_of
-handed_rows rows left none before more is =
-    ap (awaiting (rows ++ more)) none ∙ sym (settled (rows ++ more))
-    ∙ ap (λ xs. asking (xs ++ more) None) (ap (λ (p : Process). rows_of p.program) is)
+handed_rows fs rows left none gs before more is =
+    ap (awaiting fs (rows ++ more)) none ∙ sym (settled fs (rows ++ more))
+    ∙ (λ i. asking (fetches_of (is i).program) (rows_of (is i).program ++ more) None)
 
 -- the calls of a row of words
 pub record_wide : (kind : Row) (node addr number : ℕ) → HasWidth (record_in kind node addr number).call
@@ -383,10 +395,10 @@ module _ (p : Process) (rests : Rests p) (call : Call) (calls : List Call)
   some = let e : length (call ∷ calls) ≡ suc (length calls) = refl in omega (arith, e)
 
   begun : process_handed ((call ∷ calls) ∷ []) p
-      ≡ awaiting (rests.0 ++ (call ∷ calls) ∷ []) (length (call ∷ calls))
+      ≡ awaiting rests.0 (rests.1 ++ (call ∷ calls) ∷ []) (length (call ∷ calls))
   begun =
-      ap (process_handed ((call ∷ calls) ∷ [])) (rests.1 ∙ settled rests.0)
-      ∙ sym (handed_together rests.0 0 refl (call ∷ calls) (length (call ∷ calls)) refl)
+      ap (process_handed ((call ∷ calls) ∷ [])) (rests.2 ∙ settled rests.0 rests.1)
+      ∙ sym (handed_together rests.0 rests.1 0 refl (call ∷ calls) (length (call ∷ calls)) refl)
 
   none_before : length (call ∷ calls) - length (call ∷ calls) ≡ 0
   none_before = omega arith
@@ -394,13 +406,13 @@ module _ (p : Process) (rests : Rests p) (call : Call) (calls : List Call)
   pub together_asks : step_of (process_handed ((call ∷ calls) ∷ []) p) ≡ Asks call
   together_asks =
       ap step_of begun
-      ∙ asks_first rests.0 (call ∷ calls) wide (length (call ∷ calls)) some (omega arith) call
+      ∙ asks_first rests.1 (call ∷ calls) wide (length (call ∷ calls)) some (omega arith) call
       (ap (slice_get (call ∷ calls)) none_before)
 
   pub together_along : along_of (process_handed ((call ∷ calls) ∷ []) p) ≡ calls
   together_along =
       ap along_of begun
-      ∙ others rests.0 (call ∷ calls) wide (length (call ∷ calls)) some (omega arith)
+      ∙ others rests.1 (call ∷ calls) wide (length (call ∷ calls)) some (omega arith)
       ∙ ap (λ k. drop (k + 1) (call ∷ calls)) none_before
 
 -- one after another

@@ -1,14 +1,15 @@
 -- What a program does is the same where its owner makes further calls, as long as it has not ended.
-use Rattle.std.proofs.Common.{◌≡◌, ◌≢◌, ◌∙◌, ◌<◌, ◌+◌, ◌-◌, ℕ, inl, inr, List, [], ◌∷◌, ◌++◌, drop, length, length-append, slice_get, Option, Some, None, refl, sym, ap, arith, if◌then◌else◌}
+use Rattle.std.proofs.Common.{◌≡◌, ◌≢◌, ◌∙◌, ◌<◌, ◌+◌, ◌-◌, ℕ, Bool, inl, inr, List, [], ◌∷◌, ◌++◌, drop, length, length-append, slice_get, Option, Some, None, refl, sym, ap, subst, arith, if◌then◌else◌}
 use Rattle.std.proofs.lemmas.Bool.{cases_lt, lt-ltb, le-ltb}
 use Rattle.std.proofs.lemmas.List.{append_assoc}
 use Rattle.std.proofs.lemmas.Option.{slice_get_within}
 use Rattle.ivy_model.specs.declared.Call.{Call}
 use Rattle.ivy_model.specs.declared.Reply.{Reply}
 use Rattle.ivy_program.specs.stated.Programs.{Program, Written, Called, calls_in}
-use Rattle.ivy_program.specs.Programs.{IsCalled, handed}
+use Rattle.ivy_program.specs.Programs.{IsCalled, ahead, handed}
 use Rattle.ivy_program.specs.stated.States.{State}
-use Rattle.ivy_program.specs.stated.InstructionSteps.{Step, Ends, step, called_at, after_reply, up_to_width, behind, along}
+use Rattle.ivy_program.specs.OwnCode.{process_ahead}
+use Rattle.ivy_program.specs.stated.InstructionSteps.{Process, Step, Ends, AsksRow, step, answered_with, called_at, after_reply, up_to_width, behind, along}
 use Rattle.ivy_program.proofs.reading.Orders.{get_front}
 
 called_on : (calls more : List Call) (s : State) (o : Option Call) (t : Step)
@@ -51,7 +52,7 @@ behind_on (row ∷ rows) more place within = elim (cases_lt place (length row)) 
 pub handed_along : (more : List (List Call)) (p : Program) (s : State) → step p s ≢ Ends
     → along (handed more p) s ≡ along p s
 handed_along more (Written is) s goes = refl
-handed_along more (Called rows) s goes =
+handed_along more (Called rows fs) s goes =
     ap up_to_width (behind_on rows more s.place (inside (slice_get (calls_in rows) s.place) refl goes))
   where
     inside : (o : Option Call) → slice_get (calls_in rows) s.place ≡ o → called_at o ≢ Ends
@@ -63,7 +64,7 @@ handed_along more (Called rows) s goes =
 pub handed_step : (more : List (List Call)) (p : Program) (s : State) (t : Step) → step p s ≡ t → t ≢ Ends
     → step (handed more p) s ≡ t
 handed_step more (Written is) s t e goes = e
-handed_step more (Called rows) s t e goes =
+handed_step more (Called rows fs) s t e goes =
     ap (λ calls. called_at (slice_get calls s.place)) (calls-append rows more)
     ∙ called_on (calls_in rows) (calls_in more) s (slice_get (calls_in rows) s.place) t refl e goes
 
@@ -71,9 +72,41 @@ handed_step more (Called rows) s t e goes =
 pub handed_reply : (more : List (List Call)) (p : Program) (s : State) (r : Reply)
     → after_reply (handed more p) s r ≡ after_reply p s r
 handed_reply more (Written is) s r = refl
-handed_reply more (Called rows) s r = refl
+handed_reply more (Called rows fs) s r = refl
 
 -- own code stays own code
 pub handed_called : (more : List (List Call)) (p : Program) → IsCalled p → IsCalled (handed more p)
 handed_called more (Written is) called = called
-handed_called more (Called rows) called = called
+handed_called more (Called rows fs) called = called
+
+-- its owner has a page fetched ahead, and nothing else of it changes
+pub ahead_step : (page : ℕ) (write : Bool) (p : Program) (s : State)
+    → step (ahead page write p) s ≡ step p s
+ahead_step page write (Written is) s = refl
+ahead_step page write (Called rows fs) s = refl
+
+pub ahead_along : (page : ℕ) (write : Bool) (p : Program) (s : State)
+    → along (ahead page write p) s ≡ along p s
+ahead_along page write (Written is) s = refl
+ahead_along page write (Called rows fs) s = refl
+
+pub ahead_reply : (page : ℕ) (write : Bool) (p : Program) (s : State) (r : Reply)
+    → after_reply (ahead page write p) s r ≡ after_reply p s r
+ahead_reply page write (Written is) s r = refl
+ahead_reply page write (Called rows fs) s r = refl
+
+pub ahead_called : (page : ℕ) (write : Bool) (p : Program) → IsCalled p
+    → IsCalled (ahead page write p)
+ahead_called page write (Written is) called = called
+ahead_called page write (Called rows fs) called = called
+
+-- so it makes the same calls
+pub ahead_row : (page : ℕ) (write : Bool) (p : Process) (calls : List Call) → AsksRow p calls
+    → AsksRow (process_ahead page write p) calls
+ahead_row page write p [] asks = tt
+ahead_row page write p (c ∷ cs) asks = (
+  ahead_step page write p.program p.state ∙ asks.0,
+  λ r. subst (λ s. AsksRow (record { program = ahead page write p.program; state = s }) cs)
+      (sym (ahead_reply page write p.program p.state r))
+      (ahead_row page write (answered_with p r) cs (asks.1 r)),
+)

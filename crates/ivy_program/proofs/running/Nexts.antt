@@ -4,7 +4,7 @@ use Rattle.std.proofs.lemmas.Bool.{le-ltb}
 use Rattle.ivy_model.specs.declared.Call.{Call}
 use Rattle.ivy_model.specs.declared.Reply.{Reply}
 use Rattle.ivy_program.specs.OwnCode.{AsksNext, Rests, asking, process_handed}
-use Rattle.ivy_program.specs.stated.Programs.{Called, calls_in}
+use Rattle.ivy_program.specs.stated.Programs.{Called, HandedFetch, calls_in}
 use Rattle.ivy_program.specs.stated.States.{first_state, gone_to}
 use Rattle.ivy_program.specs.stated.InstructionSteps.{Process, Asks, Ends, answered_with, called_at, up_to_width, behind, along_of}
 use Rattle.ivy_program.specs.InstructionSteps.{HasEnded}
@@ -16,7 +16,7 @@ last_got : (calls : List Call) (call : Call)
 last_got [] call = refl
 last_got (c ∷ calls) call = last_got calls call
 
-none_asks : (answered : List (List Call)) → AsksNext (asking answered None)
+none_asks : (answered : List (List Call)) → AsksNext (asking [] answered None)
 none_asks answered call width =
     ap (λ calls. called_at (slice_get calls (length (calls_in answered))))
     (calls-append answered ((call ∷ []) ∷ []))
@@ -25,34 +25,34 @@ none_asks answered call width =
 
 -- with no call in progress, whatever its owner makes next
 pub asks_next : (answered : List (List Call)) (waiting : Option Call) → waiting ≡ None
-    → AsksNext (asking answered waiting)
-asks_next answered waiting is = subst (λ o. AsksNext (asking answered o)) (sym is) (none_asks answered)
+    → AsksNext (asking [] answered waiting)
+asks_next answered waiting is = subst (λ o. AsksNext (asking [] answered o)) (sym is) (none_asks answered)
 
-none_answered : (answered : List (List Call)) (call : Call) (reply : Reply)
-    → asking (answered ++ (call ∷ []) ∷ []) None
-    ≡ answered_with (process_handed ((call ∷ []) ∷ []) (asking answered None)) reply
-none_answered answered call reply =
-    ap (λ n. record { program = Called (answered ++ (call ∷ []) ∷ []); state = gone_to first_state n })
+none_answered : (fs : List HandedFetch) (answered : List (List Call)) (call : Call) (reply : Reply)
+    → asking fs (answered ++ (call ∷ []) ∷ []) None
+    ≡ answered_with (process_handed ((call ∷ []) ∷ []) (asking fs answered None)) reply
+none_answered fs answered call reply =
+    ap (λ n. record { program = Called (answered ++ (call ∷ []) ∷ []) fs; state = gone_to first_state n })
     (ap length (calls-append answered ((call ∷ []) ∷ []))
     ∙ length-append (calls_in answered) (call ∷ []))
 
 -- and once that has its reply
-pub handed_and_answered : (answered : List (List Call)) (waiting : Option Call) (call : Call)
+pub handed_and_answered : (fs : List HandedFetch) (answered : List (List Call)) (waiting : Option Call) (call : Call)
     (reply : Reply) → waiting ≡ None
-    → asking (answered ++ (call ∷ []) ∷ []) waiting
-    ≡ answered_with (process_handed ((call ∷ []) ∷ []) (asking answered waiting)) reply
-handed_and_answered answered waiting call reply is =
+    → asking fs (answered ++ (call ∷ []) ∷ []) waiting
+    ≡ answered_with (process_handed ((call ∷ []) ∷ []) (asking fs answered waiting)) reply
+handed_and_answered fs answered waiting call reply is =
     subst
-    (λ o. asking (answered ++ (call ∷ []) ∷ []) o
-    ≡ answered_with (process_handed ((call ∷ []) ∷ []) (asking answered o)) reply) (sym is)
-    (none_answered answered call reply)
+    (λ o. asking fs (answered ++ (call ∷ []) ∷ []) o
+    ≡ answered_with (process_handed ((call ∷ []) ∷ []) (asking fs answered o)) reply) (sym is)
+    (none_answered fs answered call reply)
 
 none_past : (calls : List Call) → slice_get calls (length calls) ≡ None
 none_past [] = refl
 none_past (call ∷ calls) = none_past calls
 
 -- own code that was answered each of its calls has ended
-pub all_answered : (rows : List (List Call)) → HasEnded (asking rows None)
+pub all_answered : (rows : List (List Call)) → HasEnded (asking [] rows None)
 all_answered rows = ap called_at (none_past (calls_in rows))
 
 -- what is behind a place past these rows
@@ -84,7 +84,7 @@ none_behind rows =
 
 -- such a call is alone in its row
 pub alone_waiting : (answered : List (List Call)) (waiting : Option Call)
-    → along_of (asking answered waiting) ≡ []
+    → along_of (asking [] answered waiting) ≡ []
 alone_waiting answered None = ap up_to_width (none_behind answered)
 alone_waiting answered (Some call) = ap up_to_width (behind_end answered ((call ∷ []) ∷ []))
 
@@ -92,13 +92,13 @@ alone_waiting answered (Some call) = ap up_to_width (behind_end answered ((call 
 pub alone_next : (p : Process) → Rests p → (call : Call)
     → along_of (process_handed ((call ∷ []) ∷ []) p) ≡ []
 alone_next p rests call =
-    ap (λ (q : Process). along_of (process_handed ((call ∷ []) ∷ []) q)) rests.1
-    ∙ alone_waiting rests.0 (Some call)
+    ap (λ (q : Process). along_of (process_handed ((call ∷ []) ∷ []) q)) rests.2
+    ∙ alone_waiting rests.1 (Some call)
 
 -- also once it has its reply
 pub alone_answered : (p : Process) → Rests p → (call : Call) (reply : Reply)
     → along_of (answered_with (process_handed ((call ∷ []) ∷ []) p) reply) ≡ []
 alone_answered p rests call reply =
-    ap (λ (q : Process). along_of (answered_with (process_handed ((call ∷ []) ∷ []) q) reply)) rests.1
-    ∙ ap along_of (sym (none_answered rests.0 call reply))
-    ∙ alone_waiting (rests.0 ++ (call ∷ []) ∷ []) None
+    ap (λ (q : Process). along_of (answered_with (process_handed ((call ∷ []) ∷ []) q) reply)) rests.2
+    ∙ ap along_of (sym (none_answered rests.0 rests.1 call reply))
+    ∙ alone_waiting (rests.1 ++ (call ∷ []) ∷ []) None

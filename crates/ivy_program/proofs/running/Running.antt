@@ -71,4 +71,4 @@ called_legal (Some d) c h = called_by (has_width d) d c refl h
 -- an access that a program asks for has 1, 2, 4 or 8 bytes
 pub asked_legal : (p : Program) (s : State) (c : Call) → step p s ≡ Asks c → HasWidth c
 asked_legal (Written is) s c h = legal_at (length is) s (slice_get is s.place) c h
-asked_legal (Called rows) s c h = called_legal (slice_get (calls_in rows) s.place) c h
+asked_legal (Called rows fs) s c h = called_legal (slice_get (calls_in rows) s.place) c h

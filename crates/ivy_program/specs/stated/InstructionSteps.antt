@@ -82,7 +82,7 @@ called_at None = Ends
 abbrev pub step : Program → State → Step
 step (Written instructions) s =
     step_at (length instructions) s (slice_get instructions s.place)
-step (Called rows) s = called_at (slice_get (calls_in rows) s.place)
+step (Called rows fetches) s = called_at (slice_get (calls_in rows) s.place)
 
 -- the value goes to the register, if there is one for it
 abbrev pub received : State → Option ℕ → ℕ → State
@@ -104,7 +104,7 @@ replied s i (Refused code) = moved_on (with_status s code)
 -- replies itself
 abbrev pub after_reply : Program → State → Reply → State
 after_reply (Written instructions) s reply = replied s (slice_get instructions s.place) reply
-after_reply (Called rows) s reply = moved_on s
+after_reply (Called rows fetches) s reply = moved_on s
 
 -- a program and how far it has come
 pub record Process : Type 0 where
@@ -137,7 +137,7 @@ behind (row ∷ rows) place =
 -- what is made along with the program's next call: the calls behind it in its row
 abbrev pub along : Program → State → List Call
 along (Written instructions) s = []
-along (Called rows) s = up_to_width (behind rows s.place)
+along (Called rows fetches) s = up_to_width (behind rows s.place)
 
 abbrev pub along_of : Process → List Call
 along_of p = along p.program p.state

@@ -40,7 +40,7 @@ use Rattle.proof_worlds.specs.stated.FifoRuns.{FollowsInOrder}
 use Rattle.proof_worlds.proofs.consistency.Faithful.{map-places}
 use Rattle.proof_worlds.proofs.progress.NumberTotals.{sum_le, sum_add, sum_zero, sum_only}
 use Rattle.proof_answers.specs.answers.Answered.{is_advance, advanced_by, advances, IsDue}
-use Rattle.proof_answers.proofs.answers.Falling.{AreLater}
+use Rattle.proof_answers.proofs.answers.Later.{AreLater}
 
 by_option : {A G : Type 0} (o : Option A) {N : Type 0} {S : A → Type 0} → MatchOption o N S
     → (o ≡ None → N → G) → ((x : A) → o ≡ Some x → S x → G) → G

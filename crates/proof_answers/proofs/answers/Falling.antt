@@ -1,7 +1,7 @@
 -- A step of a FIFO world lets some history grow, or lowers what is left to be done, or leaves
 -- that and each node with a call in progress as they were.
-use Rattle.std.proofs.Common.{◌≡◌, ◌≢◌, ◌≤◌, ◌<◌, ◌+◌, ◌-◌, ◌⊎◌, ℕ, Bool, true, false, List, [], ◌∷◌, ◌++◌, length}
-use Rattle.std.proofs.Common.{slice_get, Option, Some, None, if◌then◌else◌, drop, refl, sym, ap, ◌∙◌, subst, arith, inl, inr, append-nil, append_assoc, length-append}
+use Rattle.std.proofs.Common.{◌≡◌, ◌≢◌, ◌≤◌, ◌<◌, ◌+◌, ◌-◌, ◌⊎◌, ℕ, List, [], ◌∷◌, ◌++◌, length}
+use Rattle.std.proofs.Common.{slice_get, Option, Some, None, drop, refl, sym, ap, ◌∙◌, subst, arith, inl, inr, append-nil, length-append}
 use Rattle.std.proofs.lemmas.Bool.{cases_eq}
 use Rattle.std.proofs.lemmas.List.{drop-append-le}
 use Rattle.std.proofs.lemmas.Option.{none-some, same_Some, slice_get_within}
@@ -9,13 +9,9 @@ use Rattle.std.specs.Prelude.{slice_set}
 use Rattle.ivy_model.specs.declared.Config.{Config}
 use Rattle.ivy_model.specs.stated.Config.{IsConfig}
 use Rattle.ivy_model.specs.declared.Call.{Call}
-use Rattle.ivy_model.specs.declared.Call.TheVariants as call
-use Rattle.ivy_model.specs.declared.Record.{Record}
-use Rattle.ivy_wire.specs.stated.Data.{Message}
-use Rattle.ivy_pagetable.specs.declared.Entry.{Entry}
 use Rattle.ivy_pagetable.specs.stated.Entries.{put_offs}
 use Rattle.ivy_pagetable.specs.stated.Tables.{entry_at}
-use Rattle.ivy_program.specs.stated.Programs.{Program}
+use Rattle.ivy_program.specs.stated.Programs.{Program, fetches_of}
 use Rattle.ivy_link.specs.stated.Paired.{posted, extended}
 use Rattle.ivy_moves.specs.stated.FifoWorld.{FifoWorld, Turns, Delivers, Steps, rests, turns, delivers}
 use Rattle.proof_worlds.specs.progress.Ending.{sum_below}
@@ -25,12 +21,10 @@ use Rattle.ivy_host.specs.declared.opening.Opening.{Opening}
 use Rattle.ivy_host.specs.stated.Openings.{managed_start}
 use Rattle.ivy_host.proofs.Starts.{managed_new}
 use Rattle.ivy_host.specs.ManagedLaws.{managed_laws}
-use Rattle.ivy_alloc.specs.stated.HeapCalls.{HeapTold, heap_told}
-use Rattle.ivy_memory.specs.stated.Memories.{NodeMemory, by_side, by_coherence, memory_handled_as}
+use Rattle.ivy_memory.specs.stated.Memories.{NodeMemory}
 use Rattle.proof_worlds.specs.stated.Nets.{entry_of, manager_of}
 use Rattle.proof_worlds.specs.stated.FifoRuns.{IsReachedInOrder}
 use Rattle.proof_worlds.proofs.refinement.HostTurns.{HostTurn, turn_cases}
-use Rattle.proof_worlds.proofs.refinement.Led.{get_set}
 use Rattle.proof_worlds.proofs.progress.Delivered.{under_way}
 use Rattle.proof_worlds.proofs.progress.Handling.{Handles, lessens, puts_off, sends_on, Does}
 use Rattle.proof_worlds.proofs.progress.Loads.{aside_load, posting_load}
@@ -38,60 +32,13 @@ use Rattle.proof_worlds.proofs.progress.Lowering.{entries, hop_at, work, way, sa
 use Rattle.proof_worlds.proofs.progress.Reached.{IsToldBy, reached_told}
 use Rattle.proof_worlds.proofs.progress.NumberTotals.{sum_change}
 use Rattle.proof_worlds.proofs.progress.Works.{heavy_of, bare, work_posted, work_put}
-use Rattle.proof_answers.proofs.answers.Unhanded.{unhanded_of}
-use Rattle.proof_answers.proofs.answers.Turning.{cost, call_weight, host_weight, TurnDoes, records, goes, begins, turn_does}
-
--- the node later on: its history goes on, and while it does not, its call stays in progress
-pub record IsLaterAt (n m : Host Managed) : Type 0 where
-  pub more : List Record
-  pub history : m.history ≡ n.history ++ more
-  pub asked : (called : Call) → n.memory.asked ≡ Some called → more ≡ []
-      → m.memory.asked ≡ Some called
-
--- so are all nodes
-pub record AreLater (o u : FifoWorld (Host Managed)) : Type 0 where
-  pub at : (i : ℕ) (n : Host Managed) → slice_get o.cores i ≡ Some n
-      → (m : Host Managed) × (slice_get u.cores i ≡ Some m) × IsLaterAt n m
-  pub back : (i : ℕ) (m : Host Managed) → slice_get u.cores i ≡ Some m
-      → (n : Host Managed) × (slice_get o.cores i ≡ Some n)
-
-later_none : (n : Host Managed) → IsLaterAt n n
-later_none n = record {
-  more = [];
-  history = sym (append-nil n.history);
-  asked = λ called is none. is;
-}
-
-none_before : (xs ys : List Record) → xs ++ ys ≡ [] → xs ≡ []
-none_before [] ys is = refl
-none_before (x ∷ xs) ys is = absurd cc
-
-none_after : (xs ys : List Record) → xs ++ ys ≡ [] → ys ≡ []
-none_after [] ys is = is
-none_after (x ∷ xs) ys is = absurd cc
-
-later_then : (n m l : Host Managed) → IsLaterAt n m → IsLaterAt m l → IsLaterAt n l
-later_then n m l a b = record {
-  more = a.more ++ b.more;
-  history = b.history ∙ ap (λ h. h ++ b.more) a.history ∙ append_assoc n.history a.more b.more;
-  asked = λ called is none. b.asked called (a.asked called is (none_before a.more b.more none))
-      (none_after a.more b.more none);
-}
-
-pub all_later : (o : FifoWorld (Host Managed)) → AreLater o o
-all_later o = record { at = λ i n is. (n, is, later_none n); back = λ i m is. (m, is) }
-
-pub all_then : (o u v : FifoWorld (Host Managed)) → AreLater o u → AreLater u v → AreLater o v
-all_then o u v a b = record {
-  at = λ i n is. (
-      let x = a.at i n is in
-      let y = b.at i x.0 x.1 in (y.0, y.1, later_then n x.0 y.0 x.2 y.2)
-      );
-  back = λ i m is. (let y = b.back i m is in a.back i y.0 y.1);
-}
+use Rattle.proof_answers.proofs.answers.Later.{AreLater, IsLaterAt, all_later, all_then, no_shorter, served_asked, core_elsewhere, core_here, step_later}
+use Rattle.proof_answers.proofs.answers.Turning.{TurnDoes, records, goes, takes, begins, turn_does}
+use Rattle.proof_answers.proofs.answers.Weights.{cost, call_weight, fetch_weight, host_weight, heavier}
+use Rattle.proof_answers.proofs.answers.MessageWeights.{eased}
 
 module _ (c : Config) (o : FifoWorld (Host Managed)) where
-  abbrev weight_of : Option (Host Managed) → ℕ
+  abbrev pub weight_of : Option (Host Managed) → ℕ
   weight_of None = 0
   weight_of (Some n) = host_weight n
 
@@ -105,52 +52,63 @@ module _ (c : Config) (o : FifoWorld (Host Managed)) where
   abbrev pub whole : ℕ
   whole = work c o cost + hosts
 
--- some history is longer
+-- some history is longer, or a fetch is used up that a program has
 pub record Grew (o u : FifoWorld (Host Managed)) : Type 0 where
   pub node : ℕ
   pub before : Host Managed
   pub after : Host Managed
   pub there : slice_get o.cores node ≡ Some before
   pub now : slice_get u.cores node ≡ Some after
-  pub longer : length before.history < length after.history
-
-pub no_shorter : (n m : Host Managed) → IsLaterAt n m → length n.history ≤ length m.history
-no_shorter n m l =
-    let a : length m.history ≡ length n.history + length l.more =
-    ap length l.history ∙ length-append n.history l.more in
-    omega (arith, a)
+  pub longer : (length before.history < length after.history)
+      ⊎ ((before.used < after.used) × (before.used < length (fetches_of before.process.program)))
 
 -- so it is seen from before, and later on
+abbrev IsMore : Host Managed → Host Managed → Type 0
+IsMore n m = (length n.history < length m.history)
+    ⊎ ((n.used < m.used) × (n.used < length (fetches_of n.process.program)))
+
+more_before : (n m l : Host Managed) → IsLaterAt n m → IsMore m l → IsMore n l
+more_before n m l later (inl less) =
+    (let a = no_shorter n m later in inl (omega (arith, a, less)))
+more_before n m l later (inr both) =
+    (let a = later.uses in
+    let b = both.0 in
+    let d = both.1 in
+    let e : length (fetches_of m.process.program) ≡ length (fetches_of n.process.program) =
+    ap length later.handed in
+    inr (omega (arith, a, b), omega (arith, a, d, e)))
+
+more_after : (n m l : Host Managed) → IsLaterAt m l → IsMore n m → IsMore n l
+more_after n m l later (inl less) =
+    (let a = no_shorter m l later in inl (omega (arith, a, less)))
+more_after n m l later (inr both) =
+    (let a = later.uses in let b = both.0 in inr (omega (arith, a, b), both.1))
+
 pub grew_later : (o u v : FifoWorld (Host Managed)) → AreLater o u → Grew u v → Grew o v
 grew_later o u v later g =
     let was = later.back g.node g.before g.there in
     let next = later.at g.node was.0 was.1 in
     let same : next.0 ≡ g.before = same_Some next.0 g.before (sym next.1 ∙ g.there) in
-    let a = no_shorter was.0 next.0 next.2 in
-    let b : length next.0.history ≡ length g.before.history =
-    ap (λ (h : Host Managed). length h.history) same in
-    let d = g.longer in
     record {
       node = g.node;
       before = was.0;
       after = g.after;
       there = was.1;
       now = g.now;
-      longer = omega (arith, a, b, d);
+      longer = more_before was.0 next.0 g.after next.2
+          (subst (λ (h : Host Managed). IsMore h g.after) (sym same) g.longer);
     }
 
 pub grew_on : (o u v : FifoWorld (Host Managed)) → AreLater u v → Grew o u → Grew o v
 grew_on o u v later g =
     let last = later.at g.node g.after g.now in
-    let a = no_shorter g.after last.0 last.2 in
-    let d = g.longer in
     record {
       node = g.node;
       before = g.before;
       after = last.0;
       there = g.there;
       now = last.1;
-      longer = omega (arith, a, d);
+      longer = more_after g.before g.after last.0 last.2 g.longer;
     }
 
 module _ (c : Config) (o u : FifoWorld (Host Managed)) where
@@ -247,70 +205,10 @@ module _ (c : Config) where
       either (inr s) (inl q) = inl (then_progress o u v a q b.later)
       either (inr s) (inr t) = inr (stood_then o u v s t)
 
--- what a message leaves of a node
-side_or : (b : Bool) (m : NodeMemory Managed) (from : ℕ) (message : Message) (t : HeapTold)
-    → t.fits ≡ b → (memory_handled_as managed_ops m from message t).after.asked ≡ m.asked
-side_or true m from message t is =
-    ap (λ f. (if f then by_side m t else by_coherence managed_ops m from message).after.asked) is
-side_or false m from message t is =
-    ap (λ f. (if f then by_side m t else by_coherence managed_ops m from message).after.asked) is
-
-served_asked : (n : Host Managed) (from : ℕ) (m : Message)
-    → (serving managed_ops n from m).after.memory.asked ≡ n.memory.asked
-unfolding serving
-served_asked n from m =
-    let t = heap_told n.memory.coherence.me n.memory.side from m in
-    side_or t.fits n.memory from m t refl
-
-served_history : (n : Host Managed) (from : ℕ) (m : Message)
-    → (serving managed_ops n from m).after.history ≡ n.history
-unfolding serving
-served_history n from m = refl
-
-served_later : (n : Host Managed) (from : ℕ) (m : Message)
-    → IsLaterAt n (serving managed_ops n from m).after
-served_later n from m = record {
-  more = [];
-  history = served_history n from m ∙ sym (append-nil n.history);
-  asked = λ called is none. served_asked n from m ∙ is;
-}
-
--- what a node weighs more where its entry of page 0 changed
-heavier : (a : Option Call) (e z : Entry)
-    → call_weight a z ≤ call_weight a e + (bare cost z - bare cost e)
-heavier None e z = omega arith
-heavier (Some (call.Await k least)) e z = omega arith
-heavier (Some called) e z = omega arith
-
 -- a step that changes one node
 module _ (c : Config) (o u : FifoWorld (Host Managed)) (x : ℕ) (n m : Host Managed)
     (there : slice_get o.cores x ≡ Some n) (cores : u.cores ≡ slice_set o.cores x m)
     (count : length o.cores ≡ c.nodes) where
-  core_now : slice_get u.cores x ≡ Some m
-  core_now =
-      ap (λ l. slice_get l x) cores
-      ∙ elim (get_set o.cores x n m x there) [ inl y ↦ y.1 | inr y ↦ absurd (y.0 refl) ]
-
-  core_other : (i : ℕ) → i ≢ x → slice_get u.cores i ≡ slice_get o.cores i
-  core_other i ne =
-      ap (λ l. slice_get l i) cores
-      ∙ elim (get_set o.cores x n m i there) [ inl y ↦ absurd (ne y.0) | inr y ↦ y.1 ]
-
-  one_later : IsLaterAt n m → AreLater o u
-  one_later l = record {
-    at = λ i h is. elim (cases_eq i x) [
-      | inl same ↦
-          (let it : n ≡ h =
-          same_Some n h (sym there ∙ ap (slice_get o.cores) (sym same) ∙ is) in
-          (m, ap (slice_get u.cores) same ∙ core_now, subst (λ z. IsLaterAt z m) it l))
-      | inr ne ↦ (h, core_other i ne ∙ is, later_none h)
-    ];
-    back = λ i h is. elim (cases_eq i x) [
-      | inl same ↦ (n, ap (slice_get o.cores) same ∙ there)
-      | inr ne ↦ (h, sym (core_other i ne) ∙ is)
-    ];
-  }
-
   inside_x : x < c.nodes
   inside_x = (let a = slice_get_within o.cores x n there in omega (arith, a, count))
 
@@ -319,23 +217,24 @@ module _ (c : Config) (o u : FifoWorld (Host Managed)) (x : ℕ) (n m : Host Man
       let a : hosts c u + weight_at c o x ≤ hosts c o + weight_at c u x =
       sum_change c.nodes x (weight_at c o) (weight_at c u) inside_x
       (λ i lt ne. (let e : weight_at c u i ≡ weight_at c o i =
-      ap (weight_of c o) (core_other i ne) in omega (arith, e))) in
+      ap (weight_of c o) (core_elsewhere o u x n m i there cores ne) in omega (arith, e))) in
       let b : weight_at c o x ≡ host_weight n = ap (weight_of c o) there in
-      let d : weight_at c u x ≡ host_weight m = ap (weight_of c o) core_now in
+      let d : weight_at c u x ≡ host_weight m = ap (weight_of c o) (core_here o u x n m x there cores refl) in
       omega (arith, a, b, d)
 
   entries_other : (i p : ℕ) → i ≢ x → entries c u i p ≡ entries c o i p
-  entries_other i p ne = ap (λ z. entry_of z p) (core_other i ne)
+  entries_other i p ne = ap (λ z. entry_of z p) (core_elsewhere o u x n m i there cores ne)
 
   entries_now : (p : ℕ) → entries c u x p ≡ entry_at m.memory.coherence.table p
-  entries_now p = ap (λ z. entry_of z p) core_now
+  entries_now p = ap (λ z. entry_of z p) (core_here o u x n m x there cores refl)
 
   entries_was : (p : ℕ) → entries c o x p ≡ entry_at n.memory.coherence.table p
   entries_was p = ap (λ z. entry_of z p) there
 
   hop_now : (p : ℕ) → hop_at c u p x ≡ managed_ops.next_hop m.memory.coherence.manager p
   hop_now p =
-      ap (λ z. managed_ops.next_hop (manager_of (managed_ops.first c 0) z) p) core_now
+      ap (λ z. managed_ops.next_hop (manager_of (managed_ops.first c 0) z) p)
+      (core_here o u x n m x there cores refl)
 
   hop_was : (p : ℕ) → hop_at c o p x ≡ managed_ops.next_hop n.memory.coherence.manager p
   hop_was p =
@@ -343,11 +242,13 @@ module _ (c : Config) (o u : FifoWorld (Host Managed)) (x : ℕ) (n m : Host Man
 
   hop_other : (p i : ℕ) → i ≢ x → hop_at c u p i ≡ hop_at c o p i
   hop_other p i ne =
-      ap (λ z. managed_ops.next_hop (manager_of (managed_ops.first c 0) z) p) (core_other i ne)
+      ap (λ z. managed_ops.next_hop (manager_of (managed_ops.first c 0) z) p)
+      (core_elsewhere o u x n m i there cores ne)
 
   -- where its memory is the same, and nothing was posted or delivered
   module _ (same : m.memory ≡ n.memory) (idle : n.memory.asked ≡ None)
-      (posted : u.posted ≡ o.posted) (delivered : u.delivered ≡ o.delivered) where
+      (weighs : host_weight m ≡ host_weight n) (posted : u.posted ≡ o.posted)
+      (delivered : u.delivered ≡ o.delivered) where
     entry_same : (i p : ℕ) → entries c u i p ≡ entries c o i p
     entry_same i p = elim (cases_eq i x) [
       | inr ne ↦ entries_other i p ne
@@ -383,12 +284,10 @@ module _ (c : Config) (o u : FifoWorld (Host Managed)) (x : ℕ) (n m : Host Man
       delivered = delivered;
       weight = (let a = same_work c o u entries_same hops_same under_same cost in
           let b = hosts_change in
-          let d : host_weight m ≡ host_weight n =
-          ap (λ (z : NodeMemory Managed). call_weight z.asked (entry_at z.coherence.table 0)) same
-          in omega (arith, a, b, d));
+          omega (arith, a, b, weighs));
       hops = (let a = same_way c o u entries_same hops_same under_same in omega (arith, a));
       calls = λ i h called is asked. elim (cases_eq i x) [
-        | inr ne ↦ core_other i ne ∙ is
+        | inr ne ↦ core_elsewhere o u x n m i there cores ne ∙ is
         | inl at ↦
             (let it : n ≡ h = same_Some n h (sym there ∙ ap (slice_get o.cores) (sym at) ∙ is) in
             absurd (none-some called
@@ -413,8 +312,7 @@ module _ (opened : Opening) (c : Config) (limits : IsConfig c) (programs : List 
     turn_of_host : TurnDoes t.core t.outcome c
     turn_of_host =
         turn_does managed_ops c limits x t.core (told.faithful.sound.sound x t.core t.there)
-        t.outcome turn_is t.turned (told.pursued x t.core t.there)
-        (unhanded_of opened c limits programs many o reached x t.core t.there)
+        t.outcome turn_is t.turned
 
     now_under : (i j : ℕ) → under_way u i j ≡ under_way o i j ++ posted i j t.outcome.posted
     now_under i j =
@@ -466,43 +364,44 @@ module _ (opened : Opening) (c : Config) (limits : IsConfig c) (programs : List 
               told.faithful.sound.count q))
         ]
 
+    later_on : AreLater o u
+    later_on = step_later c o u told.faithful.sound.sound (turns x t)
+
     by_turn : TurnDoes t.core t.outcome c → After c o u
     by_turn (records r is) = record {
-      later =
-          one_later c o u x t.core t.outcome.after t.there t.cores told.faithful.sound.count
-          (record { more = r ∷ []; history = is; asked = λ called was none. absurd cc });
+      later = later_on;
       comes = inl (grew (record {
         node = x;
         before = t.core;
         after = t.outcome.after;
         there = t.there;
-        now = core_now c o u x t.core t.outcome.after t.there t.cores told.faithful.sound.count;
-        longer = (let a : length t.outcome.after.history ≡ length t.core.history + 1 =
+        now = core_here o u x t.core t.outcome.after x t.there t.cores refl;
+        longer = inl (let a : length t.outcome.after.history ≡ length t.core.history + 1 =
             ap length is ∙ length-append t.core.history (r ∷ []) in
             omega (arith, a));
       }));
     }
-    by_turn (goes idle none same is) = record {
-      later =
-          one_later c o u x t.core t.outcome.after t.there t.cores told.faithful.sound.count
-          (record {
-            more = [];
-            history = is ∙ sym (append-nil t.core.history);
-            asked = λ called was nothing. absurd (none-some called (sym idle ∙ was));
-          });
+    by_turn (takes used low) = record {
+      later = later_on;
+      comes = inl (grew (record {
+        node = x;
+        before = t.core;
+        after = t.outcome.after;
+        there = t.there;
+        now = core_here o u x t.core t.outcome.after x t.there t.cores refl;
+        longer = inr (used, low);
+      }));
+    }
+    by_turn (goes idle none same is weighs) = record {
+      later = later_on;
       comes = inr
           (stays c o u x t.core t.outcome.after t.there t.cores told.faithful.sound.count same idle
+          weighs
           (t.posted ∙ ap (extended o.posted) none ∙ (λ k i j. append-nil (o.posted i j) k))
           t.delivered);
     }
     by_turn (begins p inside is calls elsewhere puts less) = record {
-      later =
-          one_later c o u x t.core t.outcome.after t.there t.cores told.faithful.sound.count
-          (record {
-            more = [];
-            history = is ∙ sym (append-nil t.core.history);
-            asked = λ called was nothing. calls called was;
-          });
+      later = later_on;
       comes = inl (fell (begins_falls p inside elsewhere puts less));
     }
 
@@ -520,26 +419,44 @@ module _ (opened : Opening) (c : Config) (limits : IsConfig c) (programs : List 
         })
     what = done cost opened c limits programs many o u reached source x t
 
+    -- what it weighs, but for its entry of page 0
+    at_first : call_weight served.memory.asked (entry_at served.memory.coherence.table 0)
+        served.memory.coherence.locked served.memory.coherence.done
+        ≤ call_weight t.core.memory.asked (entry_at t.core.memory.coherence.table 0)
+        t.core.memory.coherence.locked t.core.memory.coherence.done
+        + (bare cost (entry_at served.memory.coherence.table 0)
+        - bare cost (entry_at t.core.memory.coherence.table 0))
+    at_first =
+        subst (λ a. call_weight a (entry_at served.memory.coherence.table 0)
+        served.memory.coherence.locked served.memory.coherence.done
+        ≤ call_weight t.core.memory.asked (entry_at t.core.memory.coherence.table 0)
+        t.core.memory.coherence.locked t.core.memory.coherence.done
+        + (bare cost (entry_at served.memory.coherence.table 0)
+        - bare cost (entry_at t.core.memory.coherence.table 0)))
+        (sym (served_asked t.core source t.message))
+        (heavier t.core.memory.asked (entry_at t.core.memory.coherence.table 0)
+        (entry_at served.memory.coherence.table 0) t.core.memory.coherence.locked
+        served.memory.coherence.locked t.core.memory.coherence.done served.memory.coherence.done
+        (eased c limits o u told source x t).tries)
+
+    fetches_on : fetch_weight served ≤ fetch_weight t.core
+    fetches_on = (eased c limits o u told source x t).fewer
+
     weighs : host_weight served
         ≤ host_weight t.core + (bare cost (entry_at served.memory.coherence.table what.0)
         - bare cost (entry_at t.core.memory.coherence.table what.0))
     weighs = elim (cases_eq 0 what.0) [
       | inl first ↦
-          (let a = heavier served.memory.asked (entry_at t.core.memory.coherence.table 0)
-          (entry_at served.memory.coherence.table 0) in
-          let b : call_weight served.memory.asked (entry_at t.core.memory.coherence.table 0)
-          ≡ host_weight t.core =
-          ap (λ z. call_weight z (entry_at t.core.memory.coherence.table 0))
-          (served_asked t.core source t.message) in
+          (let a = at_first in
+          let b = fetches_on in
           subst (λ p. host_weight served
           ≤ host_weight t.core + (bare cost (entry_at served.memory.coherence.table p)
           - bare cost (entry_at t.core.memory.coherence.table p))) first (omega (arith, a, b)))
       | inr ne ↦
-          (let a : host_weight served ≡ host_weight t.core =
-          ap (call_weight served.memory.asked) (what.2.elsewhere 0 ne)
-          ∙ ap (λ z. call_weight z (entry_at t.core.memory.coherence.table 0))
-          (served_asked t.core source t.message) in
-          omega (arith, a))
+          (let a = at_first in
+          let b = fetches_on in
+          let same = ap (bare cost) (what.2.elsewhere 0 ne) in
+          omega (arith, a, b, same))
     ]
 
     falls_same : bare cost (entry_at served.memory.coherence.table what.0)
@@ -570,9 +487,7 @@ module _ (opened : Opening) (c : Config) (limits : IsConfig c) (programs : List 
 
     by_delivery : After c o u
     by_delivery = record {
-      later =
-          one_later c o u x t.core served t.there t.cores told.faithful.sound.count
-          (served_later t.core source t.message);
+      later = step_later c o u told.faithful.sound.sound (delivers source x t);
       comes = inl (fell (falls_by what.2.handles));
     }
 

@@ -1,14 +1,17 @@
 -- What a turn does to one node: it records a reply; or the program goes on by itself; or a call
--- begins, or is tried again, and what is asked for weighs less than the node weighed before.
-use Rattle.std.proofs.Common.{◌≡◌, ◌≢◌, ◌≤◌, ◌<◌, ◌+◌, ◌*◌, ◌⊎◌, ℕ, Bool, true, false, List, [], ◌∷◌, ◌++◌, length, Option, Some, None, if◌then◌else◌, refl, sym, ap, ◌∙◌, subst, arith, inl, inr}
-use Rattle.std.proofs.lemmas.Option.{none-some, same_Some}
+-- begins, or is tried again, or a page is fetched, and what is asked for weighs less than the node
+-- weighed before.
+use Rattle.std.proofs.Common.{◌≡◌, ◌≢◌, ◌≤◌, ◌<◌, ◌+◌, ◌*◌, ℕ, Bool, true, false, List, [], ◌∷◌, ◌++◌, length, Option, Some, None, if◌then◌else◌, refl, sym, ap, ◌∙◌, subst, arith, inl, inr, nat_lt, slice_get, Ok, Err}
+use Rattle.std.proofs.lemmas.Bool.{cases_eq}
+use Rattle.std.proofs.lemmas.Option.{none-some, same_Some, slice_get_within}
+use Rattle.std.specs.List.{Contains}
 use Rattle.ivy_model.specs.declared.Config.{Config}
-use Rattle.ivy_model.specs.stated.Config.{IsConfig}
+use Rattle.ivy_model.specs.stated.Config.{IsConfig, count_len}
 use Rattle.ivy_model.specs.declared.Call.{Call}
 use Rattle.ivy_model.specs.declared.Call.TheVariants as call
 use Rattle.ivy_model.specs.declared.Record.{Record}
 use Rattle.ivy_model.specs.declared.Reply.{Reply}
-use Rattle.ivy_model.specs.stated.Limits.{most_nodes}
+use Rattle.ivy_model.specs.declared.Fault.{Fault}
 use Rattle.ivy_wire.specs.declared.Content.TheVariants as content
 use Rattle.ivy_wire.specs.stated.Data.{Parcel}
 use Rattle.ivy_wire.specs.stated.Posts.{parcel_to}
@@ -21,53 +24,34 @@ use Rattle.ivy_pagetable.specs.stated.Entries.{is_locked, put_offs}
 use Rattle.ivy_pagetable.specs.stated.Manager.{Ops}
 use Rattle.ivy_pagetable.specs.stated.States.{IdleState}
 use Rattle.ivy_pagetable.specs.stated.Tables.{entry_at, page_at, with_entry}
+use Rattle.ivy_pagetable.specs.declared.Out.{Out}
 use Rattle.ivy_pagetable.specs.stated.Words.{carried_out, needs_write}
 use Rattle.ivy_moves.specs.stated.Cores.{Outcome}
-use Rattle.ivy_host.specs.stated.Hosts.{Host, turn_of, begins_as}
+use Rattle.ivy_program.specs.stated.Programs.{HandedFetch, Program, Written, Called, fetches_of}
+use Rattle.ivy_host.proofs.Turns.{asks-turned}
+use Rattle.ivy_host.specs.stated.Fetches.{if_reached, due_of}
+use Rattle.ivy_host.specs.stated.Hosts.{Host, turn_of, turned_at, turned_by, begins_as, asks_reply, or_fetches, due, fetch_of, fetched_with}
 use Rattle.ivy_host.specs.stated.Sound.{IsSoundHost}
 use Rattle.ivy_coherence.specs.stated.Coherent.{Coherent}
-use Rattle.ivy_coherence.specs.stated.Fetching.{suits, joined_by}
+use Rattle.ivy_coherence.specs.stated.Fetching.{suits, joined_by, without_page}
 use Rattle.ivy_coherence.specs.stated.PageFaults.{Begun, waiting_from, fault_entry, along, busy, hit, faulted, fault_posted, taken_up, waits_beside, accessed, begun_at, begun}
+use Rattle.ivy_coherence.proofs.keeping.Fetched.{fewer_without}
 use Rattle.ivy_coherence.specs.stated.Serving.{invalidations}
 use Rattle.ivy_alloc.specs.declared.HeapCall.{HeapCall}
 use Rattle.ivy_alloc.specs.declared.HeapCall.TheVariants as heap_call
 use Rattle.ivy_alloc.specs.stated.HeapCalls.{request}
 use Rattle.ivy_memory.specs.declared.Asked.TheVariants as kinds
-use Rattle.ivy_memory.specs.stated.Asking.{asked_of}
-use Rattle.ivy_memory.specs.stated.Memories.{answered, needed, again_unless, first_reply, reply_of, reply_at, reply_there, without_call}
+use Rattle.ivy_memory.specs.stated.Asking.{asked_of, count_asked}
+use Rattle.ivy_memory.specs.stated.Memories.{answered, needed, again, again_unless, first_reply, in_progress, polled_as, reply_of, reply_at, reply_there, tried_as, without_call}
+use Rattle.ivy_memory.proofs.keeping.Polling.{polled_so as polls_as}
 use Rattle.ivy_memory.specs.stated.Beside.{nothing_beside}
 use Rattle.ivy_coherence.proofs.keeping.Changing.{entry_with}
 use Rattle.proof_table.proofs.transitions.RowsJoined.{joined_still}
 use Rattle.proof_worlds.proofs.consistency.Beside.{along-kept}
-use Rattle.proof_worlds.proofs.refinement.HostTurns.{made_along, number_of, asks}
+use Rattle.proof_worlds.proofs.refinement.HostTurns.{made_along, number_of, asks, along-net}
 use Rattle.proof_worlds.proofs.refinement.HostTurns.{HostTurn, answers, tries_again, goes_on, refuses, asks_for, serves_heap, asks_heap, carries_fetch}
-use Rattle.proof_worlds.proofs.progress.FetchedPages.{only_locked, unhanded-due, unhanded-next, unhanded-page}
-use Rattle.proof_worlds.proofs.progress.Pursued.{IsPlain, IsPursued}
-use Rattle.proof_worlds.proofs.progress.Stopped.{IsAwait, await_is, tries-undue}
-use Rattle.proof_worlds.proofs.progress.Works.{heavy_of, bare, bare_most, work_posted, orders_most}
-
--- what a lost copy costs: it is asked for again, and comes
-abbrev pub cost : ℕ
-cost = 3
-
--- What a node weighs: a call may begin, and an await may ask for a copy of page 0 again.
-abbrev pub call_weight : Option Call → Entry → ℕ
-call_weight None e = (cost + 2) * most_nodes + cost + 2 + cost + 1
-call_weight (Some (call.Await k least)) e = bare cost e
-call_weight (Some called) e = 0
-
-abbrev pub host_weight : {S : Type 0} → Host S → ℕ
-host_weight n = call_weight n.memory.asked (entry_at n.memory.coherence.table 0)
-
-bare_few : (e : Entry) → bare cost e ≤ cost
-bare_few (entry.Idle s) = bare_most cost s
-bare_few (entry.AwaitRead s) = omega arith
-bare_few (entry.AwaitWrite s) = omega arith
-bare_few (entry.AwaitAcks s) = omega arith
-
-call_few : (called : Call) (e : Entry) → call_weight (Some called) e ≤ cost
-call_few (call.Await k least) e = bare_few e
-call_few called e = omega arith
+use Rattle.proof_worlds.proofs.progress.Works.{heavy_of, bare, work_posted, orders_most}
+use Rattle.proof_answers.proofs.answers.Weights.{cost, fault_most, reply_weight, try_weight, call_weight, fetch_weight, host_weight, call_few, call_waits, less_without}
 
 request_weight : (k : HeapCall) → heavy_of cost (request k) ≡ 2
 request_weight (heap_call.Alloc size) = refl
@@ -84,7 +68,8 @@ module _ {S : Type 0} (n : Host S) (out : Outcome (Host S)) where
   pub data TurnDoes (c : Config) : Type 0 where
     records : (r : Record) → out.after.history ≡ n.history ++ r ∷ [] → TurnDoes c
     goes : n.memory.asked ≡ None → out.posted ≡ [] → out.after.memory ≡ n.memory
-        → out.after.history ≡ n.history → TurnDoes c
+        → out.after.history ≡ n.history → host_weight out.after ≡ host_weight n → TurnDoes c
+    takes : n.used < out.after.used → n.used < length (fetches_of n.process.program) → TurnDoes c
     begins : (p : ℕ) → p < c.pages → out.after.history ≡ n.history
         → ((called : Call) → n.memory.asked ≡ Some called → out.after.memory.asked ≡ Some called)
         → ((q : ℕ) → q ≢ p → after_at q ≡ before_at q)
@@ -98,7 +83,8 @@ module _ {S : Type 0} (ops : Ops S) (k : Coherent S) (page : ℕ) (w : Word) (nu
     is_hit : b ≡ hit ops k page w → Access b
     is_fault : (s : IdleState) → entry_at k.table page ≡ entry.Idle s
         → suffices s.access w ≡ false → b ≡ faulted ops k page w number s → Access b
-    is_joined : (e : Entry) → entry_at k.table page ≡ e → b ≡ taken_up ops k page w e → Access b
+    is_joined : (e : Entry) → entry_at k.table page ≡ e → is_locked e ≡ true
+        → b ≡ taken_up ops k page w e → Access b
     is_beside : b ≡ waits_beside ops k → Access b
 
   accessing : (s : IdleState) → entry_at k.table page ≡ entry.Idle s → (b : Bool)
@@ -107,19 +93,19 @@ module _ {S : Type 0} (ops : Ops S) (k : Coherent S) (page : ℕ) (w : Word) (nu
   accessing s at true enough = is_hit refl
   accessing s at false short = is_fault s at short refl
 
-  joining : (e : Entry) → entry_at k.table page ≡ e → (b : Bool)
+  joining : (e : Entry) → entry_at k.table page ≡ e → is_locked e ≡ true → (b : Bool)
       → Access (if b then taken_up ops k page w e else waits_beside ops k)
-  joining e at true = is_joined e at refl
-  joining e at false = is_beside refl
+  joining e at lock true = is_joined e at lock refl
+  joining e at lock false = is_beside refl
 
   at_entry : (e : Entry) → entry_at k.table page ≡ e → Access (accessed ops k page w number e)
   at_entry (entry.Idle s) at = accessing s at (suffices s.access w) refl
   at_entry (entry.AwaitRead s) at =
-      joining (entry.AwaitRead s) at (suits (entry.AwaitRead s) (needs_write w))
+      joining (entry.AwaitRead s) at refl (suits (entry.AwaitRead s) (needs_write w))
   at_entry (entry.AwaitWrite s) at =
-      joining (entry.AwaitWrite s) at (suits (entry.AwaitWrite s) (needs_write w))
+      joining (entry.AwaitWrite s) at refl (suits (entry.AwaitWrite s) (needs_write w))
   at_entry (entry.AwaitAcks s) at =
-      joining (entry.AwaitAcks s) at (suits (entry.AwaitAcks s) (needs_write w))
+      joining (entry.AwaitAcks s) at refl (suits (entry.AwaitAcks s) (needs_write w))
 
   at_lock : (l : Option ℕ) → Access (begun_at ops k page w number l)
   at_lock None = at_entry (entry_at k.table page) refl
@@ -181,7 +167,7 @@ module _ {S : Type 0} (ops : Ops S) (k : Coherent S) (page : ℕ) (w : Word) (nu
         either false o = refl
 
     fault_weight : work_posted cost (fault_posted ops k page w number s)
-        ≤ (cost + 2) * most_nodes + cost + 2
+        ≤ fault_most
     fault_weight =
         (let a = either (needs_write w) s.owner in
         let b : work_posted cost (fault_posted ops k page w number s)
@@ -190,20 +176,86 @@ module _ {S : Type 0} (ops : Ops S) (k : Coherent S) (page : ℕ) (w : Word) (nu
         omega (arith, a, b))
       where
         either : (b o : Bool) → work_posted cost (posted_to b o)
-            ≤ (cost + 2) * most_nodes + cost + 2
+            ≤ fault_most
         either true true =
             (let a = orders_most cost k.me page number s.copies in omega (arith, a))
         either true false = omega arith
         either false o = omega arith
 
--- a word that is no await, or one
-word_cases : (w : Word) → IsPlain w ⊎ ((offset least : ℕ) × (w ≡ word.Await offset least))
-word_cases (word.Await offset least) = inr (offset, least, refl)
-word_cases w = inl tt
-
 none_there : (a b : Option Reply) → first_reply a b ≡ None → b ≡ None
 none_there None b is = is
 none_there (Some r) b is = absurd (none-some r (sym is))
+
+-- a word that joins a fetch leaves what a lost copy costs
+joined_bare : (e : Entry) (w : Word) → bare cost (joined_by e w) ≡ bare cost e
+joined_bare (entry.Idle s) w = refl
+joined_bare (entry.AwaitRead s) w = refl
+joined_bare (entry.AwaitWrite s) w = refl
+joined_bare (entry.AwaitAcks s) w = refl
+
+-- what an await asks for
+count_is : (b : Bool) (v : Word) (fault : Fault) (page : ℕ) (w : Word)
+    → count_asked (if b then Ok v else Err fault) ≡ kinds.Word page w → (page ≡ 0) × (w ≡ v)
+count_is true v fault page w is =
+    (let f : kinds.Word 0 v ≡ kinds.Word page w = is in (cc, cc))
+count_is false v fault page w is = absurd cc
+
+await_asks : (c : Config) (k least page : ℕ) (w : Word)
+    → asked_of c (call.Await k least) ≡ kinds.Word page w
+    → (page ≡ 0) × (w ≡ word.Await (8 * k) least)
+await_asks c k least page w is =
+    count_is (nat_lt k (count_len c)) (word.Await (8 * k) least) _ page w is
+
+-- a fetch that is due is the next one
+handed_if : (b : Bool) (next fetch : HandedFetch)
+    → (if b then None else Some next) ≡ Some fetch → Some next ≡ Some fetch
+handed_if true next fetch is = absurd (none-some fetch is)
+handed_if false next fetch is = is
+
+reached_next : (count : ℕ) (next : Option HandedFetch) (fetch : HandedFetch)
+    → if_reached count next ≡ Some fetch → next ≡ Some fetch
+reached_next count None fetch is = is
+reached_next count (Some next) fetch is = handed_if (nat_lt count next.after) next fetch is
+
+due_next : (p : Program) (count used : ℕ) (fetch : HandedFetch)
+    → due_of p count used ≡ Some fetch → slice_get (fetches_of p) used ≡ Some fetch
+due_next (Written instructions) count used fetch is = absurd (none-some fetch is)
+due_next (Called rows fetches) count used fetch is =
+    reached_next count (slice_get fetches used) fetch is
+
+-- the turn of a node with a call in progress: the call is asked for its reply, or a fetch is
+-- carried out
+module _ {S : Type 0} (ops : Ops S) (n : Host S) (called : Call)
+    (asked : n.memory.asked ≡ Some called) (out : Outcome (Host S)) where
+  data Polls : Type 0 where
+    polled_so : begins_as n called (polled_as ops n.memory called (reply_at n.memory)) ≡ Some out
+        → Polls
+    fetched_so : (fetch : HandedFetch) → slice_get (fetches_of n.process.program) n.used ≡ Some fetch
+        → out ≡ fetched_with n (fetch_of ops n fetch) → Polls
+
+  polled_is : turned_at ops n n.memory.asked
+      ≡ begins_as n called (polled_as ops n.memory called (reply_at n.memory))
+  polled_is = ap (turned_at ops n) asked ∙ ap (begins_as n called) (polls_as ops n.memory called asked)
+
+  by_poll : (fetch : HandedFetch) → slice_get (fetches_of n.process.program) n.used ≡ Some fetch
+      → (r : Option (Outcome (Host S))) → asks_reply ops n n.memory.asked ≡ r
+      → or_fetches ops n fetch r ≡ Some out → Polls
+  by_poll fetch next (Some o) is e =
+      polled_so (sym polled_is ∙ asks-turned ops n n.memory.asked o is ∙ e)
+  by_poll fetch next None is e =
+      fetched_so fetch next (sym (same_Some (fetched_with n (fetch_of ops n fetch)) out e))
+
+  by_due : (d : Option HandedFetch) → due n ≡ d → turned_by ops n d ≡ Some out → Polls
+  by_due None none e = polled_so (sym polled_is ∙ e)
+  by_due (Some fetch) is e =
+      by_poll fetch
+      (due_next n.process.program
+      (n.process.state.place + length (in_progress n.memory.asked n.memory.along)) n.used fetch is)
+      (asks_reply ops n n.memory.asked) refl e
+
+  polls : turn_of ops n ≡ Some out → Polls
+  unfolding turn_of
+  polls is = by_due (due n) refl is
 
 module _ {S : Type 0} (ops : Ops S) (c : Config) (limits : IsConfig c) (x : ℕ) (n : Host S)
     (good : IsSoundHost ops c x n) (out : Outcome (Host S)) where
@@ -243,8 +295,9 @@ module _ {S : Type 0} (ops : Ops S) (c : Config) (limits : IsConfig c) (x : ℕ)
     no_call : (other : Call) → n.memory.asked ≡ Some other → ⊥
     no_call other is = none-some other (sym idle ∙ is)
 
-    full_weight : host_weight n ≡ (cost + 2) * most_nodes + cost + 2 + cost + 1
-    full_weight = ap (λ a. call_weight a (entry_at k.table 0)) idle
+    full_weight : host_weight n ≡ 2 * fault_most + 2 * cost + 3 + fetch_weight n
+    full_weight =
+        ap (λ a. call_weight a (entry_at k.table 0) k.locked k.done + fetch_weight n) idle
 
     hit_begins : (o : Option Reply)
         → begins_as n called (answered n.memory called (number_of n) (hit ops k page w) o)
@@ -254,7 +307,7 @@ module _ {S : Type 0} (ops : Ops S) (c : Config) (limits : IsConfig c) (x : ℕ)
     hit_begins None is =
         subst (λ z. TurnDoes n z c) (same_Some _ out is)
         (begins page inside refl (λ other at. absurd (no_call other at)) (λ q ne. refl) refl
-        (let a = call_few called (entry_at k.table 0) in
+        (let a = call_few called (entry_at k.table 0) k.locked k.done in
         let b = full_weight in
         omega (arith, a, b)))
 
@@ -266,10 +319,13 @@ module _ {S : Type 0} (ops : Ops S) (c : Config) (limits : IsConfig c) (x : ℕ)
         (λ q ne. same_at q ∙ written_there page inside (fault_entry w (number_of n) s) q ne)
         (ap put_offs (same_at page ∙ written_here page inside (fault_entry w (number_of n) s))
         ∙ none_put ops k page w (number_of n) s ∙ sym (ap put_offs at))
-        (let a = call_few called (entry_at (along words kept).table 0) in
+        (let a = call_few called (entry_at (along words kept).table 0) (along words kept).locked
+        (along words kept).done in
         let b = full_weight in
         let d = fault_weight ops k page w (number_of n) s in
-        omega (arith, a, b, d)))
+        let e : length (along words kept).fetched ≡ length k.fetched =
+        ap length (along-net words kept).fetched in
+        omega (arith, a, b, d, e)))
       where
         -- the words that wait along leave the table as it is
         words : List Word
@@ -290,9 +346,13 @@ module _ {S : Type 0} (ops : Ops S) (c : Config) (limits : IsConfig c) (x : ℕ)
         (λ q ne. same_at q ∙ written_there page inside (joined_by e w) q ne)
         (ap put_offs (same_at page ∙ written_here page inside (joined_by e w))
         ∙ (joined_still e w).put_off ∙ sym (ap put_offs at))
-        (let a = call_few called (entry_at (along words kept).table 0) in
+        (let a = call_few called (entry_at (along words kept).table 0) (along words kept).locked
+        (along words kept).done in
         let b = full_weight in
-        omega (arith, a, b)))
+        let d : length (along words kept).fetched ≡ length (without_page page k.fetched) =
+        ap length (along-net words kept).fetched in
+        let f = fewer_without page k.fetched in
+        omega (arith, a, b, d, f)))
       where
         words : List Word
         words = (made_along n page w).words
@@ -308,7 +368,7 @@ module _ {S : Type 0} (ops : Ops S) (c : Config) (limits : IsConfig c) (x : ℕ)
     beside_begins is =
         subst (λ z. TurnDoes n z c) (same_Some _ out is)
         (begins page inside refl (λ other at. absurd (no_call other at)) (λ q ne. refl) refl
-        (let a = call_few called (entry_at k.table 0) in
+        (let a = call_few called (entry_at k.table 0) k.locked k.done in
         let b = full_weight in
         omega (arith, a, b)))
 
@@ -321,27 +381,47 @@ module _ {S : Type 0} (ops : Ops S) (c : Config) (limits : IsConfig c) (x : ℕ)
         (sym (ap comes_of same) ∙ is)
     access_begins b (is_fault s at short same) is =
         fault_begins s at (sym (ap comes_of same) ∙ is)
-    access_begins b (is_joined e at same) is = joined_begins e at (sym (ap comes_of same) ∙ is)
+    access_begins b (is_joined e at lock same) is = joined_begins e at (sym (ap comes_of same) ∙ is)
     access_begins b (is_beside same) is = beside_begins (sym (ap comes_of same) ∙ is)
+
+  -- where an entry is written at which no lost copy costs anything, page 0 costs no more
+  bare_written : (page : ℕ) (inside : page < c.pages) (e : Entry)
+      → bare cost e ≤ bare cost (entry_at k.table page)
+      → bare cost (entry_at (with_entry k.table page e) 0) ≤ bare cost (entry_at k.table 0)
+  bare_written page inside e less = elim (cases_eq 0 page) [
+    | inl first ↦
+        subst (λ q. bare cost (entry_at (with_entry k.table page e) q) ≤ bare cost (entry_at k.table q))
+        (sym first)
+        (let a = ap (bare cost) (written_here page inside e) in omega (arith, a, less))
+    | inr ne ↦ (let a = ap (bare cost) (written_there page inside e 0 ne) in omega (arith, a))
+  ]
+
+  -- a page is fetched, or is not
+  fetch_does : (fetch : HandedFetch) → slice_get (fetches_of n.process.program) n.used ≡ Some fetch
+      → out ≡ fetched_with n (fetch_of ops n fetch) → TurnDoes n out c
+  fetch_does fetch next is =
+      let low = slice_get_within (fetches_of n.process.program) n.used fetch next in
+      let used : out.after.used ≡ n.used + 1 =
+      ap (λ (z : Outcome (Host S)). z.after.used) is in
+      takes (omega (arith, used)) low
 
   -- a call that is tried again
   module _ (called : Call) (page : ℕ) (w : Word) (asked : n.memory.asked ≡ Some called)
       (none : reply_at n.memory ≡ None) (free : k.locked ≡ None)
-      (of : asked_of c called ≡ kinds.Word page w) (inside : page < c.pages)
-      (turned : turn_of ops n ≡ Some out) (pursued : IsPursued c n)
-      (unhanded : n.fetches.handed ≡ []) where
-    locked_not : is_locked (entry_at k.table page) ≡ true → ⊥
-    locked_not locked =
-        none-some page
-        (sym free ∙ only_locked ops k good.memory.coherent
-        (λ p h. unhanded-page n unhanded p (pursued.fetched p h)) page locked)
+      (of : asked_of c called ≡ kinds.Word page w) (inside : page < c.pages) where
+    abbrev tried : Begun S → Option (Outcome (Host S))
+    tried b =
+        begins_as n called
+        (again n.memory
+        (needed (without_call n.memory) called nothing_beside n.memory.number b b.need) b.need)
 
-    unlocked : (e : Entry) → entry_at k.table page ≡ e
-        → (s : IdleState) × (entry_at k.table page ≡ entry.Idle s)
-    unlocked (entry.Idle s) at = (s, at)
-    unlocked (entry.AwaitRead s) at = absurd (locked_not (ap is_locked at))
-    unlocked (entry.AwaitWrite s) at = absurd (locked_not (ap is_locked at))
-    unlocked (entry.AwaitAcks s) at = absurd (locked_not (ap is_locked at))
+    before : host_weight n
+        ≡ call_weight (Some called) (entry_at k.table 0) k.locked k.done + fetch_weight n
+    before =
+        ap (λ a. call_weight a (entry_at k.table 0) k.locked k.done + fetch_weight n) asked
+
+    still_asked : (other : Call) → n.memory.asked ≡ Some other → Some called ≡ Some other
+    still_asked other was = sym asked ∙ was
 
     hit_again : (r : Option Reply)
         → begins_as n called (again_unless n.memory
@@ -351,111 +431,124 @@ module _ {S : Type 0} (ops : Ops S) (c : Config) (limits : IsConfig c) (x : ℕ)
     hit_again (Some r) is =
         records _ (ap (λ (z : Outcome (Host S)). z.after.history) (sym (same_Some _ out is)))
 
-    fault_again : (s : IdleState) → entry_at k.table page ≡ entry.Idle s
-        → suffices s.access w ≡ false → (offset least : ℕ) → w ≡ word.Await offset least
-        → turn_of ops n
-        ≡ begins_as n called (needed (without_call n.memory) called nothing_beside n.memory.number
-        (faulted ops (without_call n.memory).coherence page w n.memory.number s)
-        (faulted ops (without_call n.memory).coherence page w n.memory.number s).need)
+    module _ (s : IdleState) (at : entry_at k.table page ≡ entry.Idle s)
+        (short : suffices s.access w ≡ false) where
+      abbrev e : Entry
+      e = fault_entry w n.memory.number s
+
+      -- what it asks for weighs less than it did
+      lighter : (a : Call) → asked_of c a ≡ kinds.Word page w → (answer : Option Out)
+          → work_posted cost
+          (fault_posted ops (without_call n.memory).coherence page w n.memory.number s)
+          + call_weight (Some a) (entry_at (with_entry k.table page e) 0) (Some page) answer
+          < call_weight (Some a) (entry_at k.table 0) k.locked k.done
+      lighter (call.Await j least) of_await answer =
+          let is = await_asks c j least page w of_await in
+          let first : entry_at (with_entry k.table page e) 0 ≡ e =
+          subst (λ p. entry_at (with_entry k.table page e) p ≡ e) is.0 (written_here page inside e) in
+          let unread : reads s.access ≡ false = sym (ap (suffices s.access) is.1) ∙ short in
+          let was : bare cost (entry_at k.table 0) ≡ cost =
+          ap (bare cost) (subst (λ p. entry_at k.table p ≡ entry.Idle s) is.0 at)
+          ∙ ap (λ b. if b then 0 else cost) unread in
+          let now : bare cost (entry_at (with_entry k.table page e) 0) ≡ 0 =
+          ap (bare cost) first
+          ∙ fault_bare ops (without_call n.memory).coherence page w n.memory.number s in
+          let posts : work_posted cost
+          (fault_posted ops (without_call n.memory).coherence page w n.memory.number s) ≡ 2 =
+          ap (λ v. work_posted cost
+          (fault_posted ops (without_call n.memory).coherence page v n.memory.number s)) is.1 in
+          omega (arith, was, now, posts)
+      lighter a of_other answer =
+          let was : try_weight k.locked k.done ≡ fault_most + 1 =
+          ap (λ l. try_weight l k.done) free
+          ∙ ap reply_weight (none_there _ (reply_there k.done) none) in
+          let posts = fault_weight ops (without_call n.memory).coherence page w n.memory.number s in
+          omega (arith, was, posts)
+
+      fault_again : tried (faulted ops (without_call n.memory).coherence page w n.memory.number s)
+          ≡ Some out → TurnDoes n out c
+      fault_again is =
+          subst (λ z. TurnDoes n z c) (same_Some _ out is)
+          (begins page inside refl still_asked
+          (written_there page inside e)
+          (ap put_offs (written_here page inside e)
+          ∙ none_put ops (without_call n.memory).coherence page w n.memory.number s
+          ∙ sym (ap put_offs at))
+          (let a = lighter called of None in
+          let b = before in
+          omega (arith, a, b)))
+
+    joined_again : (z : Entry) → entry_at k.table page ≡ z → is_locked z ≡ true
+        → tried (taken_up ops (without_call n.memory).coherence page w z) ≡ Some out
         → TurnDoes n out c
-    fault_again s at short offset least waits is =
-        subst (λ z. TurnDoes n z c) (same_Some _ out (sym is ∙ turned))
-        (begins page inside refl (λ other was. same_Some_asked other was)
-        (written_there page inside e)
-        (ap put_offs (written_here page inside e)
-        ∙ none_put ops (without_call n.memory).coherence page w n.memory.number s
-        ∙ sym (ap put_offs at)) less)
+    joined_again z at lock is =
+        subst (λ y. TurnDoes n y c) (same_Some _ out is)
+        (begins page inside refl still_asked
+        (written_there page inside (joined_by z w))
+        (ap put_offs (written_here page inside (joined_by z w))
+        ∙ (joined_still z w).put_off ∙ sym (ap put_offs at))
+        (let a = call_waits (Some called) (entry_at k.table 0)
+        (entry_at (with_entry k.table page (joined_by z w)) 0) page k.locked k.done None
+        (bare_written page inside (joined_by z w)
+        (let j = joined_bare z w in let l = ap (bare cost) at in omega (arith, j, l))) in
+        let b = before in
+        let d = less_without page k.fetched among in
+        omega (arith, a, b, d)))
       where
-        e : Entry
-        e = fault_entry w n.memory.number s
-
-        await : IsAwait c called page offset least
-        await = await_is c called page offset least
-            (of ∙ ap (λ v. kinds.Word page v) waits)
-
-        same_Some_asked : (other : Call) → n.memory.asked ≡ Some other → Some called ≡ Some other
-        same_Some_asked other was = sym asked ∙ was
-
-        unread : reads s.access ≡ false
-        unread = sym (ap (suffices s.access) waits) ∙ short
-
-        first : entry_at (with_entry k.table page e) 0 ≡ e
-        first = subst (λ p. entry_at (with_entry k.table page e) p ≡ e) await.first
-            (written_here page inside e)
-
-        before : host_weight n ≡ cost
-        before =
-            ap (λ a. call_weight a (entry_at k.table 0)) (asked ∙ ap Some await.is)
-            ∙ ap (bare cost)
-            (subst (λ p. entry_at k.table p ≡ entry.Idle s) await.first at)
-            ∙ ap (λ b. if b then 0 else cost) unread
-
-        after : call_weight (Some called) (entry_at (with_entry k.table page e) 0) ≡ 0
-        after =
-            ap (λ d. call_weight (Some d) (entry_at (with_entry k.table page e) 0)) await.is
-            ∙ ap (bare cost) first
-            ∙ fault_bare ops (without_call n.memory).coherence page w n.memory.number s
-
-        posts : work_posted cost
-            (fault_posted ops (without_call n.memory).coherence page w n.memory.number s) ≡ 2
-        posts = ap (λ v. work_posted cost
-            (fault_posted ops (without_call n.memory).coherence page v n.memory.number s)) waits
-
-        less : work_posted cost
-            (fault_posted ops (without_call n.memory).coherence page w n.memory.number s)
-            + call_weight (Some called) (entry_at (with_entry k.table page e) 0)
-            < host_weight n
-        less = omega (arith, before, after, posts)
-
-    try_again : TurnDoes n out c
-    try_again =
-        let at = unlocked (entry_at k.table page) refl in
-        elim (word_cases w) [
-          | inl plain ↦
-              absurd (unhanded-page n unhanded page
-              (pursued.pursued called page w asked of plain free
-              (none_there _ (reply_there k.done) none)))
-          | inr waits ↦ either at.0 at.1 waits.0 waits.1 waits.2 (suffices at.0.access w) refl
+        among : Contains k.fetched page
+        among = elim (good.memory.coherent.others page (ap is_locked at ∙ lock)) [
+          | inl waits ↦ absurd (none-some page (sym free ∙ waits))
+          | inr is_among ↦ is_among
         ]
-      where
-        either : (s : IdleState) → entry_at k.table page ≡ entry.Idle s → (offset least : ℕ)
-            → w ≡ word.Await offset least → (b : Bool) → suffices s.access w ≡ b → TurnDoes n out c
-        either s at offset least waits true enough =
-            hit_again (reply_of (carried_out w (page_at k.table page)).out)
-            (sym (tries-undue ops n called asked c good.config none free page w of
-            (unhanded-due n unhanded) s true at enough) ∙ turned)
-        either s at offset least waits false short =
-            fault_again s at short offset least waits
-            (tries-undue ops n called asked c good.config none free page w of
-            (unhanded-due n unhanded) s false at short)
 
-  pub turn_does : HostTurn ops c n out → turn_of ops n ≡ Some out → IsPursued c n
-      → n.fetches.handed ≡ [] → TurnDoes n out c
-  turn_does (answers called r asked there is) turned pursued unhanded =
+    by_access : (b : Begun S)
+        → Access ops (without_call n.memory).coherence page w n.memory.number b → tried b ≡ Some out
+        → TurnDoes n out c
+    by_access b (is_busy same) is = absurd (none-some out (sym (ap tried same) ∙ is))
+    by_access b (is_hit same) is =
+        hit_again (reply_of (carried_out w (page_at k.table page)).out) (sym (ap tried same) ∙ is)
+    by_access b (is_fault s at short same) is =
+        fault_again s at short (sym (ap tried same) ∙ is)
+    by_access b (is_joined z at lock same) is = joined_again z at lock (sym (ap tried same) ∙ is)
+    by_access b (is_beside same) is = absurd (none-some out (sym (ap tried same) ∙ is))
+
+    try_again : turn_of ops n ≡ Some out → TurnDoes n out c
+    try_again turned = by_polls (polls ops n called asked out turned)
+      where
+        by_polls : Polls ops n called asked out → TurnDoes n out c
+        by_polls (fetched_so fetch next is) = fetch_does fetch next is
+        by_polls (polled_so is) =
+            by_access _
+            (access ops (without_call n.memory).coherence page w n.memory.number)
+            (sym (ap (λ o. begins_as n called (polled_as ops n.memory called o)) none
+            ∙ ap (λ d. begins_as n called (tried_as ops n.memory called (asked_of d called))) good.config
+            ∙ ap (λ a. begins_as n called (tried_as ops n.memory called a)) of) ∙ is)
+
+  pub turn_does : HostTurn ops c n out → turn_of ops n ≡ Some out → TurnDoes n out c
+  turn_does (answers called r asked there is) turned =
       records _ (ap (λ (z : Outcome (Host S)). z.after.history) is)
-  turn_does (tries_again called page w asked none free of inside lies is) turned pursued unhanded =
+  turn_does (tries_again called page w asked none free of inside lies is) turned =
       try_again called page w asked none free
-      (subst (λ d. asked_of d called ≡ kinds.Word page w) good.config of) inside turned pursued
-      unhanded
-  turn_does (goes_on s idle step is) turned pursued unhanded =
+      (subst (λ d. asked_of d called ≡ kinds.Word page w) good.config of) inside turned
+  turn_does (goes_on s idle step is) turned =
       goes idle (ap (λ (z : Outcome (Host S)). z.posted) is)
       (ap (λ (z : Outcome (Host S)). z.after.memory) is)
       (ap (λ (z : Outcome (Host S)). z.after.history) is)
-  turn_does (refuses called code idle step refusal is) turned pursued unhanded =
+      (ap (λ (z : Outcome (Host S)). host_weight z.after) is)
+  turn_does (refuses called code idle step refusal is) turned =
       records _ (ap (λ (z : Outcome (Host S)). z.after.history) is)
-  turn_does (asks_for called page w idle step of inside lies few is) turned pursued unhanded =
+  turn_does (asks_for called page w idle step of inside lies few is) turned =
       access_begins called page w idle inside (asks ops n page w)
       (access ops k page w (number_of n)) is
-  turn_does (serves_heap called h heap idle step of there is) turned pursued unhanded =
+  turn_does (serves_heap called h heap idle step of there is) turned =
       records _ (ap (λ (z : Outcome (Host S)). z.after.history) is)
-  turn_does (asks_heap called h idle step of away is) turned pursued unhanded =
+  turn_does (asks_heap called h idle step of away is) turned =
       subst (λ z. TurnDoes n z c) (sym is)
       (begins 0 (let a = limits.pages_from in omega (arith, a)) refl
       (λ other was. absurd (none-some other (sym idle ∙ was))) (λ q ne. refl) refl
-      (let a = call_few called (entry_at k.table 0) in
-      let b : host_weight n ≡ (cost + 2) * most_nodes + cost + 2 + cost + 1 =
-      ap (λ z. call_weight z (entry_at k.table 0)) idle in
+      (let a = call_few called (entry_at k.table 0) k.locked k.done in
+      let b : host_weight n ≡ 2 * fault_most + 2 * cost + 3 + fetch_weight n =
+      ap (λ z. call_weight z (entry_at k.table 0) k.locked k.done + fetch_weight n) idle in
       let d = request_weight h in
       omega (arith, a, b, d)))
-  turn_does (carries_fetch fetch next is) turned pursued unhanded =
-      absurd (unhanded-next n unhanded fetch next)
+  turn_does (carries_fetch fetch next is) turned = fetch_does fetch next is

@@ -38,9 +38,8 @@ use Rattle.ivy_alloc.proofs.HeapSides.{answer_heap}
 use Rattle.proof_worlds.proofs.refinement.HeapDeliveries.{HeapDelivery, serves, learns}
 use Rattle.proof_worlds.proofs.refinement.HeapWays.{heap_there, heap_quiet, way_turned, way_other, way_page}
 use Rattle.proof_worlds.proofs.refinement.LiftedWorlds.{IsSoundWorldBy, fits_heap}
-use Rattle.proof_answers.proofs.answers.Falling.{IsLaterAt, by_step}
-use Rattle.proof_answers.proofs.fairness.Leading.{HasGrown as Grown, Records, told_of, grown_on, round_on, all_there, reply_records, rounds_record}
-use Rattle.proof_answers.proofs.fairness.Aims.{served_asked, served_history, core_elsewhere, core_here}
+use Rattle.proof_answers.proofs.fairness.Leading.{HasGrown as Grown, Records, told_of, grown_on, later_on, round_on, all_there, reply_records, rounds_record}
+use Rattle.proof_answers.proofs.answers.Later.{IsLaterAt, served_asked, served_history, core_elsewhere, core_here}
 
 -- where none of some messages is of the heap, none of the last of them is
 tail_none : (b : Bool) (m : Message) (ms : List Message) → (if b then m ∷ ms else ms) ≡ []
@@ -265,7 +264,7 @@ module _ (opened : Opening) (c : Config) (limits : IsConfig c) (programs : List 
     busy_on h there busy = by_more m.0 m.1 m.2 m.2.more refl
       where
         m : (m : Host Managed) × (slice_get o'.cores i ≡ Some m) × IsLaterAt h m
-        m = (by_step opened c limits programs many o run o' step).later.at i h there
+        m = (later_on opened c limits programs many o o' run step).at i h there
 
         by_more : (h' : Host Managed) → slice_get o'.cores i ≡ Some h' → (later : IsLaterAt h h')
             → (more : List Record) → later.more ≡ more

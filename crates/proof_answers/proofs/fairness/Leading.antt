@@ -37,8 +37,8 @@ use Rattle.proof_worlds.proofs.consistency.Faithful.{map-places}
 use Rattle.proof_worlds.proofs.refinement.LiftedWorlds.{IsSoundWorldBy}
 use Rattle.proof_worlds.proofs.progress.Reached.{IsToldBy, reached_told}
 use Rattle.proof_worlds.proofs.progress.Stopped.{replied_turn}
-use Rattle.proof_answers.proofs.answers.Answering.{Apart, leads_apart, turn_leads}
-use Rattle.proof_answers.proofs.answers.Falling.{no_shorter, by_step}
+use Rattle.proof_answers.proofs.answers.Apart.{Apart, leads_apart, turn_leads}
+use Rattle.proof_answers.proofs.answers.Later.{AreLater, no_shorter, step_later}
 
 -- what a step posts stands behind what was posted
 abbrev pub IsLonger : FifoWorld (Host Managed) → FifoWorld (Host Managed) → Type 0
@@ -80,6 +80,12 @@ module _ (opened : Opening) (c : Config) (limits : IsConfig c) (programs : List 
 
   keeps_well_behaved : IsWellBehaved (host_rules managed_ops) c (IsSoundHost managed_ops c)
   keeps_well_behaved = well_behaved managed_laws c
+
+  -- histories go on
+  pub later_on : (o o' : FifoWorld (Host Managed)) → IsRun o → Steps (host_rules managed_ops) o o'
+      → AreLater o o'
+  later_on o o' run =
+      step_later c o o' (told_of opened c limits programs many o run).faithful.sound.sound
 
   -- what steps keep, moves keep
   module _ (K : FifoWorld (Host Managed) → Type 0)
@@ -187,7 +193,7 @@ module _ (opened : Opening) (c : Config) (limits : IsConfig c) (programs : List 
     pub grown_on : (o o' : FifoWorld (Host Managed)) → IsRun o → Steps (host_rules managed_ops) o o'
         → HasGrown o → HasGrown o'
     grown_on o o' run step g =
-        let m = (by_step opened c limits programs many o run o' step).later.at i g.0 g.1 in
+        let m = (later_on o o' run step).at i g.0 g.1 in
         let le = no_shorter g.0 m.0 m.2 in
         let more = g.2 in
         (m.0, m.1, omega (arith, more, le))
@@ -237,7 +243,7 @@ module _ (opened : Opening) (c : Config) (limits : IsConfig c) (programs : List 
         by_turn (inr is) =
             let node = map-places (λ (m : Node (Host Managed)). m.core) apart.mid.nodes i is.0 is.1 in
             let came =
-            turn_leads opened c limits programs many apart.mid apart.after.0 i node.0 node.1 is.2.0
+            turn_leads c apart.mid apart.after.0 i node.0 node.1 is.2.0
             (ap (turn_of managed_ops) node.2 ∙ is.2.1) apart.after.1 in (
               turn.follows,
               (

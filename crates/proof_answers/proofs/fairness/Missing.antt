@@ -1,5 +1,5 @@
--- An owner that collects acknowledgements misses some, and whom it misses has a copy, or gets one, or
--- has given it up.
+-- An owner that collects acknowledgements misses some, and whom it misses has a copy, or gets one,
+-- or has given it up.
 use Rattle.std.proofs.Common.{◌≡◌, ◌⊎◌, ℕ, true, false, refl, sym, ap, ◌∙◌, subst, inl, inr}
 use Rattle.std.proofs.lemmas.Bool.{cases_Bool}
 use Rattle.std.specs.Ordering.{nat_cmp}

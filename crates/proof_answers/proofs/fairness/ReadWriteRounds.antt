@@ -1,8 +1,8 @@
--- A node that reads or writes, through rounds: it waits no longer than so many of them, and then
--- its next turn records the reply.
+-- A node that reads or writes, through rounds: its word waits no longer than so many of them, and
+-- then its next turn records the reply.
 use Rattle.std.proofs.Common.{◌≡◌, ◌⊎◌, ◌<◌, ◌≤◌, ◌+◌, ℕ, zero, suc, Bool, true, false, List, [], ◌∷◌, ◌++◌, length, take, cond, slice_get, Option, Some, None, refl, sym, ap, ◌∙◌, subst, inl, inr, arith}
-use Rattle.std.proofs.lemmas.Bool.{cases_eq, cases_lt, both_ways, le-leb}
-use Rattle.std.proofs.lemmas.List.{length-append, get_or_past}
+use Rattle.std.proofs.lemmas.Bool.{cases_eq, cases_lt, both_ways}
+use Rattle.std.proofs.lemmas.List.{get_or_past}
 use Rattle.std.proofs.lemmas.Option.{same_Some, none-some, slice_get_within}
 use Rattle.ivy_model.specs.declared.Config.{Config}
 use Rattle.ivy_model.specs.declared.Call.{Call}
@@ -10,67 +10,44 @@ use Rattle.ivy_model.specs.declared.Record.{Record}
 use Rattle.ivy_model.specs.declared.Reply.{Reply}
 use Rattle.ivy_model.specs.stated.Config.{IsConfig}
 use Rattle.ivy_wire.specs.stated.Data.{Message}
-use Rattle.ivy_pagetable.specs.declared.Entry.{Entry}
-use Rattle.ivy_pagetable.specs.declared.Entry.TheVariants as entry
 use Rattle.ivy_pagetable.specs.declared.Word.{Word}
-use Rattle.ivy_pagetable.specs.declared.Word.TheVariants as word
-use Rattle.ivy_pagetable.specs.stated.Accesses.{reads}
-use Rattle.ivy_pagetable.specs.stated.Entries.{is_locked, nothing, readable}
-use Rattle.ivy_pagetable.specs.stated.Manager.{Ops}
-use Rattle.ivy_pagetable.specs.stated.States.{IdleState}
-use Rattle.ivy_pagetable.specs.stated.Words.{number_at}
-use Rattle.ivy_pagetable.specs.stated.Tables.{entry_at, page_at}
+use Rattle.ivy_pagetable.specs.stated.Entries.{is_locked, nothing}
+use Rattle.ivy_pagetable.specs.stated.Tables.{entry_at}
 use Rattle.ivy_program.specs.stated.Programs.{Program}
-use Rattle.ivy_moves.specs.declared.Move.TheVariants.{Turn}
 use Rattle.ivy_moves.specs.stated.Cores.{Outcome}
 use Rattle.ivy_moves.specs.stated.Following.{fifo_of}
-use Rattle.ivy_moves.specs.stated.Nodes.{Node}
 use Rattle.ivy_moves.specs.stated.FifoWorld.{FifoWorld, Delivers, Steps, rests, turns, delivers}
 use Rattle.ivy_moves.specs.stated.Worlds.{World}
-use Rattle.ivy_moves.proofs.Places.{core_of}
 use Rattle.ivy_coherence.specs.stated.Coherent.{Coherent}
 use Rattle.ivy_coherence.specs.stated.MessageSteps.{handled}
 use Rattle.proof_table.specs.stated.Letters.{Net}
 use Rattle.proof_table.specs.transitions.TableSteps.{Claim, IsPreservedBy}
 use Rattle.proof_table.proofs.transitions.Embedded.{embedded-kept}
 use Rattle.proof_table.proofs.waiting.Restarts.{next_due}
-use Rattle.proof_answers.proofs.answers.Unhanded.{unhanded_of}
 use Rattle.proof_answers.specs.answers.NodeRounds.{IsRound, AreRounds}
-use Rattle.ivy_host.specs.stated.Hosts.{Host, host_rules, serving, turn_of, recorded}
+use Rattle.ivy_host.specs.stated.Hosts.{Host, host_rules, serving, turn_of}
 use Rattle.ivy_host.specs.stated.Managers.{Managed, managed_ops}
 use Rattle.ivy_host.specs.declared.opening.Opening.{Opening}
 use Rattle.ivy_host.specs.stated.Openings.{managed_start}
 use Rattle.ivy_host.specs.ManagedLaws.{managed_laws}
-use Rattle.ivy_host.specs.stated.Sound.{IsSoundHost}
 use Rattle.ivy_alloc.specs.stated.HeapCalls.{is_of_pages, reply_told}
 use Rattle.ivy_memory.specs.declared.Asked.TheVariants as kinds
 use Rattle.ivy_memory.specs.stated.Asking.{asked_of}
-use Rattle.ivy_memory.specs.stated.Memories.{first_reply, reply_at, reply_there, taken_out}
-use Rattle.proof_worlds.specs.stated.Nets.{about_pages, entry_of, page_of, net_of, managers_of}
+use Rattle.ivy_memory.specs.stated.Memories.{first_reply, reply_at, reply_there}
+use Rattle.proof_worlds.specs.stated.Nets.{about_pages, entry_of, net_of, managers_of}
 use Rattle.proof_worlds.specs.stated.FifoRuns.{IsReachedInOrder, FollowsInOrder}
 use Rattle.ivy_host.proofs.Pages.{page_serving}
-use Rattle.proof_worlds.proofs.consistency.Faithful.{map-places}
-use Rattle.proof_worlds.proofs.refinement.HostTurns.{HostTurn, answers, tries_again, goes_on, refuses, asks_for, serves_heap, asks_heap, carries_fetch, turn_cases}
-use Rattle.ivy_host.specs.stated.Fetches.{next_fetch}
 use Rattle.proof_worlds.proofs.refinement.LiftedEvents.{Tells, quiet, answers as is_answered}
 use Rattle.proof_worlds.proofs.refinement.FifoRuns.{letters_below}
 use Rattle.proof_worlds.proofs.refinement.LiftedRuns.{Holds}
 use Rattle.proof_worlds.proofs.refinement.LiftedSteps.{kept-delivers}
 use Rattle.proof_worlds.proofs.refinement.LiftedWorlds.{fits_heap}
-use Rattle.proof_worlds.proofs.progress.Pursued.{IsPlain}
-use Rattle.proof_worlds.proofs.progress.Reached.{IsToldBy, AllUnhanded}
-use Rattle.proof_worlds.proofs.progress.FetchedPages.{only_locked, unhanded-next, unhanded-page}
-use Rattle.proof_worlds.proofs.progress.Stopped.{replied_turn, tries, await_answered}
-use Rattle.proof_answers.proofs.answers.Answering.{Apart, leads_apart, turn_leads}
-use Rattle.proof_answers.proofs.answers.Falling.{AreLater, all_then, no_shorter, by_step}
-use Rattle.proof_answers.proofs.fairness.Leading.{IsLonger, IsLed, HasGrown as Grown, Records, told_of, led_on, round_on, all_there, reply_records, rounds_record}
+use Rattle.proof_worlds.proofs.progress.Reached.{IsToldBy}
+use Rattle.proof_answers.proofs.answers.MessageWeights.{heap_still}
+use Rattle.proof_answers.proofs.answers.Later.{AreLater, all_then, no_shorter, served_asked, served_history, core_elsewhere, core_here}
+use Rattle.proof_answers.proofs.fairness.Leading.{IsLonger, HasGrown as Grown, Records, told_of, later_on, round_on, all_there, reply_records, rounds_record}
 use Rattle.proof_answers.proofs.fairness.WaitRanks.{OfKind, spare, IsEnded, WaitRank, IsWaitingIn}
-use Rattle.proof_answers.proofs.fairness.Aims.{IsWaiting, IsOpen, Comes, waits_on, opens, grows, Stepped, one_step, heap_still, IsReady, served_asked, served_history, core_elsewhere, core_here}
-
--- no reply at all: none of a word that was carried out
-none_there : (a b : Option Reply) → first_reply a b ≡ None → b ≡ None
-none_there None b h = h
-none_there (Some r) b h = absurd (none-some r (sym h))
+use Rattle.proof_answers.proofs.fairness.Aims.{IsWaiting, IsOpen, Comes, waits_on, opens, grows, Stepped, one_step, IsReady}
 
 -- of more messages no fewer are about pages
 one_about : (b : Bool) (m : Message) (xs ys : List Message) → length xs ≤ length ys
@@ -85,36 +62,6 @@ all_about zero (m ∷ xs) ys le = absurd (omega (arith, le))
 all_about (suc k) (m ∷ xs) ys le =
     one_about (is_of_pages m.content) m (about_pages xs) (about_pages (take k (xs ++ ys)))
     (all_about k xs ys (omega (arith, le)))
-
--- a word is an await, or is not
-plain_or_await : (w : Word)
-    → IsPlain w ⊎ ((offset : ℕ) × (least : ℕ) × (w ≡ word.Await offset least))
-plain_or_await (word.Load width offset) = inl tt
-plain_or_await (word.Store width offset value) = inl tt
-plain_or_await (word.Swap width offset value) = inl tt
-plain_or_await (word.Cas width offset expected value) = inl tt
-plain_or_await (word.FetchAdd width offset value) = inl tt
-plain_or_await (word.Count offset) = inl tt
-plain_or_await (word.Advance offset) = inl tt
-plain_or_await (word.Await offset least) = inr (offset, least, refl)
-
--- the turn of a node that awaits and may not read: the call waits then
-await_waits : {S : Type 0} (ops : Ops S) (n : Host S) (called : Call)
-    (asked : n.memory.asked ≡ Some called) (c : Config) (config : n.memory.coherence.config ≡ c)
-    (none : reply_at n.memory ≡ None) (free : n.memory.coherence.locked ≡ None)
-    (page offset least : ℕ) (of : asked_of c called ≡ kinds.Word page (word.Await offset least))
-    (s : IdleState) → entry_at n.memory.coherence.table page ≡ entry.Idle s
-    → reads s.access ≡ false
-    → (o : Outcome (Host S)) × (turn_of ops n ≡ Some o) × (o.after.memory.asked ≡ Some called)
-    × (o.after.history ≡ n.history) × (o.after.memory.coherence.locked ≡ Some page)
-await_waits ops n called asked c config none free page offset least of s idle unread = (
-  _,
-  tries ops n called asked c config none free page (word.Await offset least) of s false idle unread _
-      refl,
-  refl,
-  refl,
-  refl,
-)
 
 -- In the worlds after `start`, where the call is an await, its count has come to the least value.
 module _ (opened : Opening) (c : Config) (limits : IsConfig c) (programs : List Program)
@@ -140,9 +87,6 @@ module _ (opened : Opening) (c : Config) (limits : IsConfig c) (programs : List 
   abbrev told : (o : FifoWorld (Host Managed)) → IsRun o → IsToldBy sends managed_ops c o
   told o run = told_of opened c limits programs many o run
 
-  abbrev unhanded : (o : FifoWorld (Host Managed)) → IsRun o → AllUnhanded o
-  unhanded o run = unhanded_of opened c limits programs many o run
-
   abbrev Kind : Claim Managed
   Kind = OfKind rank.embed c rank.Base
 
@@ -161,7 +105,7 @@ module _ (opened : Opening) (c : Config) (limits : IsConfig c) (programs : List 
   }
 
   -- a node that is there is one of the nodes
-  node_below : (o : FifoWorld (Host Managed)) → IsRun o → (h : Host Managed)
+  pub node_below : (o : FifoWorld (Host Managed)) → IsRun o → (h : Host Managed)
       → slice_get o.cores i ≡ Some h → i < c.nodes
   node_below o run h there =
       let low = slice_get_within o.cores i h there in
@@ -215,47 +159,30 @@ module _ (opened : Opening) (c : Config) (limits : IsConfig c) (programs : List 
 
   module _ (o o' : FifoWorld (Host Managed)) (run : IsRun o) (step : Steps (host_rules managed_ops) o o')
       (history : List Record) where
-    later : AreLater o o'
-    later = (by_step opened c limits programs many o run o' step).later
+    pub later : AreLater o o'
+    later = later_on opened c limits programs many o o' run step
 
     base : Holds sends managed_ops c Kind (spare c) o
     base = rank.reached o run
 
-    open_turn : (h : Host Managed) → slice_get o.cores i ≡ Some h → IsOpen called history h
-        → (core : Host Managed) (out : Outcome (Host Managed)) → core ≡ h
-        → HostTurn managed_ops c core out → slice_get o'.cores i ≡ Some out.after
-        → IsPast history o'
-    open_turn h there opened core out it (answers other reply asked at does) now =
+    -- its reply is there, so the turn records it
+    open_turn : (h : Host Managed) → IsOpen called history h → (core : Host Managed)
+        (out : Outcome (Host Managed)) → core ≡ h → turn_of managed_ops core ≡ Some out
+        → slice_get o'.cores i ≡ Some out.after → IsPast history o'
+    open_turn h told_so core out it turned now =
+        let r : (r : Reply) × (reply_at h.memory ≡ Some r) = reply_is history h told_so in
+        let made = reply_records opened c limits programs many i history h called told_so.asked
+        told_so.records r.0 r.1 in
+        let same : made.0 ≡ out =
+        same_Some made.0 out (sym made.1 ∙ ap (turn_of managed_ops) (sym it) ∙ turned) in
         answered out.after now
-        (let a : length out.after.history ≡ length core.history + 1 =
-        ap (λ z. length z.after.history) does ∙ length-append core.history (record { node = core.memory.coherence.me; call = other; reply = reply } ∷ []) in
-        let b : length core.history ≡ length history =
-        ap (λ (z : Host Managed). length z.history) it ∙ ap length opened.records in
-        omega (arith, a, b))
-    open_turn h there opened core out it
-        (tries_again other q word asked untold free of within lies does) now =
-        let r = reply_is history h opened in
-        absurd (none-some r.0
-        (sym untold ∙ ap (λ (z : Host Managed). reply_at z.memory) it ∙ r.1))
-    open_turn h there opened core out it (goes_on s none at does) now =
-        absurd (none-some called (sym none ∙ ap (λ (z : Host Managed). z.memory.asked) it ∙ opened.asked))
-    open_turn h there opened core out it (refuses other code none at refusal does) now =
-        absurd (none-some called (sym none ∙ ap (λ (z : Host Managed). z.memory.asked) it ∙ opened.asked))
-    open_turn h there opened core out it (asks_for other q word none at of within lies few does) now =
-        absurd (none-some called (sym none ∙ ap (λ (z : Host Managed). z.memory.asked) it ∙ opened.asked))
-    open_turn h there opened core out it (serves_heap other k heap none at of there_heap does) now =
-        absurd (none-some called (sym none ∙ ap (λ (z : Host Managed). z.memory.asked) it ∙ opened.asked))
-    open_turn h there opened core out it (asks_heap other k none at of away does) now =
-        absurd (none-some called (sym none ∙ ap (λ (z : Host Managed). z.memory.asked) it ∙ opened.asked))
-    open_turn h there opened core out it (carries_fetch fetch next does) now =
-        absurd (unhanded-next h (unhanded o run i h there) fetch
-        (sym (ap (λ (z : Host Managed). next_fetch z.fetches) it) ∙ next))
+        (subst (λ (z : Outcome (Host Managed)). length history < length z.after.history) same made.2)
 
     -- a message to a node at which no word waits leaves that so, and its answer
     abbrev IsLeft : Coherent Managed → Coherent Managed → Type 0
     IsLeft k k' = (k'.locked ≡ None) × (k'.done ≡ k.done)
 
-    left_so : (source x : ℕ) (t : Delivers (host_rules managed_ops) o source x o')
+    pub left_so : (source x : ℕ) (t : Delivers (host_rules managed_ops) o source x o')
         → t.core.memory.coherence.locked ≡ None → (b : Bool) → is_of_pages t.message.content ≡ b
         → IsLeft t.core.memory.coherence
         (serving managed_ops t.core source t.message).after.memory.coherence
@@ -295,9 +222,8 @@ module _ (opened : Opening) (c : Config) (limits : IsConfig c) (programs : List 
           | inr ne ↦
               carried h (core_elsewhere o o' x t.core t.outcome.after i t.there t.cores ne ∙ there) opened
           | inl same ↦
-              open_turn h there opened t.core t.outcome
-              (same_Some t.core h (sym t.there ∙ ap (slice_get o.cores) (sym same) ∙ there))
-              (turn_cases managed_ops c x t.core (base.0.sound x t.core t.there) t.outcome t.turned)
+              open_turn h opened t.core t.outcome
+              (same_Some t.core h (sym t.there ∙ ap (slice_get o.cores) (sym same) ∙ there)) t.turned
               (core_here o o' x t.core t.outcome.after i t.there t.cores same)
         ]
         by_steps (delivers source x t) =
@@ -330,14 +256,14 @@ module _ (opened : Opening) (c : Config) (limits : IsConfig c) (programs : List 
                   )
             ]
 
-    past_on : IsPast history o → IsPast history o'
+    pub past_on : IsPast history o → IsPast history o'
     past_on (answered h there more) =
         let m = later.at i h there in
         let le = no_shorter h m.0 m.2 in
         answered m.0 m.1 (omega (arith, more, le))
     past_on (carried h there opened) = open_on h there opened
 
-    stage_on : (p : ℕ) → p < c.pages → (due : ℕ → ℕ → ℕ) (r : ℕ) → Stage history p due r o
+    pub stage_on : (p : ℕ) → p < c.pages → (due : ℕ → ℕ → ℕ) (r : ℕ) → Stage history p due r o
         → Stage history p due r o'
     stage_on p inside due r (past k) = past (past_on k)
     stage_on p inside due r (waiting h there is waits since) = by_comes next.host next.now next.comes
@@ -362,7 +288,7 @@ module _ (opened : Opening) (c : Config) (limits : IsConfig c) (programs : List 
     IsPast_on o o' run step = past_on o o' run step history
 
     -- rounds once the word was carried out: the node's turn records its reply
-    past_rounds : (k : ℕ) (u v : World (Host Managed)) (f : Follower u) → AreRounds c i (suc k) u v
+    pub past_rounds : (k : ℕ) (u v : World (Host Managed)) (f : Follower u) → AreRounds c i (suc k) u v
         → IsPast history (order_of u f) → (g : Follower v) × HasGrown history (order_of v g)
     past_rounds k u v f are was =
         rounds_record opened c limits programs many i history (IsPast history) IsPast_on
@@ -392,7 +318,7 @@ module _ (opened : Opening) (c : Config) (limits : IsConfig c) (programs : List 
             ap (λ z. is_locked (entry_of z p)) there
             ∙ (base_at.0.sound i h there).memory.coherent.locked p is.locked
 
-        at_end : IsEnded c (next_due (net_of (order_of u f))) (net_of (order_of v g))
+        pub at_end : IsEnded c (next_due (net_of (order_of u f))) (net_of (order_of v g))
         at_end = between (order_of v g) g.reached (next_due (net_of (order_of u f))) ended
 
         -- then it waits for one round less
@@ -454,298 +380,52 @@ module _ (opened : Opening) (c : Config) (limits : IsConfig c) (programs : List 
                 (order_of are.0 one.0)) (sym same) more.2)
           ]
 
-    -- a locked page is one of the pages
-    page_inside : (o : FifoWorld (Host Managed)) → IsRun o → (h : Host Managed)
-        → slice_get o.cores i ≡ Some h → (p : ℕ) → h.memory.coherence.locked ≡ Some p → p < c.pages
-    page_inside o run h there p locked = elim (cases_lt p c.pages) [
-      | inl low ↦ low
-      | inr over ↦ absurd (
-          let good = (told o run).faithful.sound.sound i h there in
-          let entries = good.memory.coherent.entries in
-          let pages : h.memory.coherence.config.pages ≡ c.pages =
-          ap (λ (d : Config). d.pages) good.config in
-          let none : entry_at h.memory.coherence.table p ≡ nothing =
-          get_or_past h.memory.coherence.table.entries p nothing (omega (arith, over, entries, pages))
-          in
-          both_ways (is_locked (entry_at h.memory.coherence.table p)) (ap is_locked none)
-          (good.memory.coherent.locked p locked)
-          )
-    ]
+  -- a locked page is one of the pages
+  pub locked_inside : (o : FifoWorld (Host Managed)) → IsRun o → (h : Host Managed)
+      → slice_get o.cores i ≡ Some h → (p : ℕ)
+      → is_locked (entry_at h.memory.coherence.table p) ≡ true → p < c.pages
+  locked_inside o run h there p shut = elim (cases_lt p c.pages) [
+    | inl low ↦ low
+    | inr over ↦ absurd (
+        let good = (told o run).faithful.sound.sound i h there in
+        let entries = good.memory.coherent.entries in
+        let pages : h.memory.coherence.config.pages ≡ c.pages =
+        ap (λ (d : Config). d.pages) good.config in
+        let none : entry_at h.memory.coherence.table p ≡ nothing =
+        get_or_past h.memory.coherence.table.entries p nothing (omega (arith, over, entries, pages))
+        in
+        both_ways (is_locked (entry_at h.memory.coherence.table p)) (ap is_locked none) shut
+        )
+  ]
+
+  -- how long what waits there may wait
+  pub rank_at : (o : FifoWorld (Host Managed)) → IsRun o → (h : Host Managed)
+      → slice_get o.cores i ≡ Some h → (p : ℕ) → p < c.pages
+      → is_locked (entry_at h.memory.coherence.table p) ≡ true
+      → IsWaitingIn rank o (next_due (net_of o)) p i rank.most
+  rank_at o run h there p inside shut =
+      let base : Holds sends managed_ops c Kind (spare c) o = rank.reached o run in
+      let most = rank.first base.1.1.0 (net_of o) base.1.0 base.1.1.2 (net_of o).delivered
+      (between o run (net_of o).delivered (λ x y. omega arith)) p i inside
+      (node_below o run h there)
+      (ap (λ z. is_locked (entry_of z p)) there ∙ shut) in
+      (base.1.0, (base.1.1.0, base.1.1.1, (base.1.1.2, most)))
+
+  -- where a word waits
+  pub word_locks : (history : List Record) (o : FifoWorld (Host Managed)) → IsRun o → (h : Host Managed)
+      → slice_get o.cores i ≡ Some h → (p : ℕ) → IsWaiting p called history h
+      → is_locked (entry_at h.memory.coherence.table p) ≡ true
+  word_locks history o run h there p is =
+      ((told o run).faithful.sound.sound i h there).memory.coherent.locked p is.locked
 
   -- a word that waits is answered in so many rounds
   module _ (history : List Record) where
-    rank_at : (o : FifoWorld (Host Managed)) → IsRun o → (h : Host Managed)
-        → slice_get o.cores i ≡ Some h → (p : ℕ) → p < c.pages → IsWaiting p called history h
-        → IsWaitingIn rank o (next_due (net_of o)) p i rank.most
-    rank_at o run h there p inside is =
-        let base : Holds sends managed_ops c Kind (spare c) o = rank.reached o run in
-        let most = rank.first base.1.1.0 (net_of o) base.1.0 base.1.1.2 (net_of o).delivered
-        (between o run (net_of o).delivered (λ x y. omega arith)) p i inside
-        (node_below o run h there)
-        (ap (λ z. is_locked (entry_of z p)) there
-        ∙ (base.0.sound i h there).memory.coherent.locked p is.locked) in
-        (base.1.0, (base.1.1.0, base.1.1.1, (base.1.1.2, most)))
-
-    from_waiting : (k : ℕ) (u v : World (Host Managed)) (f : Follower u) (p : ℕ) (h : Host Managed)
+    pub from_waiting : (k : ℕ) (u v : World (Host Managed)) (f : Follower u) (p : ℕ) (h : Host Managed)
         → slice_get (order_of u f).cores i ≡ Some h → IsWaiting p called history h
         → AreLater start (order_of u f) → AreRounds c i (suc (rank.most + suc k)) u v
         → (g : Follower v) × HasGrown history (order_of v g)
     from_waiting k u v f p h there is since are =
-        let inside = page_inside history (order_of u f) f.reached h there p is.locked in
+        let shut = word_locks history (order_of u f) f.reached h there p is in
+        let inside = locked_inside (order_of u f) f.reached h there p shut in
         waiting_rounds history p inside (rank.most) k (rank.most + suc k) u v f refl are
-        (waiting h there is (rank_at (order_of u f) f.reached h there p inside is) since)
-
-    -- the call is tried again at its node's next turn
-    record IsTrying (h : Host Managed) : Type 0 where
-      asked : h.memory.asked ≡ Some called
-      records : h.history ≡ history
-      locked : h.memory.coherence.locked ≡ None
-      none : reply_there h.memory.coherence.done ≡ None
-
-    -- it waits, or that is past
-    data Moved (o : FifoWorld (Host Managed)) : Type 0 where
-      waits_now : (p : ℕ) (h : Host Managed) → slice_get o.cores i ≡ Some h
-          → IsWaiting p called history h → AreLater start o → Moved o
-      is_past : IsPast history o → Moved o
-
-    data Begun (o : FifoWorld (Host Managed)) : Type 0 where
-      trying : (h : Host Managed) → slice_get o.cores i ≡ Some h → IsTrying h → AreLater start o
-          → Begun o
-      moved : Moved o → Begun o
-
-    moved_on : (o o' : FifoWorld (Host Managed)) → IsRun o → Steps (host_rules managed_ops) o o'
-        → Moved o → Moved o'
-    moved_on o o' run step (is_past k) = is_past (past_on o o' run step history k)
-    moved_on o o' run step (waits_now p h there is since) =
-        by_stage
-        (stage_on o o' run step history p inside (next_due (net_of o)) (rank.most)
-        (waiting h there is (rank_at o run h there p inside is) since))
-      where
-        inside : p < c.pages
-        inside = page_inside history o run h there p is.locked
-
-        by_stage : Stage history p (next_due (net_of o)) (rank.most) o' → Moved o'
-        by_stage (past k) = is_past k
-        by_stage (waiting h' now still rank later_on) = waits_now p h' now still later_on
-
-    -- what that turn does
-    module _ (o : FifoWorld (Host Managed)) (run : IsRun o) (since : AreLater start o) (h : Host Managed)
-        (there : slice_get o.cores i ≡ Some h) (t : IsTrying h) where
-      sound : IsSoundHost managed_ops c i h
-      sound = (told o run).faithful.sound.sound i h there
-
-      abbrev Turned : Type 0
-      Turned = (out : Outcome (Host Managed)) × (turn_of managed_ops h ≡ Some out)
-          × ((length history < length out.after.history) ⊎ IsWaiting page called history out.after)
-
-      longer_than : (h' : Host Managed) (last : Record) → h'.history ≡ h.history ++ last ∷ []
-          → length history < length h'.history
-      longer_than h' last is =
-          let a : length h'.history ≡ length h.history + length (last ∷ []) =
-          ap length is ∙ length-append h.history (last ∷ []) in
-          let b : length h.history ≡ length history = ap length t.records in
-          omega (arith, a, b)
-
-      module _ (none : reply_at h.memory ≡ None) (offset least : ℕ)
-          (is : asked_of c called ≡ kinds.Word page (word.Await offset least)) (s : IdleState)
-          (idle : entry_at h.memory.coherence.table page ≡ entry.Idle s) where
-        by_access : (b : Bool) → reads s.access ≡ b → Turned
-        by_access false unread =
-            let a = await_waits managed_ops h called t.asked c sound.config none t.locked page offset
-            least is s idle unread in
-            (a.0, a.1, inr (record { asked = a.2; records = a.3 ∙ t.records; locked = a.4 }))
-        by_access true read =
-            let pages = (told o run).faithful.pages in
-            let bytes : page_at h.memory.coherence.table page ≡ pages page =
-            ap (λ z. page_of z page) (sym there)
-            ∙ (told o run).faithful.copied.had i page
-            (inl (ap (λ z. readable (entry_of z page)) there ∙ ap readable idle ∙ read)) in
-            let same : number_at 8 offset (page_at h.memory.coherence.table page)
-            ≡ number_at 8 offset (pages page) = ap (number_at 8 offset) bytes in
-            let high = ready o run since page offset least is in
-            let a = await_answered managed_ops h called t.asked c sound.config none t.locked page
-            offset least is s idle read (number_at 8 offset (page_at h.memory.coherence.table page))
-            refl
-            (le-leb least (number_at 8 offset (page_at h.memory.coherence.table page))
-            (omega (arith, same, high))) in
-            (record { after = a.0; posted = [] }, a.1, inl (longer_than a.0 _ a.2))
-
-      -- no page is fetched, and no word waits
-      shut_not : is_locked (entry_at h.memory.coherence.table page) ≡ true → ⊥
-      shut_not shut =
-          none-some page
-          (sym t.locked
-          ∙ only_locked managed_ops h.memory.coherence sound.memory.coherent
-          (λ q f. unhanded-page h (unhanded o run i h there) q
-          (((told o run).pursued i h there).fetched q f)) page shut)
-
-      by_entry : (e : Entry) → entry_at h.memory.coherence.table page ≡ e
-          → reply_at h.memory ≡ None → (offset least : ℕ)
-          → asked_of c called ≡ kinds.Word page (word.Await offset least) → Turned
-      by_entry (entry.Idle s) idle none offset least is =
-          by_access none offset least is s idle (reads s.access) refl
-      by_entry (entry.AwaitRead s) at none offset least is = absurd (shut_not (ap is_locked at))
-      by_entry (entry.AwaitWrite s) at none offset least is = absurd (shut_not (ap is_locked at))
-      by_entry (entry.AwaitAcks s) at none offset least is = absurd (shut_not (ap is_locked at))
-
-      by_reply : (a : Option Reply) → reply_at h.memory ≡ a → Turned
-      by_reply (Some r) is = (
-        record { after = recorded h (taken_out h.memory) called r; posted = [] },
-        replied_turn managed_ops h called t.asked r is,
-        inl (longer_than (recorded h (taken_out h.memory) called r) _ refl),
-      )
-      by_reply None none = elim (plain_or_await w) [
-        | inl plain ↦
-            absurd (unhanded-page h (unhanded o run i h there) page
-            (((told o run).pursued i h there).pursued called page w t.asked of plain t.locked
-            t.none))
-        | inr it ↦
-            by_entry (entry_at h.memory.coherence.table page) refl none it.0 it.1
-            (of ∙ ap (kinds.Word page) it.2)
-      ]
-
-      trying_turn : Turned
-      trying_turn = by_reply (reply_at h.memory) refl
-
-      -- so it moves on
-      moved_by : (o' : FifoWorld (Host Managed)) (out : Outcome (Host Managed)) → AreLater start o'
-          → slice_get o'.cores i ≡ Some out.after
-          → ((length history < length out.after.history) ⊎ IsWaiting page called history out.after)
-          → Moved o'
-      moved_by o' out since' now (inl more) = is_past (answered out.after now more)
-      moved_by o' out since' now (inr is) = waits_now page out.after now is since'
-
-    begun_on : (o o' : FifoWorld (Host Managed)) → IsRun o → Steps (host_rules managed_ops) o o'
-        → Begun o → Begun o'
-    begun_on o o' run step (moved k) = moved (moved_on o o' run step k)
-    begun_on o o' run step (trying h there t since) = by_steps step
-      where
-        since' : AreLater start o'
-        since' = all_then start o o' since (later o o' run step history)
-
-        by_steps : Steps (host_rules managed_ops) o o' → Begun o'
-        by_steps (rests same) =
-            trying h (ap (λ (z : FifoWorld (Host Managed)). slice_get z.cores i) same ∙ there) t since'
-        by_steps (turns x k) = elim (cases_eq i x) [
-          | inr ne ↦
-              trying h (core_elsewhere o o' x k.core k.outcome.after i k.there k.cores ne ∙ there) t
-              since'
-          | inl same ↦ (
-              let it : k.core ≡ h =
-              same_Some k.core h (sym k.there ∙ ap (slice_get o.cores) (sym same) ∙ there) in
-              let out = trying_turn o run since h there t in
-              let made : k.outcome ≡ out.0 =
-              same_Some k.outcome out.0
-              (sym k.turned ∙ ap (turn_of managed_ops) it ∙ out.1) in
-              moved (moved_by o run since h there t o' out.0 since'
-              (core_here o o' x k.core k.outcome.after i k.there k.cores same
-              ∙ ap (λ (z : Outcome (Host Managed)). Some z.after) made) out.2)
-              )
-        ]
-        by_steps (delivers source x k) = elim (cases_eq i x) [
-          | inr ne ↦
-              trying h (core_elsewhere o o' x k.core _ i k.there k.cores ne ∙ there) t since'
-          | inl same ↦ (
-              let it : k.core ≡ h =
-              same_Some k.core h (sym k.there ∙ ap (slice_get o.cores) (sym same) ∙ there) in
-              let left = left_so o o' run step history source x k
-              (ap (λ (z : Host Managed). z.memory.coherence.locked) it ∙ t.locked)
-              (is_of_pages k.message.content) refl in
-              trying (serving managed_ops k.core source k.message).after
-              (core_here o o' x k.core _ i k.there k.cores same)
-              (record {
-                asked = served_asked k.core source k.message
-                    ∙ ap (λ (z : Host Managed). z.memory.asked) it ∙ t.asked;
-                records = served_history k.core source k.message
-                    ∙ ap (λ (z : Host Managed). z.history) it ∙ t.records;
-                locked = left.0;
-                none = ap reply_there
-                    (left.1 ∙ ap (λ (z : Host Managed). z.memory.coherence.done) it) ∙ t.none;
-              }) since'
-              )
-        ]
-
-    since_on : (o o' : FifoWorld (Host Managed)) → IsRun o → Steps (host_rules managed_ops) o o'
-        → AreLater start o → AreLater start o'
-    since_on o o' run step l = all_then start o o' l (later o o' run step history)
-
-    -- in a round that moves it on
-    begun_round : (u v : World (Host Managed)) (f : Follower u) → IsRound c i u v
-        → Begun (order_of u f) → (g : Follower v) × Moved (order_of v g)
-    begun_round u v f round k = by_begun first.kept
-      where
-        apart : Apart (host_rules managed_ops) c round.before (Turn i ∷ round.after) u v
-        apart =
-            leads_apart (host_rules managed_ops) c round.before (Turn i ∷ round.after) u v round.led
-
-        first : IsLed opened c limits programs many Begun begun_on u f apart.mid
-        first = led_on opened c limits programs many Begun begun_on u apart.mid f round.before
-            apart.before k
-
-        by_begun : Begun (order_of apart.mid first.follows) → (g : Follower v) × Moved (order_of v g)
-        by_begun (moved m) =
-            let rest = led_on opened c limits programs many Moved moved_on apart.mid v
-            first.follows (Turn i ∷ round.after)
-            apart.after m in
-            (rest.follows, rest.kept)
-        by_begun (trying h there t since) =
-            let node = map-places (λ (z : Node (Host Managed)). z.core) apart.mid.nodes i h there in
-            let out =
-            trying_turn (order_of apart.mid first.follows) first.follows.reached since h there t in
-            let came =
-            turn_leads opened c limits programs many apart.mid apart.after.0 i node.0 node.1
-            out.0
-            (ap (turn_of managed_ops) node.2 ∙ out.1) apart.after.1 in
-            let turn = led_on opened c limits programs many (AreLater start) since_on apart.mid
-            apart.after.0 first.follows
-            (Turn i ∷ []) (apart.after.0, apart.after.1, refl) since in
-            let rest = led_on opened c limits programs many Moved moved_on apart.after.0 v
-            turn.follows round.after apart.after.2
-            (moved_by (order_of apart.mid first.follows) first.follows.reached since h there t
-            (order_of apart.after.0 turn.follows) out.0 turn.kept
-            (core_of apart.after.0.nodes i came.0 came.1 ∙ ap Some came.2) out.2) in
-            (rest.follows, rest.kept)
-
-    from_moved : (u v : World (Host Managed)) (f : Follower u) → AreRounds c i (rank.most + 2) u v
-        → Moved (order_of u f) → (g : Follower v) × HasGrown history (order_of v g)
-    from_moved u v f are (is_past k) =
-        let e : rank.most + 2 ≡ suc (rank.most + 1) = omega arith in
-        past_rounds history (rank.most + 1) u v f (subst (λ z. AreRounds c i z u v) e are) k
-    from_moved u v f are (waits_now p h there is since) =
-        let e : rank.most + 2 ≡ suc (rank.most + suc 0) = omega arith in
-        from_waiting 0 u v f p h there is since (subst (λ z. AreRounds c i z u v) e are)
-
-  -- so many rounds answer the node
-  pub rounds_answer : (u v : World (Host Managed)) (f : Follower u) (n : Node (Host Managed))
-      → slice_get u.nodes i ≡ Some n → n.core.memory.asked ≡ Some called
-      → AreLater start (order_of u f) → AreRounds c i (rank.most + 3) u v
-      → (g : Follower v) × HasGrown n.core.history (order_of v g)
-  rounds_answer u v f n there asked since are =
-      by_lock n.core.memory.coherence.locked refl (reply_there n.core.memory.coherence.done) refl
-    where
-      here : slice_get (order_of u f).cores i ≡ Some n.core
-      here = core_of u.nodes i n there
-
-      e : rank.most + 3 ≡ suc (rank.most + 2)
-      e = omega arith
-
-      all : AreRounds c i (suc (rank.most + 2)) u v
-      all = subst (λ z. AreRounds c i z u v) e are
-
-      by_lock : (lock : Option ℕ) → n.core.memory.coherence.locked ≡ lock → (a : Option Reply)
-          → reply_there n.core.memory.coherence.done ≡ a
-          → (g : Follower v) × HasGrown n.core.history (order_of v g)
-      by_lock None free (Some r) is =
-          past_rounds n.core.history (rank.most + 2) u v f all
-          (carried n.core here
-          (record { asked = asked; records = refl; locked = free; told = (r, is) }))
-      by_lock None free None is =
-          let one = begun_round n.core.history u all.0 f all.1
-          (trying n.core here
-          (record { asked = asked; records = refl; locked = free; none = is }) since) in
-          from_moved n.core.history all.0 v one.0 all.2 one.1
-      by_lock (Some p) locked a is =
-          let e : rank.most + 3 ≡ suc (rank.most + suc 1) = omega arith in
-          from_waiting n.core.history 1 u v f p n.core here
-          (record { asked = asked; records = refl; locked = locked }) since
-          (subst (λ z. AreRounds c i z u v) e are)
+        (waiting h there is (rank_at (order_of u f) f.reached h there p inside shut) since)

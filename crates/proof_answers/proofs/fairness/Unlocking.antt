@@ -1,7 +1,9 @@
--- What a word waits for last unlocks its entry: where that letter comes to the node, no word waits
--- there any more.
-use Rattle.std.proofs.Common.{◌≡◌, ℕ, Bool, true, not, ◌&&◌, List, Option, Some, None, refl, sym, ap, ◌∙◌, if◌then◌else◌, ◌==◌}
+-- What an entry waits for last unlocks it: where that letter comes to the node, no word waits there
+-- any more, and the page is not fetched.
+use Rattle.std.proofs.Common.{◌≡◌, ◌<◌, ℕ, Bool, true, false, not, ◌&&◌, List, length, Option, Some, None, refl, sym, ap, ◌∙◌, if◌then◌else◌, ◌==◌}
 use Rattle.std.proofs.lemmas.Bool.{eq-eqb, and_from}
+use Rattle.std.proofs.lemmas.List.{get_or-set_same}
+use Rattle.std.specs.Prelude.{slice_index_or, slice_set}
 use Rattle.std.specs.Ordering.{nat_cmp}
 use Rattle.std.specs.FinSet as set
 use Rattle.std.specs.FinSet.{contains-empty}
@@ -10,7 +12,7 @@ use Rattle.ivy_pagetable.specs.declared.Entry.{Entry}
 use Rattle.ivy_pagetable.specs.declared.Entry.TheVariants as entry
 use Rattle.ivy_pagetable.specs.declared.Request.{Request}
 use Rattle.ivy_pagetable.specs.declared.Request.TheVariants as request
-use Rattle.ivy_pagetable.specs.stated.Entries.{copying, owning}
+use Rattle.ivy_pagetable.specs.stated.Entries.{is_locked, nothing, copying, owning}
 use Rattle.ivy_pagetable.specs.stated.NodeSets.{Nodes, nodes_with}
 use Rattle.ivy_pagetable.specs.stated.States.{IdleState, WaitingState}
 use Rattle.ivy_pagetable.specs.stated.Tables.{entry_at, page_at}
@@ -18,22 +20,31 @@ use Rattle.ivy_pagetable.specs.stated.Manager.{Ops}
 use Rattle.ivy_coherence.specs.stated.Coherent.{Coherent}
 use Rattle.ivy_coherence.specs.stated.MessageSteps.{CoherenceEffect, is_none, copy_reply, breach, unlocked, owned_with, left_with}
 use Rattle.ivy_coherence.specs.stated.MessageSteps.{copy_came, page_came, acknowledged, handled, handled_as}
-use Rattle.ivy_coherence.proofs.keeping.Fetched.{unlocks_word}
+use Rattle.ivy_coherence.proofs.keeping.Fetched.{unlocked_by}
 use Rattle.proof_table.proofs.waiting.Onward.{IsLast}
 
-module _ {S : Type 0} (ops : Ops S) (k : Coherent S) (from p : ℕ) (here : k.locked ≡ Some p) where
-  abbrev lock : CoherenceEffect S → Option ℕ
-  lock g = g.after.locked
+module _ {S : Type 0} (ops : Ops S) (k : Coherent S) (from p : ℕ)
+    (within : p < length k.table.entries) where
+  abbrev lock : CoherenceEffect S → Bool
+  lock g = is_locked (entry_at g.after.table p)
 
   -- what is done where a test is passed
-  passes : (b : Bool) (g h : CoherenceEffect S) → b ≡ true → lock g ≡ None
-      → lock (if b then g else h) ≡ None
+  passes : (b : Bool) (g h : CoherenceEffect S) → b ≡ true → lock g ≡ false
+      → lock (if b then g else h) ≡ false
   passes b g h does is = ap (λ v. lock (if v then g else h)) does ∙ is
 
-  -- what comes unlocks the entry at which the word waits
+  -- an entry that is idle
+  written : (e : Entry) → is_locked e ≡ false
+      → is_locked (slice_index_or (slice_set k.table.entries p e) p nothing) ≡ false
+  written e idle =
+      ap is_locked (get_or-set_same k.table.entries p e nothing within) ∙ idle
+
+  -- what comes unlocks the entry, whether a word waits there or the page is fetched
   opens : (idle : IdleState) (reply : Option Request) (bytes : List ℕ) (s : WaitingState)
-      → lock (unlocked ops k from p idle reply bytes s) ≡ None
-  opens idle reply bytes s = ap lock (unlocks_word ops k from p idle reply bytes s here)
+      → lock (unlocked ops k from p idle reply bytes s) ≡ false
+  opens idle reply bytes s =
+      unlocked_by ops (λ e. lock e ≡ false) k from p idle reply bytes s
+      (λ here. written _ refl) (λ elsewhere. written _ refl)
 
   none_is : (nodes : Nodes) → nodes ≡ set.empty → is_none nodes ≡ true
   none_is nodes e = eq-eqb (set.len nodes) 0 (ap set.len e ∙ set.len-empty nat_cmp)
@@ -45,7 +56,7 @@ module _ {S : Type 0} (ops : Ops S) (k : Coherent S) (from p : ℕ) (here : k.lo
         dest = k.me;
         message = record { origin = origin; call = call; content = m };
       }) p
-      → lock (handled_as ops k from origin call m) ≡ None
+      → lock (handled_as ops k from origin call m) ≡ false
   by_entry origin call m (entry.Idle s) is mine last = absurd last
   by_entry origin call m (entry.AwaitRead s) is mine last =
       ap (λ v. lock (handled_as ops k from origin call v)) last.1.1
@@ -81,7 +92,7 @@ module _ {S : Type 0} (ops : Ops S) (k : Coherent S) (from p : ℕ) (here : k.lo
 
   pub last_unlocks : (m : Message) → k.me ≡ m.origin
       → IsLast (entry_at k.table p) (record { source = from; dest = k.me; message = m }) p
-      → (handled ops k from m).after.locked ≡ None
+      → is_locked (entry_at (handled ops k from m).after.table p) ≡ false
   unfolding handled
   last_unlocks m mine last =
       by_entry m.origin m.call m.content (entry_at k.table p) refl mine last

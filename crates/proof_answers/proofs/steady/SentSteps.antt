@@ -28,7 +28,7 @@ use Rattle.proof_worlds.proofs.refinement.HeapWays.{within_taken}
 use Rattle.proof_worlds.proofs.refinement.LiftedHosts.{WorldTells, kept-steps}
 use Rattle.proof_worlds.proofs.refinement.LiftedRuns.{Holds}
 use Rattle.proof_worlds.proofs.refinement.LiftedWorlds.{IsSoundWorldBy}
-use Rattle.proof_answers.proofs.fairness.Aims.{fewer_about}
+use Rattle.proof_answers.proofs.fairness.Locked.{fewer_about}
 use Rattle.proof_answers.proofs.fairness.WaitRanks.{OfKind, spare}
 use Rattle.proof_answers.specs.steady.SendsOn.{SendOn, begins, goes_on, sends, AreApart, FewSendOn}
 use Rattle.proof_answers.proofs.steady.Counted.{AreCounted, counted_all, counted_less}

@@ -1,9 +1,10 @@
--- Of each node's calls and orders one message at most is under way from one node to another.
+-- Of each node and page one message at most is under way from one node to another, and of a node
+-- the messages are of the page at whose entry its word waits, and of those that it fetches.
 use Rattle.std.proofs.Common.{◌≡◌, ◌≢◌, ◌<◌, ◌≤◌, ◌+◌, ℕ, zero, suc, Bool, true, not, List, [], ◌∷◌, length, map, take, drop, filter}
 use Rattle.std.proofs.Common.{slice_get, Option, Some, None, ◌||◌, ◌==◌, refl, sym, ap, subst, ◌∙◌, arith, inl, inr}
 use Rattle.std.specs.List.{Contains, list_any}
 use Rattle.std.proofs.lemmas.Bool.{cases_eq, ne_eqb, true≢false}
-use Rattle.std.proofs.lemmas.List.{length-map, take-append-drop}
+use Rattle.std.proofs.lemmas.List.{take-append-drop}
 use Rattle.std.proofs.lemmas.List.Elements.{filter-append}
 use Rattle.std.proofs.lemmas.List.Filters.{length-filter_both}
 use Rattle.std.proofs.lemmas.Map.Keys.{IsDistinct-from_apart}
@@ -27,7 +28,6 @@ use Rattle.proof_table.specs.stated.Letters.{Letter, Net, Underway, IsAt}
 use Rattle.proof_table.specs.stated.Orderly.{Own, Order, key_as, key_of, AwaitsCopy, AwaitsPage, Collects, IsExpectedAs, IsOrderly}
 use Rattle.proof_worlds.specs.stated.HeapRequests.{heap_way, IsHeapRequestAt, resting, asking, answered, AreHeapRequests}
 use Rattle.proof_worlds.specs.stated.Nets.{about_pages, entry_of, net_of}
-use Rattle.proof_worlds.proofs.progress.FetchedPages.{only_locked}
 
 -- the list from where its first part ends, of which a test keeps some
 filter_drop : {X : Type 0} (p : X → Bool) (n : ℕ) (xs : List X)
@@ -195,37 +195,112 @@ page_in n l (ordering page key from waits) =
 page_in n l (answering page key to waits) =
     (page, others_lock (n.entry l.message.origin page) waits)
 
+-- where something of a list stands
+contained : (xs : List ℕ) (x : ℕ) → Contains xs x
+    → (k : ℕ) × (k < length xs) × (slice_get xs k ≡ Some x)
+contained [] x h = absurd (omega (arith, h.1))
+contained (y ∷ ys) x (zero, lt, is) = (0, omega arith, ap Some is)
+contained (y ∷ ys) x (suc k, lt, is) =
+    let rest : (j : ℕ) × (j < length ys) × (slice_get ys j ≡ Some x) =
+    contained ys x (k, omega (arith, lt), is) in
+    let low = rest.1 in
+    (suc rest.0, omega (arith, low), rest.2)
+
+-- numbers for what stands in a list, each of which is so to its element
+record AreCodes (ms : List Message) (Of : Message → ℕ → Type 0) : Type 0 where
+  codes : List ℕ
+  many : length codes ≡ length ms
+  each : (k x : ℕ) → slice_get codes k ≡ Some x
+      → (m : Message) × (slice_get ms k ≡ Some m) × Of m x
+
+-- one more
+with_code : (m : Message) (ms : List Message) (Of : Message → ℕ → Type 0) (x : ℕ) → Of m x
+    → AreCodes ms Of → AreCodes (m ∷ ms) Of
+with_code m ms Of x is rest = record {
+  codes = x ∷ rest.codes;
+  many = (let a = rest.many in omega (arith, a));
+  each = by_place;
+}
+  where
+    by_place : (k y : ℕ) → slice_get (x ∷ rest.codes) k ≡ Some y
+        → (l : Message) × (slice_get (m ∷ ms) k ≡ Some l) × Of l y
+    by_place zero y at = (m, refl, subst (Of m) (same_Some x y at) is)
+    by_place (suc k) y at = rest.each k y at
+
+coded : (ms : List Message) (Of : Message → ℕ → Type 0)
+    → ((k : ℕ) (m : Message) → slice_get ms k ≡ Some m → (x : ℕ) × Of m x) → AreCodes ms Of
+coded [] Of each = record {
+  codes = [];
+  many = refl;
+  each = λ k x at. absurd (none-some x at);
+}
+coded (m ∷ ms) Of each =
+    let first : (x : ℕ) × Of m x = each 0 m refl in
+    with_code m ms Of first.0 first.1 (coded ms Of (λ k l at. each (suc k) l at))
+
+-- A page for which a node waits, by number: those that it fetches, and last the one of its word.
+data IsSlot {S : Type 0} (most : ℕ) (h : Host S) (page s : ℕ) : Type 0 where
+  of_word : s ≡ most → h.memory.coherence.locked ≡ Some page → IsSlot most h page s
+  of_fetch : s < most → slice_get h.memory.coherence.fetched s ≡ Some page → IsSlot most h page s
+
+same_slot : {S : Type 0} (most : ℕ) (h : Host S) (p q s : ℕ) → IsSlot most h p s → IsSlot most h q s
+    → p ≡ q
+same_slot most h p q s (of_word last a) (of_word end b) = same_Some p q (sym a ∙ b)
+same_slot most h p q s (of_word last a) (of_fetch low b) = absurd (omega (arith, last, low))
+same_slot most h p q s (of_fetch low a) (of_word last b) = absurd (omega (arith, last, low))
+same_slot most h p q s (of_fetch low a) (of_fetch less b) = same_Some p q (sym a ∙ b)
+
+-- A number for each node and slot, below `total`.
+pub record IsCode (nodes most total : ℕ) (code : ℕ → ℕ → ℕ) : Type 0 where
+  pub below : (x s : ℕ) → x < nodes → s ≤ most → code x s < total
+  pub apart : (x y s t : ℕ) → s ≤ most → t ≤ most → code x s ≡ code y t → (x ≡ y) × (s ≡ t)
+
+-- where each node fetches so many pages at most
 module _ {S : Type 0} (ops : Ops S) (c : Config) (o : FifoWorld (Host S))
     (orderly : IsOrderly c (net_of o))
     (sound : (i : ℕ) (h : Host S) → slice_get o.cores i ≡ Some h → IsSoundHost ops c i h)
-    (unfetched : (i : ℕ) (h : Host S) → slice_get o.cores i ≡ Some h → (p : ℕ)
-    → Contains h.memory.coherence.fetched p → ⊥)
+    (most total : ℕ) (code : ℕ → ℕ → ℕ) (is_code : IsCode c.nodes most total code)
+    (fetched : (i : ℕ) (h : Host S) → slice_get o.cores i ≡ Some h
+    → length h.memory.coherence.fetched ≤ most)
     (heap_requests : AreHeapRequests o) where
   abbrev n : Net
   n = net_of o
 
-  -- the locked entry of a node, which is one
-  locked_at : (x p : ℕ) → is_locked (n.entry x p) ≡ true
-      → (h : Host S) × (slice_get o.cores x ≡ Some h) × (h.memory.coherence.locked ≡ Some p)
+  -- a locked entry of a node has a number there
+  record IsLockedAt (x p : ℕ) : Type 0 where
+    host : Host S
+    there : slice_get o.cores x ≡ Some host
+    slot : ℕ
+    few : slot ≤ most
+    is : IsSlot most host p slot
+
+  locked_at : (x p : ℕ) → is_locked (n.entry x p) ≡ true → IsLockedAt x p
   locked_at x p is = elim (slice_get_cases o.cores x).1 [
-    | inl there ↦ (
-      there.0,
-      there.2,
-      only_locked ops there.0.memory.coherence (sound x there.0 there.2).memory.coherent
-          (unfetched x there.0 there.2) p
-          (ap (λ z. is_locked (entry_of z p)) (sym there.2) ∙ is),
-    )
+    | inl there ↦
+        (elim ((sound x there.0 there.2).memory.coherent.others p
+        (ap (λ z. is_locked (entry_of z p)) (sym there.2) ∙ is)) [
+          | inl waits ↦ record {
+            host = there.0;
+            there = there.2;
+            slot = most;
+            few = omega arith;
+            is = of_word refl waits;
+          }
+          | inr among ↦
+              (let k = contained there.0.memory.coherence.fetched p among in
+              let low = k.1 in
+              let all = fetched x there.0 there.2 in
+              record {
+                host = there.0;
+                there = there.2;
+                slot = k.0;
+                few = omega (arith, low, all);
+                is = of_fetch (omega (arith, low, all)) k.2;
+              })
+        ])
     | inr past ↦
         absurd (true≢false (sym is ∙ ap (λ z. is_locked (entry_of z p)) past.1))
   ]
-
-  one_page : (x p q : ℕ) → is_locked (n.entry x p) ≡ true → is_locked (n.entry x q) ≡ true → p ≡ q
-  one_page x p q a b =
-      let h = locked_at x p a in
-      let k = locked_at x q b in
-      let same : h.0 ≡ k.0 = same_Some h.0 k.0 (sym h.1 ∙ k.1) in
-      same_Some p q
-      (sym h.2 ∙ ap (λ (z : Host S). z.memory.coherence.locked) same ∙ k.2)
 
   -- letters of one origin from one node to another have one key
   same_key : (l m : Letter) → l.source ≡ m.source → l.dest ≡ m.dest → l.source ≢ l.dest
@@ -262,7 +337,7 @@ module _ {S : Type 0} (ops : Ops S) (c : Config) (o : FifoWorld (Host S))
       ∙ ap (Order m.message.origin m.source) same ∙ sym other
 
   abbrev IsFew : ℕ → ℕ → Type 0
-  IsFew i j = length (drop (o.delivered i j) (o.posted i j)) ≤ c.nodes
+  IsFew i j = length (drop (o.delivered i j) (o.posted i j)) ≤ total
 
   module _ (i j : ℕ) (apart : i ≢ j) where
     -- the messages about pages under way
@@ -295,78 +370,102 @@ module _ {S : Type 0} (ops : Ops S) (c : Config) (o : FifoWorld (Host S))
     same_number : (a b : ℕ) → Underway i j a ≡ Underway i j b → a ≡ b
     same_number a b e = cc
 
+    -- the node that asked, and the number of the page there
+    record IsOf (m : Message) (x : ℕ) : Type 0 where
+      known : Role n (letter m)
+      place : IsLockedAt m.origin (page_in n (letter m) known).0
+      below : m.origin < c.nodes
+      is : x ≡ code m.origin place.slot
+
+    of_each : (k : ℕ) (m : Message) → slice_get ways k ≡ Some m → (x : ℕ) × IsOf m x
+    of_each k m at =
+        let known = role k m at in
+        let page = page_in n (letter m) known in
+        let place = locked_at m.origin page.0 page.1 in (
+          code m.origin place.slot,
+          record {
+            known = known;
+            place = place;
+            below =
+                origin_below c n (letter m) m.content
+                (orderly.fits (Underway i j (from_here + k)) (letter m) (at_place k m at));
+            is = refl;
+          },
+        )
+
+    all : AreCodes ways IsOf
+    all = coded ways IsOf of_each
+
+    -- messages of one origin and one page have one key
     once : (k l : ℕ) (x y : Message) → k < l → slice_get ways k ≡ Some x
-        → slice_get ways l ≡ Some y → x.origin ≡ y.origin → ⊥
-    once k l x y lt a b of =
-        let first = role k x a in
-        let last = role l y b in
-        let p = page_in n (letter x) first in
-        let q = page_in n (letter y) last in
-        let page : p.0 ≡ q.0 =
-        one_page y.origin p.0 q.0
-        (subst (λ z. is_locked (n.entry z p.0) ≡ true) of p.1) q.1 in
+        → slice_get ways l ≡ Some y → (v : ℕ) → IsOf x v → IsOf y v → ⊥
+    once k l x y lt a b v first last =
+        let same = is_code.apart x.origin y.origin first.place.slot last.place.slot first.place.few
+        last.place.few (sym first.is ∙ last.is) in
+        let host : first.place.host ≡ last.place.host =
+        same_Some first.place.host last.place.host
+        (sym first.place.there ∙ ap (slice_get o.cores) same.0 ∙ last.place.there) in
+        let page = same_slot most last.place.host (page_in n (letter x) first.known).0
+        (page_in n (letter y) last.known).0 last.place.slot
+        (subst (λ s. IsSlot most last.place.host (page_in n (letter x) first.known).0 s) same.1
+        (subst (λ (h : Host S). IsSlot most h (page_in n (letter x) first.known).0 first.place.slot)
+        host first.place.is)) last.place.is in
         let key =
-        same_key (letter x) (letter y) refl refl apart of first last page in
+        same_key (letter x) (letter y) refl refl apart same.0 first.known last.known page in
         let place : from_here + k ≡ from_here + l =
         same_number (from_here + k) (from_here + l)
         (orderly.one_letter (Underway i j (from_here + k)) (Underway i j (from_here + l)) (letter x)
         (letter y) (at_place k x a) (at_place l y b) key) in
         omega (arith, place, lt)
 
-    abbrev origins : List ℕ
-    origins = map (λ (m : Message). m.origin) ways
+    codes_below : (k x : ℕ) → slice_get all.codes k ≡ Some x → x < total
+    codes_below k x at =
+        let m = all.each k x at in
+        subst (λ z. z < total) (sym m.2.is)
+        (is_code.below m.0.origin m.2.place.slot m.2.below m.2.place.few)
 
-    origin_at : (k x : ℕ) → slice_get origins k ≡ Some x
-        → (m : Message) × (slice_get ways k ≡ Some m) × (x ≡ m.origin)
-    origin_at k x is = get_mapped (λ (m : Message). m.origin) ways x k is
+    codes_once : (k l x : ℕ) → k < l → slice_get all.codes k ≡ Some x
+        → slice_get all.codes l ≡ Some x → ⊥
+    codes_once k l x lt a b =
+        let first = all.each k x a in
+        let last = all.each l x b in
+        once k l first.0 last.0 lt first.1 last.1 x first.2 last.2
 
-    origins_below : (k x : ℕ) → slice_get origins k ≡ Some x → x < c.nodes
-    origins_below k x is =
-        let at = origin_at k x is in
-        subst (λ z. z < c.nodes) (sym at.2)
-        (origin_below c n (letter at.0) at.0.content
-        (orderly.fits (Underway i j (from_here + k)) (letter at.0) (at_place k at.0 at.1)))
-
-    origins_once : (k l x : ℕ) → k < l → slice_get origins k ≡ Some x
-        → slice_get origins l ≡ Some x → ⊥
-    origins_once k l x lt a b =
-        let first = origin_at k x a in
-        let last = origin_at l x b in
-        once k l first.0 last.0 lt first.1 last.1 (sym first.2 ∙ last.2)
-
-    -- the origin waits at a page
-    origin_locks : (k x : ℕ) → slice_get origins k ≡ Some x → (h : Host S)
-        → slice_get o.cores x ≡ Some h → h.memory.coherence.locked ≡ None → ⊥
-    origin_locks k x is h there free =
-        let at = origin_at k x is in
-        let p = page_in n (letter at.0) (role k at.0 at.1) in
-        let has = locked_at at.0.origin p.0 p.1 in
-        let same : has.0 ≡ h =
-        same_Some has.0 h (sym has.1 ∙ ap (slice_get o.cores) (sym at.2) ∙ there) in
-        none-some p.0
-        (sym free ∙ ap (λ (z : Host S). z.memory.coherence.locked) (sym same) ∙ has.2)
-
-    with_one : (x : ℕ) → x < c.nodes
-        → ((k : ℕ) → slice_get origins k ≡ Some x → ⊥) → length origins + 1 ≤ c.nodes
-    with_one x below none =
-        let all : length (x ∷ origins) ≤ c.nodes =
-        few_apart c.nodes (x ∷ origins) inside apart_all in
-        omega (arith, all)
+    -- where no word of a node waits, its last number is free
+    no_word : (x : ℕ) (h : Host S) → slice_get o.cores x ≡ Some h → h.memory.coherence.locked ≡ None
+        → (k : ℕ) → slice_get all.codes k ≡ Some (code x most) → ⊥
+    no_word x h there free k at =
+        let m = all.each k (code x most) at in
+        let same = is_code.apart x m.0.origin most m.2.place.slot (omega arith) m.2.place.few m.2.is in
+        let it : m.2.place.host ≡ h =
+        same_Some m.2.place.host h
+        (sym m.2.place.there ∙ ap (slice_get o.cores) (sym same.0) ∙ there) in
+        by_slot m.2.place.host it (page_in n (letter m.0) m.2.known).0 m.2.place.slot same.1
+        m.2.place.is
       where
-        inside : (k y : ℕ) → slice_get (x ∷ origins) k ≡ Some y → y < c.nodes
-        inside zero y is = subst (λ z. z < c.nodes) (same_Some x y is) below
-        inside (suc k) y is = origins_below k y is
+        by_slot : (k : Host S) → k ≡ h → (p s : ℕ) → most ≡ s → IsSlot most k p s → ⊥
+        by_slot k it p s last (of_fetch low b) = omega (arith, last, low)
+        by_slot k it p s last (of_word end b) =
+            none-some p (sym free ∙ ap (λ (z : Host S). z.memory.coherence.locked) (sym it) ∙ b)
 
-        apart_all : (k l y : ℕ) → k < l → slice_get (x ∷ origins) k ≡ Some y
-            → slice_get (x ∷ origins) l ≡ Some y → ⊥
+    with_one : (x : ℕ) → x < total → ((k : ℕ) → slice_get all.codes k ≡ Some x → ⊥)
+        → length all.codes + 1 ≤ total
+    with_one x below none =
+        let few : length (x ∷ all.codes) ≤ total =
+        few_apart total (x ∷ all.codes) inside apart_all in
+        omega (arith, few)
+      where
+        inside : (k y : ℕ) → slice_get (x ∷ all.codes) k ≡ Some y → y < total
+        inside zero y is = subst (λ z. z < total) (same_Some x y is) below
+        inside (suc k) y is = codes_below k y is
+
+        apart_all : (k l y : ℕ) → k < l → slice_get (x ∷ all.codes) k ≡ Some y
+            → slice_get (x ∷ all.codes) l ≡ Some y → ⊥
         apart_all zero zero y lt a b = absurd (omega (arith, lt))
         apart_all zero (suc l) y lt a b =
             none l (b ∙ ap Some (sym (same_Some x y a)))
         apart_all (suc k) zero y lt a b = absurd (omega (arith, lt))
-        apart_all (suc k) (suc l) y lt a b = origins_once k l y (omega (arith, lt)) a b
-
-    many : length origins ≡ length ways
-    many = length-map ways (λ (m : Message). m.origin)
+        apart_all (suc k) (suc l) y lt a b = codes_once k l y (omega (arith, lt)) a b
 
     -- with the messages of the heap they are all
     both : length ways + length (heap_way o i j) ≡ length (drop (o.delivered i j) (o.posted i j))
@@ -377,18 +476,21 @@ module _ {S : Type 0} (ops : Ops S) (c : Config) (o : FifoWorld (Host S))
 
     no_heap : heap_way o i j ≡ [] → IsFew i j
     no_heap none =
-        let a = few_apart c.nodes origins origins_below origins_once in
+        let a = few_apart total all.codes codes_below codes_once in
         let b : length (heap_way o i j) ≡ 0 = ap length none in
-        omega (arith, a, b, both, many)
+        let d = all.many in
+        omega (arith, a, b, d, both)
 
     one_heap : (x : ℕ) (h : Host S) (m : Message) (e : HeapRequest) → x < c.nodes
         → slice_get o.cores x ≡ Some h → h.memory.side.heap_request ≡ Some e → heap_way o i j ≡ m ∷ []
         → IsFew i j
     one_heap x h m e below there asked one =
         let free = ((sound x h there).memory.apart e asked).0 in
-        let a = with_one x below (λ k is. origin_locks k x is h there free) in
+        let a = with_one (code x most) (is_code.below x most below (omega arith))
+        (no_word x h there free) in
         let b : length (heap_way o i j) ≡ 1 = ap length one in
-        omega (arith, a, b, both, many)
+        let d = all.many in
+        omega (arith, a, b, d, both)
 
   -- of the heap one message at most, of a node that waits at no page
   few_there : (x : ℕ) (h : Host S) → x ≢ 0 → x < c.nodes → slice_get o.cores x ≡ Some h
@@ -408,7 +510,7 @@ module _ {S : Type 0} (ops : Ops S) (c : Config) (o : FifoWorld (Host S))
   )
 
   pub few_under_way : (i j : ℕ) → i ≢ j → i < c.nodes → j < c.nodes → i < length o.cores
-      → j < length o.cores → length (drop (o.delivered i j) (o.posted i j)) ≤ c.nodes
+      → j < length o.cores → length (drop (o.delivered i j) (o.posted i j)) ≤ total
   few_under_way i j apart a b at there = elim (cases_eq i 0) [
     | inl home ↦
         elim (slice_get_cases o.cores j).1 [

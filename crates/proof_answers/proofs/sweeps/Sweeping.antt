@@ -396,7 +396,8 @@ module _ (c : Config) (limits : IsConfig c)
         not_here move moves other none zero at = other (same_Some move (Pulse j i) at)
         not_here move moves other none (suc k) at = none k at
 
-  -- Three sweeps, between two nodes of which at most 32 messages are under way at first.
+  -- Three sweeps, between two nodes: what is delivered of what had been sent, of 32 messages more
+  -- at most.
   module _ (i j : ℕ) (apart : i ≢ j) (below : i < c.nodes)
       (w first second end : World (Host Managed))
       (s : Good w) (one two three : List Move) (h_one : AllHeard c w one first)
@@ -404,7 +405,8 @@ module _ (c : Config) (limits : IsConfig c)
       (there : (k : ℕ) × (slice_get one k ≡ Some (Pulse i j)))
       (back : (k : ℕ) × (slice_get two k ≡ Some (Pulse j i)))
       (again : (k : ℕ) × (slice_get three k ≡ Some (Pulse i j)))
-      (few : (known w i j).sent ≤ come w i j + most_again) where
+      (target : ℕ) (sent_by : target ≤ (known w i j).sent)
+      (few : target ≤ come w i j + most_again) where
     goes_one : Goes w first
     goes_one = heard_after one w first s h_one
 
@@ -417,7 +419,7 @@ module _ (c : Config) (limits : IsConfig c)
     -- what was heard by the end of the second sweep is sent on in the third
     by_third : (d : ℕ) → come w i j ≤ d
         → d + length (known second i j).kept ≤ (known second i j).sent
-        → (known w i j).sent ≤ come end i j
+        → target ≤ come end i j
     by_third d low heard =
         let m = find three again.0 (Pulse i j) again.1 second end goes_two.stands h_three in
         let r =
@@ -427,11 +429,11 @@ module _ (c : Config) (limits : IsConfig c)
         let x = m.goes.sent i j in
         let y = m.goes.heard i j in
         let t = length-take most_again (known m.before i j).kept in
-        omega (arith, r, p, q, x, y, t, few, low, heard)
+        omega (arith, r, p, q, x, y, t, few, low, heard, sent_by)
 
     by_second : (d b : ℕ) (u : World (Host Managed)) → come w i j ≤ d → Good u
         → IsOwing i j d b u → (rest : List Move) → AllHeard c u rest first
-        → (known w i j).sent ≤ come end i j
+        → target ≤ come end i j
     by_second d b u low good owing rest h =
         elim (until_pulse i j d b rest u first good owing h) [
           | inl heard ↦
@@ -447,7 +449,7 @@ module _ (c : Config) (limits : IsConfig c)
     by_first : (m : Made w (Pulse i j) first) (ks : List Message)
         → (peer_at
         (is i j m.before m.after first m.goes.stands m.made m.rest m.heard m.onward).0.link j).kept
-        ≡ ks → (known w i j).sent ≤ come end i j
+        ≡ ks → target ≤ come end i j
     by_first m [] none =
         let here = is i j m.before m.after first m.goes.stands m.made m.rest m.heard m.onward in
         let peer =
@@ -468,7 +470,7 @@ module _ (c : Config) (limits : IsConfig c)
         (last i j m.before m.after first m.goes.stands m.made m.rest m.heard m.onward).more i j in
         let p = goes_two.more i j in
         let q = goes_three.more i j in
-        omega (arith, kept, told, sent, l, last_one, p, q)
+        omega (arith, kept, told, sent, l, last_one, p, q, sent_by)
     by_first m (x ∷ ks) some =
         let here = is i j m.before m.after first m.goes.stands m.made m.rest m.heard m.onward in
         let again_first =
@@ -497,7 +499,7 @@ module _ (c : Config) (limits : IsConfig c)
         by_second begun.count begun.number found.2.mid (omega (arith, low, y, more, start))
         found.2.good begun.owes found.2.rest found.2.onward
 
-    pub all_three : (known w i j).sent ≤ come end i j
+    pub all_three : target ≤ come end i j
     all_three =
         let m = find one there.0 (Pulse i j) there.1 w first s h_one in
         by_first m

@@ -7,13 +7,14 @@ use Rattle.ivy_model.specs.declared.Config.{Config}
 use Rattle.ivy_program.specs.stated.Programs.{Program}
 use Rattle.ivy_moves.specs.stated.Nodes.{Node}
 use Rattle.ivy_moves.specs.stated.Worlds.{World}
+use Rattle.ivy_program.specs.Programs.{FetchNothing}
 use Rattle.ivy_host.specs.declared.opening.Opening.TheVariants.{Steady}
 use Rattle.ivy_host.specs.stated.Hosts.{Host}
 use Rattle.ivy_host.specs.stated.Managers.{Managed}
 use Rattle.proof_answers.specs.answers.Answered.{IsDue}
 use Rattle.proof_answers.specs.answers.NodeRounds.{AreRounds}
 use Rattle.proof_answers.specs.answers.Undropped.{IsOfMoves}
-use Rattle.proof_answers.specs.fairness.Fairness.{IsAnswered}
+use Rattle.proof_answers.specs.fairness.Fairness.{IsAnswered, rounds_at}
 
 -- so many rounds are enough
 abbrev pub steady_rounds : ℕ → ℕ
@@ -24,6 +25,14 @@ steady_rounds nodes = 4 * nodes + 1
 abbrev pub SteadyCallsAnswered : Type 0
 SteadyCallsAnswered = (c : Config) (programs : List Program) (w : World (Host Managed))
     → IsOfMoves Steady c programs w → (i : ℕ) (n : Node (Host Managed))
+    → slice_get w.nodes i ≡ Some n → IsDue w n.core.memory.asked
+    → (end : World (Host Managed)) → AreRounds c i (rounds_at n (steady_rounds c.nodes)) w end
+    → IsAnswered w end i
+
+-- The law: where no program has pages fetched ahead, that is so many at each node.
+abbrev pub SteadyCallsAnsweredUnfetched : Type 0
+SteadyCallsAnsweredUnfetched = (c : Config) (programs : List Program) (w : World (Host Managed))
+    → IsOfMoves Steady c programs w → FetchNothing programs → (i : ℕ) (n : Node (Host Managed))
     → slice_get w.nodes i ≡ Some n → IsDue w n.core.memory.asked
     → (end : World (Host Managed)) → AreRounds c i (steady_rounds c.nodes) w end
     → IsAnswered w end i

@@ -1,17 +1,20 @@
 -- Sweeps of pulses: each node pulses each other one, and what is sent by pulses comes.
-use Rattle.std.specs.Prelude.{◌≡◌, ◌≢◌, ◌<◌, ℕ, List, [], ◌∷◌, ◌++◌, length, slice_get, Some, Contains}
+use Rattle.std.specs.Prelude.{◌≡◌, ◌≢◌, ◌<◌, ◌≤◌, ◌⊎◌, ℕ, List, [], ◌∷◌, ◌++◌, length, slice_get, Some, Contains}
 use Rattle.ivy_model.specs.declared.Config.{Config}
 use Rattle.ivy_program.specs.stated.Programs.{Program}
+use Rattle.ivy_link.specs.stated.LinkLimits.{most_again}
 use Rattle.ivy_moves.specs.declared.Move.{Move}
 use Rattle.ivy_moves.specs.declared.Move.TheVariants.{Turn, Deliver, Pulse}
 use Rattle.ivy_moves.specs.stated.Nodes.{Node, pulsing}
 use Rattle.ivy_moves.specs.stated.Worlds.{World, Moves}
+use Rattle.ivy_program.specs.Programs.{FetchNothing}
 use Rattle.ivy_host.specs.stated.Hosts.{Host, host_rules}
 use Rattle.ivy_host.specs.declared.opening.Opening.{Opening}
 use Rattle.ivy_host.specs.stated.Managers.{Managed, managed_ops}
 use Rattle.proof_answers.specs.answers.Pulses.{StandAmong, deliveries}
 use Rattle.proof_answers.specs.answers.NodeRounds.{IsDeliveredBy, IsRound}
 use Rattle.proof_answers.specs.answers.Undropped.{IsOfMoves}
+use Rattle.proof_answers.specs.sweeps.FewUnderWay.{AreFewUnderWay, IsNoneFetched}
 
 module _ (c : Config) where
   -- the strings of a pulse are delivered by some of the moves after it, in the order in which they
@@ -46,11 +49,24 @@ pub record AreThreeSweeps (c : Config) (w : World (Host Managed)) (one two three
   pub three_is : IsSweep c second three end
 
 -- The law: after three sweeps each message is delivered that a node had sent another one before the
--- first.
+-- first, if no more of them were under way between two nodes than a pulse sends again.
 abbrev pub SweepsDeliver : Type 0
 SweepsDeliver = (opened : Opening) (c : Config) (programs : List Program)
     (w end : World (Host Managed))
-    → IsOfMoves opened c programs w → (one two three : List Move)
+    → IsOfMoves opened c programs w → AreFewUnderWay most_again w → (one two three : List Move)
+    → AreThreeSweeps c w one two three end
+    → IsDeliveredBy w end
+
+-- The law: no more are where no page is fetched ahead, or with four nodes.
+abbrev pub FewForSweeps : Type 0
+FewForSweeps = (opened : Opening) (c : Config) (programs : List Program) (w : World (Host Managed))
+    → IsOfMoves opened c programs w → IsNoneFetched w ⊎ (c.nodes ≤ 4) → AreFewUnderWay most_again w
+
+-- The law: so it is where no program has pages fetched ahead.
+abbrev pub SweepsDeliverUnfetched : Type 0
+SweepsDeliverUnfetched = (opened : Opening) (c : Config) (programs : List Program)
+    (w end : World (Host Managed))
+    → IsOfMoves opened c programs w → FetchNothing programs → (one two three : List Move)
     → AreThreeSweeps c w one two three end
     → IsDeliveredBy w end
 
@@ -58,6 +74,14 @@ SweepsDeliver = (opened : Opening) (c : Config) (programs : List Program)
 abbrev pub SweepsAreRounds : Type 0
 SweepsAreRounds = (opened : Opening) (c : Config) (programs : List Program)
     (w end : World (Host Managed))
-    → IsOfMoves opened c programs w → (one two three : List Move)
+    → IsOfMoves opened c programs w → AreFewUnderWay most_again w → (one two three : List Move)
+    → AreThreeSweeps c w one two three end
+    → (i : ℕ) → Contains (one ++ two ++ three) (Turn i) → IsRound c i w end
+
+-- The law: so it is where no program has pages fetched ahead.
+abbrev pub SweepsAreRoundsUnfetched : Type 0
+SweepsAreRoundsUnfetched = (opened : Opening) (c : Config) (programs : List Program)
+    (w end : World (Host Managed))
+    → IsOfMoves opened c programs w → FetchNothing programs → (one two three : List Move)
     → AreThreeSweeps c w one two three end
     → (i : ℕ) → Contains (one ++ two ++ three) (Turn i) → IsRound c i w end

@@ -103,9 +103,9 @@ module _ {S : Type 0} (ops : Ops S) (start : Start S) (c : Config) (config : IsC
           → page_of h p ≡ replicate c.page_size 0
       at None gone =
           let there =
-          slice_get-get_or begun.cores i (first_host start c i (Called []))
+          slice_get-get_or begun.cores i (first_host start c i (Called [] []))
           (let count = sound.count in omega (arith, low, count)) in
-          absurd (none-some (get_or begun.cores i (first_host start c i (Called [])))
+          absurd (none-some (get_or begun.cores i (first_host start c i (Called [] [])))
           (sym gone ∙ there))
       at (Some n) there =
           let new = opening_first start c programs i n there in

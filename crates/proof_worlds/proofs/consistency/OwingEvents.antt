@@ -40,7 +40,6 @@ use Rattle.ivy_alloc.specs.declared.HeapRequest.TheVariants as heap_request
 use Rattle.ivy_alloc.specs.stated.HeapCalls.{HeapSide, reply_told}
 use Rattle.ivy_memory.specs.stated.Memories.{NodeMemory, first_reply, reply_of, reply_there, reply_at, taken_out, answered, needed}
 use Rattle.ivy_memory.specs.stated.Beside.{Beside, gives_reply}
-use Rattle.ivy_host.specs.stated.Fetches.{Fetches}
 use Rattle.ivy_host.specs.stated.Hosts.{Host, number_of, recorded, begins_as, serving}
 use Rattle.ivy_memory.proofs.serving.Pages.{is_of_pages, no_heap_request_of}
 use Rattle.ivy_host.proofs.Pages.{page_serving}
@@ -501,17 +500,17 @@ module _ {S : Type 0} (ops : Ops S) (c : Config) (config : IsConfig c) (was : �
         (λ at. refl))
 
   -- the node's coherence is this one then, and the call in progress waits for what it waited for
-  pub quiet_adds : (told : Coherent S) (fetches : Fetches) (flat : ℕ → List ℕ) → flat ≡ f
+  pub quiet_adds : (told : Coherent S) (used : ℕ) (flat : ℕ → List ℕ) → flat ≡ f
       → told.me ≡ number_of n → SameRest n.memory.coherence told
       → told.locked ≡ n.memory.coherence.locked
       → ((q : ℕ) (word : Word) (number : ℕ) → n.memory.coherence.locked ≡ Some q
       → WaitsAt (entry_at told.table q) word number
       → WaitsAt (entry_at n.memory.coherence.table q) word number)
       → Adds c was mem x n
-      (record n { memory = record n.memory { coherence = told }; fetches = fetches }) ms flat
-  quiet_adds told fetches flat same same_me rest locked waiting =
+      (record n { memory = record n.memory { coherence = told }; used = used }) ms flat
+  quiet_adds told used flat same same_me rest locked waiting =
       let now : Host S =
-      record n { memory = record n.memory { coherence = told }; fetches = fetches } in
+      record n { memory = record n.memory { coherence = told }; used = used } in
       let still : pending now ms ≡ pending n ms
       = ap (λ me. owed me n.memory.asked (reply_owed n.memory.side.heap_request ms told.done)
       ++ owed_then me n.memory.along told.done told.done_more) same_me
@@ -650,7 +649,7 @@ module _ {S : Type 0} (ops : Ops S) (c : Config) (config : IsConfig c) (was : �
     told_adds : (flat : ℕ → List ℕ) → Tells (Copies {S = S} c) was c x f n.memory.coherence told flat
         → Adds c was mem x n told_host ms flat
     told_adds flat (quiet same rest locked waiting) =
-        quiet_adds told n.fetches flat same same_me rest locked
+        quiet_adds told n.used flat same same_me rest locked
         (λ q word number lock. waiting q word number)
     told_adds flat (is_answered page word number out lock there free none done carries) =
         answer_adds flat page word number out n.memory.asked refl lock there free done carries

@@ -22,7 +22,7 @@ use Rattle.ivy_alloc.specs.stated.HeapCalls.{kept, told_of, reply_told}
 use Rattle.ivy_memory.specs.stated.Memories.{MemoryFetch, first_reply, reply_there, reply_at}
 use Rattle.ivy_memory.specs.stated.Beside.{nothing_beside}
 use Rattle.ivy_memory.proofs.keeping.WellBehaved.{without-sound}
-use Rattle.ivy_host.specs.stated.Fetches.{HandedFetch, used_up}
+use Rattle.ivy_program.specs.stated.Programs.{HandedFetch}
 use Rattle.ivy_host.specs.stated.Hosts.{Host, number_of, fetch_of, fetched_with}
 use Rattle.ivy_host.proofs.Turns.{either_fetch}
 use Rattle.ivy_host.specs.stated.Sound.{IsSoundHost}
@@ -130,11 +130,11 @@ module _ {S : Type 0} (ops : Ops S) (c : Config) (config : IsConfig c) (was : �
     where
       leaves_adds : (after : Coherent S) → Leaves n.memory.coherence handed.page after
           → Adds c was mem x n
-          (record n { memory = record n.memory { coherence = after }; fetches = used_up n.fetches })
+          (record n { memory = record n.memory { coherence = after }; used = n.used + 1 })
           ms flat
       leaves_adds after left =
           quiet_adds ops c config was x mem sized f shows n good running ms after
-          (used_up n.fetches) flat same left.me left.rest left.locked
+          (n.used + 1) flat same left.me left.rest left.locked
           (λ q word number lock there.
           subst (λ e. WaitsAt e word number)
           (left.entries q (good.memory.coherent.locked q lock)) there)

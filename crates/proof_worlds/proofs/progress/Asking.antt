@@ -21,7 +21,7 @@ use Rattle.ivy_memory.proofs.keeping.Same.{told-asked}
 use Rattle.ivy_memory.proofs.keeping.Begun.{call-begun, begun-one, begun-next}
 use Rattle.ivy_memory.specs.stated.Sound.{IsWordOfPage}
 use Rattle.ivy_host.proofs.Turns.{either_turn, either_fetch}
-use Rattle.ivy_host.specs.stated.Fetches.{HandedFetch}
+use Rattle.ivy_program.specs.stated.Programs.{HandedFetch}
 use Rattle.ivy_host.specs.stated.Hosts.{Host, recorded, quietly, begins_with, begins_as, steps, fetch_of, fetched_with, turned_at, turn_of, serving}
 
 -- the call, if there is one, is not refused at once

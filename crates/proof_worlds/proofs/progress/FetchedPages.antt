@@ -24,8 +24,8 @@ use Rattle.ivy_moves.specs.stated.Cores.{Outcome}
 use Rattle.ivy_alloc.specs.declared.CallProgress.{CallProgress}
 use Rattle.ivy_alloc.specs.declared.CallProgress.TheVariants.{Given, Awaited, Unserved}
 use Rattle.ivy_memory.specs.stated.Memories.{CallBegun, in_progress}
-use Rattle.ivy_program.specs.stated.Programs.{Program, Written, Called}
-use Rattle.ivy_host.specs.stated.Fetches.{HandedFetch, next_fetch, if_reached, due_of}
+use Rattle.ivy_program.specs.stated.Programs.{HandedFetch, Program, Written, Called, fetches_of}
+use Rattle.ivy_host.specs.stated.Fetches.{if_reached, due_of}
 use Rattle.ivy_host.specs.stated.Hosts.{Host, begins_with, due}
 use Rattle.proof_worlds.specs.stated.Unblocked.{IsHanded}
 use Rattle.proof_worlds.proofs.refinement.FetchTurns.{carried-leaves}
@@ -90,58 +90,58 @@ module _ {S : Type 0} (ops : Ops S) (k : Coherent S) where
       → NoMoreFetched k (begun ops k page w call).after
   begun-fetches page w call = begun-by_rows (access-rows page w call)
 
--- a node to which nothing is handed
-module _ {S : Type 0} (n : Host S) (none : n.fetches.handed ≡ []) where
-  pub unhanded-next : (fetch : HandedFetch) → next_fetch n.fetches ≡ Some fetch → ⊥
-  unhanded-next fetch next =
-      none-some fetch (sym (ap (λ fs. slice_get fs n.fetches.used) none) ∙ next)
+-- a node whose program fetches nothing
+program-due : (p : Program) (count used : ℕ) → fetches_of p ≡ [] → due_of p count used ≡ None
+program-due (Written instructions) count used none = refl
+program-due (Called rows fetches) count used none =
+    ap (λ fs. if_reached count (slice_get fs used)) none
+
+module _ {S : Type 0} (n : Host S) (none : fetches_of n.process.program ≡ []) where
+  pub unhanded-next : (fetch : HandedFetch)
+      → slice_get (fetches_of n.process.program) n.used ≡ Some fetch → ⊥
+  unhanded-next fetch next = none-some fetch (sym (ap (λ fs. slice_get fs n.used) none) ∙ next)
 
   pub unhanded-page : (page : ℕ) → IsHanded n page → ⊥
   unhanded-page page h = none-some h.1 (sym (ap (λ fs. slice_get fs h.0) none) ∙ h.2)
 
-  program_due : (p : Program) (count : ℕ) → due_of p count n.fetches ≡ None
-  program_due (Written instructions) count = refl
-  program_due (Called rows) count =
-      ap (λ fs. if_reached count (slice_get fs n.fetches.used)) none
-
   pub unhanded-due : due n ≡ None
   unhanded-due =
-      program_due n.process.program
-      (n.process.state.place + length (in_progress n.memory.asked n.memory.along))
+      program-due n.process.program
+      (n.process.state.place + length (in_progress n.memory.asked n.memory.along)) n.used none
 
 -- a turn
 module _ {S : Type 0} (ops : Ops S) (c : Config) (n : Host S) (out : Outcome (Host S)) where
   abbrev IsHandedSo : Host S → Type 0
-  IsHandedSo h = h.fetches.handed ≡ n.fetches.handed
+  IsHandedSo h = fetches_of h.process.program ≡ fetches_of n.process.program
 
   begins-handed : (h : Host S) (called : Call) (a : CallBegun S) (r : CallProgress)
       → IsHandedSo h → begins_with h called a r ≡ Some out → IsHandedSo out.after
   begins-handed h called a (Given r) same is =
-      ap (λ (z : Outcome (Host S)). z.after.fetches.handed) (sym (same_Some _ out is)) ∙ same
+      ap (λ (z : Outcome (Host S)). fetches_of z.after.process.program) (sym (same_Some _ out is)) ∙ same
   begins-handed h called a Awaited same is =
-      ap (λ (z : Outcome (Host S)). z.after.fetches.handed) (sym (same_Some _ out is)) ∙ same
+      ap (λ (z : Outcome (Host S)). fetches_of z.after.process.program) (sym (same_Some _ out is)) ∙ same
   begins-handed h called a Unserved same is = absurd (none-some out is)
 
   -- nothing is handed by it
   pub turn-handed : HostTurn ops c n out → IsHandedSo out.after
   turn-handed (answers called r asked there is) =
-      ap (λ (z : Outcome (Host S)). z.after.fetches.handed) is
+      ap (λ (z : Outcome (Host S)). fetches_of z.after.process.program) is
   turn-handed (tries_again called page w asked untold free of inside lies is) =
       let begun_now : CallBegun S = asked_for ops (without_call n) called nothing_beside page w in
       begins-handed (without_call n) called begun_now begun_now.answer refl is
   turn-handed (goes_on s idle step is) =
-      ap (λ (z : Outcome (Host S)). z.after.fetches.handed) is
+      ap (λ (z : Outcome (Host S)). fetches_of z.after.process.program) is
   turn-handed (refuses called code idle step refusal is) =
-      ap (λ (z : Outcome (Host S)). z.after.fetches.handed) is
+      ap (λ (z : Outcome (Host S)). fetches_of z.after.process.program) is
   turn-handed (asks_for called page w idle step of inside lies few is) =
       let begun_now : CallBegun S = asked_for ops n called (made_along n page w) page w in
       begins-handed n called begun_now begun_now.answer refl is
   turn-handed (serves_heap called k heap idle step of there is) =
-      ap (λ (z : Outcome (Host S)). z.after.fetches.handed) is
+      ap (λ (z : Outcome (Host S)). fetches_of z.after.process.program) is
   turn-handed (asks_heap called k idle step of away is) =
-      ap (λ (z : Outcome (Host S)). z.after.fetches.handed) is
+      ap (λ (z : Outcome (Host S)). fetches_of z.after.process.program) is
   turn-handed (carries_fetch fetch next is) =
-      ap (λ (z : Outcome (Host S)). z.after.fetches.handed) is
+      ap (λ (z : Outcome (Host S)). fetches_of z.after.process.program) is
 
   pub handed-on : HostTurn ops c n out → (page : ℕ) → IsHanded n page → IsHanded out.after page
   handed-on turn page h =
@@ -177,5 +177,5 @@ module _ {S : Type 0} (ops : Ops S) (c : Config) (n : Host S) (out : Outcome (Ho
       subst (λ (z : Outcome (Host S)). Fetches z.after) (sym is)
       (λ p h. elim ((carried-leaves ops n fetch good).coherence.fetched p h) [
         | inl before ↦ inl before
-        | inr here ↦ inr (n.fetches.used, fetch, next, sym here)
+        | inr here ↦ inr (n.used, fetch, next, sym here)
       ])

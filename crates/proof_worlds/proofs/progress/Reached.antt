@@ -10,15 +10,16 @@ use Rattle.ivy_model.specs.stated.Config.{IsConfig}
 use Rattle.ivy_wire.specs.stated.Data.{Message}
 use Rattle.ivy_pagetable.specs.stated.Manager.{Ops}
 use Rattle.ivy_pagetable.specs.Manager.{Laws}
-use Rattle.ivy_program.specs.stated.Programs.{Program}
+use Rattle.ivy_program.specs.stated.Programs.{Program, fetches_of}
+use Rattle.ivy_program.specs.stated.InstructionSteps.{Process}
+use Rattle.ivy_program.specs.Programs.{FetchNothing}
 use Rattle.ivy_moves.proofs.Splitting.{none-in}
 use Rattle.ivy_moves.specs.stated.FifoWorld.{FifoWorld, Steps, rests, turns, delivers}
-use Rattle.ivy_host.specs.stated.Fetches.{Fetches}
 use Rattle.ivy_host.specs.stated.Hosts.{Host, host_rules, serving}
 use Rattle.ivy_host.specs.stated.Openings.{Start}
 use Rattle.ivy_host.proofs.Starts.{IsStart}
 use Rattle.proof_worlds.specs.stated.FifoRuns.{IsFifoRun, IsReachedInOrder}
-use Rattle.proof_worlds.proofs.refinement.Led.{opening_first}
+use Rattle.proof_worlds.proofs.refinement.Led.{opening_first, opening_unfetched}
 use Rattle.proof_worlds.proofs.consistency.Faithful.{IsFaithful, set-places}
 use Rattle.proof_worlds.proofs.consistency.FaithfulSteps.{GoesOn, faithful_next}
 use Rattle.proof_worlds.proofs.consistency.FaithfulOpening.{opening_faithful}
@@ -32,10 +33,10 @@ AllServable {S} c o = (i : ℕ) (n : Host S) → slice_get o.cores i ≡ Some n 
 
 -- nothing was handed to be fetched
 abbrev pub AllUnhanded : {S : Type 0} → FifoWorld (Host S) → Type 0
-AllUnhanded {S} o = (i : ℕ) (n : Host S) → slice_get o.cores i ≡ Some n → n.fetches.handed ≡ []
+AllUnhanded {S} o = (i : ℕ) (n : Host S) → slice_get o.cores i ≡ Some n → fetches_of n.process.program ≡ []
 
 serve-handed : {S : Type 0} (ops : Ops S) (n : Host S) (from : ℕ) (m : Message)
-    → (serving ops n from m).after.fetches ≡ n.fetches
+    → (serving ops n from m).after.process ≡ n.process
 unfolding serving
 serve-handed ops n from m = refl
 
@@ -83,7 +84,7 @@ module _ {S : Type 0} (ops : Ops S) (laws : Laws ops) (start : Start S) (c : Con
       elim (set-places o.cores i j t.outcome.after n
       (ap (λ l. slice_get l j) (sym t.cores) ∙ there)) [
         | inl here ↦
-            ap (λ (h : Host S). h.fetches.handed) here.1
+            ap (λ (h : Host S). fetches_of h.process.program) here.1
             ∙ turn-handed ops c t.core t.outcome
             (turn_cases ops c i t.core (f.sound.sound i t.core t.there) t.outcome t.turned)
             ∙ none i t.core t.there
@@ -93,8 +94,8 @@ module _ {S : Type 0} (ops : Ops S) (laws : Laws ops) (start : Start S) (c : Con
       elim (set-places o.cores i j ((host_rules ops).serve t.core source t.message).after n
       (ap (λ l. slice_get l j) (sym t.cores) ∙ there)) [
         | inl here ↦
-            ap (λ (h : Host S). h.fetches.handed) here.1
-            ∙ ap (λ (fs : Fetches). fs.handed) (serve-handed ops t.core source t.message)
+            ap (λ (h : Host S). fetches_of h.process.program) here.1
+            ∙ ap (λ (p : Process). fetches_of p.program) (serve-handed ops t.core source t.message)
             ∙ none i t.core t.there
         | inr other ↦ none j n other.1
       ]
@@ -137,17 +138,17 @@ module _ {S : Type 0} (ops : Ops S) (laws : Laws ops) (start : Start S) (c : Con
       → IsToldBy start.sends_on ops c o
   reached_told o reached = run_told reached.0 o reached.1
 
-  run_unhanded : ((i : ℕ) → start.fetches i ≡ []) → (before : List (FifoWorld (Host S))) (o : FifoWorld (Host S))
+  run_unhanded : FetchNothing programs → (before : List (FifoWorld (Host S))) (o : FifoWorld (Host S))
       → IsFifoRun ops start c programs before o → AllUnhanded o
   run_unhanded none [] o is =
       subst AllUnhanded (sym is)
       (λ i n there.
-      ap (λ (h : Host S). h.fetches.handed) (opening_first start c programs i n there).1 ∙ none i)
+      opening_unfetched start c programs none i n there)
   run_unhanded none (last ∷ before) o run =
       let was : IsToldBy start.sends_on ops c last = run_told before last run.0 in
       unhanded_next last o was.order was.faithful (run_unhanded none before last run.0) run.1
 
   -- the openings hand nothing, and no step does
-  pub reached_unhanded : ((i : ℕ) → start.fetches i ≡ []) → (o : FifoWorld (Host S)) → IsReachedInOrder ops start c programs o
-      → AllUnhanded o
+  pub reached_unhanded : FetchNothing programs → (o : FifoWorld (Host S))
+      → IsReachedInOrder ops start c programs o → AllUnhanded o
   reached_unhanded none o reached = run_unhanded none reached.0 o reached.1

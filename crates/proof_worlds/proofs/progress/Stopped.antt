@@ -31,7 +31,7 @@ use Rattle.ivy_memory.specs.stated.Memories.{NodeMemory, reply_of, reply_at, tak
 use Rattle.ivy_memory.proofs.keeping.Polling.{polled_so}
 use Rattle.ivy_moves.specs.stated.Cores.{Outcome}
 use Rattle.ivy_host.proofs.Turns.{none-due}
-use Rattle.ivy_host.specs.stated.Fetches.{HandedFetch}
+use Rattle.ivy_program.specs.stated.Programs.{HandedFetch}
 use Rattle.ivy_host.specs.stated.Hosts.{Host, number_of, recorded, begins_as, asks_reply, due, or_fetches, turned_at, turned_by, turn_of}
 
 -- a word is not answered: it is an await, and the number there is below the least

@@ -19,7 +19,7 @@ use Rattle.ivy_coherence.proofs.keeping.EventTable.{fetchable_is}
 use Rattle.ivy_coherence.proofs.keeping.IdleServing.{all_none}
 use Rattle.ivy_memory.specs.stated.Memories.{NodeMemory, MemoryFetch}
 use Rattle.ivy_memory.proofs.serving.Pages.{IsOfPages, fetch-pages}
-use Rattle.ivy_host.specs.stated.Fetches.{HandedFetch}
+use Rattle.ivy_program.specs.stated.Programs.{HandedFetch}
 use Rattle.ivy_host.specs.stated.Hosts.{Host, fetch_of}
 use Rattle.ivy_host.proofs.Turns.{either_fetch}
 use Rattle.proof_worlds.proofs.refinement.LiftedEvents.{SameRest}

@@ -1,5 +1,5 @@
 -- The turns of a sound node.
-use Rattle.std.proofs.Common.{◌≡◌, ◌<◌, ◌+◌, ◌^◌, ℕ, Bool, true, false, List, [], ◌∷◌, length, Option, Some, None, refl, sym, ap, ◌∙◌, subst, if◌then◌else◌, nat_lt}
+use Rattle.std.proofs.Common.{◌≡◌, ◌<◌, ◌+◌, ◌^◌, ℕ, Bool, true, false, List, [], ◌∷◌, length, Option, Some, None, refl, sym, ap, ◌∙◌, subst, if◌then◌else◌, nat_lt, slice_get}
 use Rattle.std.proofs.lemmas.Bool.{ltb-true}
 use Rattle.std.proofs.lemmas.Option.{same_Some, none-some}
 use Rattle.ivy_model.specs.declared.Config.{Config}
@@ -15,7 +15,7 @@ use Rattle.ivy_coherence.specs.declared.Need.TheVariants as need
 use Rattle.ivy_coherence.specs.stated.Coherent.{Coherent}
 use Rattle.ivy_coherence.specs.stated.PageFaults.{Begun, along, begun}
 use Rattle.ivy_alloc.specs.stated.Heap.{HeapState}
-use Rattle.ivy_program.specs.stated.Programs.{Program, Written, Called}
+use Rattle.ivy_program.specs.stated.Programs.{HandedFetch, Program, Written, Called, fetches_of}
 use Rattle.ivy_program.specs.stated.States.{State}
 use Rattle.ivy_program.specs.stated.InstructionSteps.{Step, Local, Asks, Ends, step_of, at_state, along_of}
 use Rattle.ivy_program.proofs.running.Running.{asked_legal}
@@ -37,7 +37,7 @@ use Rattle.ivy_memory.proofs.keeping.WellBehaved.{Begins, begun-begins, needed-p
 use Rattle.ivy_memory.proofs.keeping.Polling.{polled_so}
 use Rattle.proof_worlds.proofs.refinement.LiftedEvents.{SameNet}
 use Rattle.ivy_host.proofs.Turns.{asks-turned}
-use Rattle.ivy_host.specs.stated.Fetches.{Fetches, HandedFetch, next_fetch, if_reached, due_of}
+use Rattle.ivy_host.specs.stated.Fetches.{if_reached, due_of}
 use Rattle.ivy_host.specs.stated.Hosts.{Host, recorded, quietly, begins_with, begins_as, begins, steps, due, fetch_of, fetched_with, asks_reply, or_fetches, turned_at, turned_by, turn_of}
 use Rattle.ivy_host.specs.stated.Sound.{IsSoundHost}
 
@@ -155,7 +155,7 @@ pub data HostTurn {S : Type 0} (ops : Ops S) (c : Config) (h : Host S)
         posted =
             parcel_to h.memory.coherence.me 0 h.memory.coherence.me (number_of h) (request k) ∷ [];
       } → HostTurn ops c h out
-  carries_fetch : (fetch : HandedFetch) → next_fetch h.fetches ≡ Some fetch
+  carries_fetch : (fetch : HandedFetch) → slice_get (fetches_of h.process.program) h.used ≡ Some fetch
       → out ≡ fetched_with h (fetch_of ops h fetch) → HostTurn ops c h out
 
 -- a fetch that is due is the next one
@@ -169,11 +169,11 @@ reached_next : (count : ℕ) (next : Option HandedFetch) (fetch : HandedFetch)
 reached_next count None fetch is = is
 reached_next count (Some next) fetch is = handed_if (nat_lt count next.after) next fetch is
 
-due_next : (p : Program) (count : ℕ) (fetches : Fetches) (fetch : HandedFetch)
-    → due_of p count fetches ≡ Some fetch → next_fetch fetches ≡ Some fetch
-due_next (Written instructions) count fetches fetch is = absurd (none-some fetch is)
-due_next (Called rows) count fetches fetch is =
-    reached_next count (next_fetch fetches) fetch is
+due_next : (p : Program) (count used : ℕ) (fetch : HandedFetch)
+    → due_of p count used ≡ Some fetch → slice_get (fetches_of p) used ≡ Some fetch
+due_next (Written instructions) count used fetch is = absurd (none-some fetch is)
+due_next (Called rows fetches) count used fetch is =
+    reached_next count (slice_get fetches used) fetch is
 
 -- what a call of the heap comes to where node 0 is asked, and where there is no such request
 abbrev heap_sent : {S : Type 0} → NodeMemory S → HeapCall → ℕ → HeapBegun
@@ -319,7 +319,7 @@ module _ {S : Type 0} (ops : Ops S) (c : Config) (x : ℕ) (h : Host S) (good : 
   at-cases None asked is = steps-cases (step_of h.process) asked refl is
 
   -- by what the call in progress comes to that is asked for its reply
-  reply-cases : (fetch : HandedFetch) → next_fetch h.fetches ≡ Some fetch
+  reply-cases : (fetch : HandedFetch) → slice_get (fetches_of h.process.program) h.used ≡ Some fetch
       → (r : Option (Outcome (Host S))) → asks_reply ops h h.memory.asked ≡ r
       → or_fetches ops h fetch r ≡ Some out → HostTurn ops c h out
   reply-cases fetch next (Some o) is e =
@@ -333,7 +333,7 @@ module _ {S : Type 0} (ops : Ops S) (c : Config) (x : ℕ) (h : Host S) (good : 
   due-cases (Some fetch) is e =
       reply-cases fetch
       (due_next h.process.program
-      (h.process.state.place + length (in_progress h.memory.asked h.memory.along)) h.fetches fetch is)
+      (h.process.state.place + length (in_progress h.memory.asked h.memory.along)) h.used fetch is)
       (asks_reply ops h h.memory.asked) refl e
 
   -- each turn of a sound node is one of these

@@ -7,7 +7,9 @@ use Rattle.ivy_model.specs.declared.Config.{Config}
 use Rattle.ivy_model.specs.stated.Config.{IsConfig}
 use Rattle.ivy_wire.specs.stated.Data.{Message}
 use Rattle.ivy_pagetable.specs.stated.Manager.{Ops}
-use Rattle.ivy_program.specs.stated.Programs.{Program}
+use Rattle.std.proofs.lemmas.List.Elements.{All-head, All-tail}
+use Rattle.ivy_program.specs.Programs.{FetchesNone, FetchNothing}
+use Rattle.ivy_program.specs.stated.Programs.{Program, fetches_of}
 use Rattle.ivy_moves.specs.declared.moves.Move.{Move}
 use Rattle.ivy_moves.specs.stated.Nodes.{Node}
 use Rattle.ivy_moves.specs.stated.FifoWorld.{FifoWorld, Steps}
@@ -121,3 +123,19 @@ module _ {S : Type 0} (start : Start S) (c : Config) where
   opening_first programs i k is =
       let f = first_cores 0 programs i k is in
       (f.0, f.1 ∙ ap (λ n. first_host start c n f.0) (let g : i + 0 ≡ i = omega arith in g))
+
+  first_unfetched : (me : ℕ) (ps : List Program) → FetchNothing ps → (i : ℕ) (k : Host S)
+      → slice_get (map core_of (first_nodes start c me ps)) i ≡ Some k
+      → fetches_of k.process.program ≡ []
+  first_unfetched me [] none i k is = absurd (none-some k is)
+  first_unfetched me (p ∷ ps) none zero k is =
+      ap (λ (h : Host S). fetches_of h.process.program) (sym (same_Some (first_host start c me p) k is))
+      ∙ All-head FetchesNone p ps none
+  first_unfetched me (p ∷ ps) none (suc i) k is =
+      first_unfetched (me + 1) ps (All-tail FetchesNone p ps none) i k is
+
+  -- and whose programs fetch nothing
+  pub opening_unfetched : (programs : List Program) → FetchNothing programs → (i : ℕ) (k : Host S)
+      → slice_get (fifo_of (opening start c programs) (λ i j. [])).cores i ≡ Some k
+      → fetches_of k.process.program ≡ []
+  opening_unfetched programs none i k is = first_unfetched 0 programs none i k is

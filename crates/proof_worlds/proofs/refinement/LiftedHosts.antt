@@ -15,7 +15,7 @@ use Rattle.ivy_alloc.proofs.HeapSides.{request_heap}
 use Rattle.ivy_memory.proofs.serving.Pages.{is_of_pages}
 use Rattle.ivy_memory.specs.stated.Memories.{MemoryFetch}
 use Rattle.ivy_host.proofs.Turns.{either_fetch}
-use Rattle.ivy_host.specs.stated.Fetches.{HandedFetch}
+use Rattle.ivy_program.specs.stated.Programs.{HandedFetch}
 use Rattle.ivy_host.specs.stated.Hosts.{Host, host_rules, fetch_of, fetched_with}
 use Rattle.proof_table.specs.stated.Letters.{Net}
 use Rattle.proof_table.specs.transitions.TableSteps.{IsPreservedBy}

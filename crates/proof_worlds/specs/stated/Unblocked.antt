@@ -20,14 +20,14 @@ use Rattle.ivy_moves.specs.stated.Cores.{Outcome}
 use Rattle.ivy_memory.specs.declared.Asked.TheVariants.{Word}
 use Rattle.ivy_memory.specs.stated.Asking.{asked_of}
 use Rattle.ivy_memory.specs.stated.Memories.{in_progress}
-use Rattle.ivy_host.specs.stated.Fetches.{HandedFetch}
+use Rattle.ivy_program.specs.stated.Programs.{HandedFetch, fetches_of}
 use Rattle.ivy_host.specs.stated.Hosts.{Host, turn_of}
 use Rattle.proof_worlds.specs.stated.Settled.{HasNoAnswer}
 
 -- the node was handed a fetch of the page
 abbrev pub IsHanded : {S : Type 0} → Host S → ℕ → Type 0
 IsHanded n page = (k : ℕ) × (fetch : HandedFetch)
-    × (slice_get n.fetches.handed k ≡ Some fetch) × (fetch.page ≡ page)
+    × (slice_get (fetches_of n.process.program) k ≡ Some fetch) × (fetch.page ≡ page)
 
 module _ {S : Type 0} (ops : Ops S) (i : ℕ) (n : Host S) where
   -- node i's record of this reply to the call

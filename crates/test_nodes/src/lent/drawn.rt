@@ -198,6 +198,16 @@ impl Drawn {
         }
     }
 
+    /// A page is fetched ahead, whatever is in progress.
+    fn fetch(&self, rt: &impl Abort, drive: &mut Drive) {
+        let to = if self.value % 2 == 0 {
+            Lending::ToRead
+        } else {
+            Lending::ToWrite
+        };
+        drive.fetch(rt, self.node, self.page, to);
+    }
+
     /// The node does what is drawn, if it may.
     fn make(&self, rt: &impl Abort, drive: &mut Drive) {
         let is_free = drive.at(rt, self.node).is_free();
@@ -207,6 +217,7 @@ impl Drawn {
             5 if is_free => self.block(rt, drive),
             6..=12 => self.at_lent(rt, drive).touch(rt, drive),
             13 => self.turn_over(rt, drive),
+            14 => self.fetch(rt, drive),
             _ => {}
         }
     }

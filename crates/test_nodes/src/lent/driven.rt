@@ -127,6 +127,24 @@ impl Driven {
         *self.lent.get_mut(page).expect(rt, "a page") = to;
     }
 
+    /// Fetches a page ahead, unless it is lent.
+    pub(crate) fn fetch(&mut self, rt: &impl Abort, log: &mut Log, page: usize, to: Lending) {
+        let before = self.node.turns();
+        let lent = self.lending(rt, page);
+        let number = self.number(page);
+        let begun = self.node.fetch(number, to);
+        let begun = begun.expect(rt, "a page is fetched");
+        assert!(rt;
+            !begun || lent == Lending::Unlent,
+            "a lent page was fetched"
+        );
+        let turns = before.wrapping_add(u64::from(begun));
+        assert!(rt; self.node.turns() == turns);
+        if begun {
+            count(&mut log.tally.fetched);
+        }
+    }
+
     /// An access by a pointer, to a page that is lent for it.
     pub(crate) fn touch(&mut self, rt: &impl Abort, log: &mut Log, page: usize, call: Call) {
         let image = self.images.get_mut(page).expect(rt, "a page");

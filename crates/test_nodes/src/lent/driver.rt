@@ -153,6 +153,12 @@ impl Drive {
         driven.give_back(rt, page, on);
     }
 
+    /// A node fetches a page ahead.
+    pub(crate) fn fetch(&mut self, rt: &impl Abort, node: usize, page: usize, to: Lending) {
+        let driven = self.nodes.get_mut(node).expect(rt, "a node");
+        driven.fetch(rt, &mut self.log, page, to);
+    }
+
     /// A node touches a page by a pointer.
     pub(crate) fn touch(&mut self, rt: &impl Abort, node: usize, plan: Plan) {
         let driven = self.nodes.get_mut(node).expect(rt, "a node");

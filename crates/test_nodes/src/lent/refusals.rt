@@ -64,6 +64,22 @@ fn not_here(rt: HostRuntime) {
     assert!(rt; begin(&rt, &mut node, LOAD, address(2)) == Err(Declined::Fault(Fault::Busy)));
 }
 
+/// A page that another node has is fetched once. One that is not there, or that is to be neither read nor written, is refused.
+#[test]
+fn pages_fetched_ahead(rt: HostRuntime) {
+    let mut node = node(&rt, rt.alloc(), 300, 1);
+    let none = Err(Declined::NoSuchLending);
+    assert!(rt; node.fetch(300, Lending::ToRead) == none);
+    assert!(rt; node.fetch(1, Lending::Unlent) == none);
+    for page in 1..8 {
+        assert!(rt; node.fetch(page, Lending::ToRead) == Ok(true));
+        assert!(rt; node.fetch(page, Lending::ToWrite) == Ok(false));
+        assert!(rt; node.lend(page, Lending::ToRead) == Err(Declined::NotHere));
+    }
+    assert!(rt; node.fetch(8, Lending::ToRead) == Ok(false));
+    assert!(rt; node.turns() == 7);
+}
+
 /// Calls and blocks at pages that are lent, beside those that the memory refuses itself.
 #[test]
 fn calls_at_lent_pages(rt: HostRuntime) {

@@ -29,6 +29,8 @@ pub(crate) struct Tally {
     pub(crate) held: u64,
     /// Pages that came, and were gone before they were lent.
     pub(crate) gone: u64,
+    /// Pages that were asked for ahead.
+    pub(crate) fetched: u64,
 }
 
 /// What is seen of a run.
@@ -53,6 +55,7 @@ impl Tally {
             wanted: 0,
             held: 0,
             gone: 0,
+            fetched: 0,
         }
     }
 
@@ -64,12 +67,14 @@ impl Tally {
         self.wanted = self.wanted.wrapping_add(other.wanted);
         self.held = self.held.wrapping_add(other.held);
         self.gone = self.gone.wrapping_add(other.gone);
+        self.fetched = self.fetched.wrapping_add(other.fetched);
     }
 
     /// Whether each was seen.
     pub(crate) fn has_each(&self) -> bool {
         let taken = self.wanted > 0 && self.held > 0 && self.gone > 0;
-        taken && self.hits > 0 && self.waits > 0 && self.forbidden > 0
+        let asked = self.waits > 0 && self.forbidden > 0 && self.fetched > 0;
+        taken && asked && self.hits > 0
     }
 }
 

@@ -20,20 +20,20 @@ play-requires-clause-played g c =
     let limits : IsConfig c.args.config = c.in_ok-check_wide.ensures.accepted.0 refl in
     subst (ArePlayed c.args.config c.opening_by-opening.result c.in_ok-sites.sites.items) (sym c.new-sent.ensures)
     (first-played c.opening_by-opening.result History c.args.config (own_code c.args.config.nodes) c.in_ok-sites.sites.items limits
-    (length-replicate c.args.config.nodes (Called [])) c.in_ok-sites.ensures.first)
+    (length-replicate c.args.config.nodes (Called [] [])) c.in_ok-sites.ensures.first)
 
 pub play-requires-clause-logs : goal.play-requires-clause-logs
 play-requires-clause-logs g c =
     let limits : IsConfig c.args.config = c.in_ok-check_wide.ensures.accepted.0 refl in
     c.in_ok-check_all_heads.ensures.count
     ∙ sym (first-played c.opening_by-opening.result History c.args.config (own_code c.args.config.nodes) c.in_ok-sites.sites.items limits
-    (length-replicate c.args.config.nodes (Called [])) c.in_ok-sites.ensures.first).count
+    (length-replicate c.args.config.nodes (Called [] [])) c.in_ok-sites.ensures.first).count
 
 pub check_answers-requires : goal.check_answers-requires
 check_answers-requires g c =
     let limits : IsConfig c.args.config = c.in_ok-check_wide.ensures.accepted.0 refl in
     let began = first-played c.opening_by-opening.result History c.args.config (own_code c.args.config.nodes) c.in_ok-sites.sites.items limits
-    (length-replicate c.args.config.nodes (Called [])) c.in_ok-sites.ensures.first in
+    (length-replicate c.args.config.nodes (Called [] [])) c.in_ok-sites.ensures.first in
     record {
       each = c.in_ok-check_all_heads.ensures.count ∙ sym began.count ∙ sym c.in_ok-play.ensures.count
           ∙ ap length (sym c.deref.ensures.value);
@@ -44,13 +44,13 @@ play-requires-clause-sent g c =
     let limits : IsConfig c.args.config = c.in_ok-check_wide.ensures.accepted.0 refl in
     subst (λ l. HaveSent l c.in_ok-sites.sites.items) (sym c.new-sent.ensures)
     (first-sent c.opening_by-opening.result History c.args.config (own_code c.args.config.nodes) c.in_ok-sites.sites.items limits
-    (length-replicate c.args.config.nodes (Called [])) c.in_ok-sites.ensures.first)
+    (length-replicate c.args.config.nodes (Called [] [])) c.in_ok-sites.ensures.first)
 
 pub play-requires-clause-none : goal.play-requires-clause-none
 play-requires-clause-none g c =
     let limits : IsConfig c.args.config = c.in_ok-check_wide.ensures.accepted.0 refl in
     nothing c.opening_by-opening.result History c.args.config (own_code c.args.config.nodes) c.in_ok-sites.sites.items limits
-    (length-replicate c.args.config.nodes (Called [])) c.in_ok-sites.ensures.first
+    (length-replicate c.args.config.nodes (Called [] [])) c.in_ok-sites.ensures.first
 
 pub returns-clause-heads : goal.returns-clause-heads
 returns-clause-heads g c = c.in_ok-check_all_heads.ensures.each
@@ -59,7 +59,7 @@ pub returns-clause-joined : goal.returns-clause-joined
 returns-clause-joined g c =
     let limits : IsConfig c.args.config = c.in_ok-check_wide.ensures.accepted.0 refl in
     let began = first-played c.opening_by-opening.result History c.args.config (own_code c.args.config.nodes) c.in_ok-sites.sites.items limits
-    (length-replicate c.args.config.nodes (Called [])) c.in_ok-sites.ensures.first in
+    (length-replicate c.args.config.nodes (Called [] [])) c.in_ok-sites.ensures.first in
     subst (λ o. AreOwnJoined c.args.config o (map (λ l. l.entries.items) c.args.logs.now) c.new.result)
     c.opening_by-opening.ensures
     (subst (AreOwnJoined c.args.config c.opening_by-opening.result (map (λ l. l.entries.items) c.args.logs.now)) (sym c.new.ensures)
@@ -68,7 +68,7 @@ returns-clause-joined g c =
     (c.in_ok-play.ensures.called
     ∙ ap (with_calls (map (λ l. l.entries.items) c.args.logs.now))
     (first_programs c.opening_by-opening.result History c.args.config (own_code c.args.config.nodes) c.in_ok-sites.sites.items limits
-    (length-replicate c.args.config.nodes (Called [])) c.in_ok-sites.ensures.first
+    (length-replicate c.args.config.nodes (Called [] [])) c.in_ok-sites.ensures.first
     ∙ ap own_code (sym c.in_ok-check_all_heads.ensures.count ∙ sym (length-map c.args.logs.now _)))
     ∙ own-calls (map (λ l. l.entries.items) c.args.logs.now))
     (c.in_ok-check_all_heads.ensures.count ∙ sym began.count ∙ sym c.in_ok-play.ensures.count)

@@ -18,7 +18,7 @@ loop-me-preserved g c =
     let at = c.loop-me in
     let left : c.args.config.now.nodes - at.me ≡ suc (c.args.config.now.nodes - (at.me + 1)) =
     omega arith in
-    one_more_kept c.args.opening History c.args.config.now at.me at.sites.items (Called [])
+    one_more_kept c.args.opening History c.args.config.now at.me at.sites.items (Called [] [])
     (own_code (c.args.config.now.nodes - at.me))
     (own_code (c.args.config.now.nodes - (at.me + 1))) (ap own_code left)
     c.in_ok-open_by.field-0 c.in_ok-open_by.ensures.first c.push.new.self.items

@@ -28,7 +28,6 @@ returns-then-to-config-clause-on g c = λ sent. record {
   keep = refl;
   opened = refl;
   answered = same-records c.args.site.now c.args.site.now refl;
-  unhanded = λ none. none;
   more = [];
   events = sym (append-nil c.args.site.now.events);
   can = tt;

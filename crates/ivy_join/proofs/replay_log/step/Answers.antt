@@ -48,8 +48,8 @@ returns-clause-exact g c =
     c.make.ensures.on c.args.sent.now limits (took-old c.args.config.now c.args.opening c.args.sent.now c.args.node old own)
     c.requires.there in
     λ have. step-says c.args.sites.now.items c.args.node c.args.event.now old c.make.new.site c.collect.new.site
-    c.args.sent.now c.collect.new.sent c.in_ok-happens.happens there own.made own.unhanded limits
-    have on c.in_ok-happens.ensures.made c.in_ok-happens.ensures.exact c.collect.ensures.site c.collect.ensures.kept
+    c.args.sent.now c.collect.new.sent c.in_ok-happens.happens there own.made limits have on
+    c.in_ok-happens.ensures.made c.in_ok-happens.ensures.exact c.collect.ensures.site c.collect.ensures.kept
     c.in_ok-collect.ensures.taken c.in_ok-collect.ensures.none
 
 pub index_mut-site-requires : goal.index_mut-site-requires

@@ -69,7 +69,6 @@ returns g c =
         events = on.events ∙ ap (λ l. l ++ marks (events_in c.args.log.now)) c.requires.fresh;
         told = subst (λ es. StandFirst (answers_in es) c.loop-place.site.node.core.history) whole
             c.loop-place.invariant.first;
-        unhanded = on.unhanded;
         made = c.event_list.ensures.made;
       };
     }

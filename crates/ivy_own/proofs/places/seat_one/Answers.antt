@@ -13,7 +13,7 @@ use Rattle.ivy_own.proofs.places.seat_one.Goals as goal
 pub issue_seat-requires-clause-node : goal.issue_seat-requires-clause-node
 issue_seat-requires-clause-node g c =
     let long : length g.S.Setup.programs ≡ g.S.Setup.config.nodes =
-    ap length c.requires.programs ∙ length-replicate g.S.Setup.config.nodes (Called []) in
+    ap length c.requires.programs ∙ length-replicate g.S.Setup.config.nodes (Called [] []) in
     let nodes = ap (λ (k : Config). k.nodes) c.requires.config in
     let lt = c.requires.node in omega (arith, long, nodes, lt)
 
@@ -22,7 +22,7 @@ new-requires g c =
     let found : c.in-Some.found ≡ c.args.node = search rules in
     let first : c.in_ok-site.site
     ≡ first_opened c.args.plan.now.opening c.args.plan.now.keep c.args.plan.now.config
-    c.args.node (Called []) =
+    c.args.node (Called [] []) =
     c.in_ok-site.ensures.first in
     let me : c.in_ok-site.site.me ≡ c.args.node = ap (λ (x : SiteView). x.me) first in
     let keep = ap (λ (x : SiteView). x.keep) first in
@@ -32,17 +32,17 @@ new-requires g c =
       fresh = record {
         limits = subst IsConfig c.requires.config c.requires.limits;
         each = ap length c.requires.programs
-            ∙ length-replicate g.S.Setup.config.nodes (Called []);
+            ∙ length-replicate g.S.Setup.config.nodes (Called [] []);
         ether = c.take_seat.ensures.pass ∙ ap (λ (h : Held). h.ether) c.requires.pass;
         pass = c.in-Some.ensures.known
             ∙ ap (λ (h : Held). with_seat h.known c.in-Some.found) c.requires.pass
             ∙ ap (with_seat newcomer) (found ∙ sym me);
-        program = Called [];
+        program = Called [] [];
         there = ap (slice_get g.S.Setup.programs) me
             ∙ ap (λ l. slice_get l c.args.node) c.requires.programs
-            ∙ get_replicate g.S.Setup.config.nodes c.args.node (Called []) inside;
+            ∙ get_replicate g.S.Setup.config.nodes c.args.node (Called [] []) inside;
         site = first
             ∙ (λ k. first_opened (c.requires.opened k) (sym keep k) (c.requires.config k) (sym me k)
-            (Called []));
+            (Called [] []));
       };
     }

@@ -6,7 +6,7 @@ use Rattle.ivy_program.specs.Programs.{handed, one_by_one}
 use Rattle.ivy_logs.specs.Entries.{answers_in, calls_in, events_in}
 use Rattle.ivy_join.specs.Remade.{StandFirst}
 use Rattle.ivy_site.specs.SiteView.{SiteView}
-use Rattle.ivy_site.specs.Sites.{IsMadeByEvents, IsUnhanded}
+use Rattle.ivy_site.specs.Sites.{IsMadeByEvents}
 use Rattle.ivy_join.specs.ReplaySites.{program_in}
 use Rattle.ivy_process.specs.NodeLogs.{Served}
 use Rattle.ivy_process.proofs.node.Node.at_end.Goals as goal
@@ -39,7 +39,6 @@ returns c =
         told = subst (λ l. StandFirst (answers_in l) c.learn_acknowledged.new.self.site.node.core.history)
             c.deref.ensures.value
             (subst (λ (x : SiteView). StandFirst (answers_in c.deref.result.now) x.node.core.history) (sym same) on.told);
-        unhanded = λ none. subst IsUnhanded (sym same) (on.unhanded (subst IsUnhanded (sym was) none));
         made = subst IsMadeByEvents (sym same) on.made;
       };
       whole = ap (λ (x : Served). x.unlogged) c.learn_acknowledged.ensures

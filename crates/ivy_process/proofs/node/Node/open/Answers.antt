@@ -1,10 +1,9 @@
-use Rattle.std.proofs.Common.{[], ap, ◌∙◌}
+use Rattle.std.proofs.Common.{ap, ◌∙◌}
 use Rattle.std.proofs.lemmas.Result.{IfOk-from_err, IfOk-weaker}
-use Rattle.ivy_program.specs.stated.Programs.{Called, Program}
+use Rattle.ivy_program.specs.stated.Programs.{Program}
 use Rattle.ivy_program.specs.Programs.{handed, one_by_one}
 use Rattle.ivy_logs.specs.Entries.{calls_in}
 use Rattle.ivy_site.specs.SiteView.{SiteView}
-use Rattle.ivy_site.proofs.Unhanded.{first_unhanded}
 use Rattle.ivy_join.specs.ReplaySites.{program_in}
 use Rattle.ivy_process.proofs.node.Node.open.Goals as goal
 
@@ -32,9 +31,6 @@ returns c =
           ∙ ap (λ (p : Program). handed (one_by_one (calls_in c.args.log.now.entries.items)) p) (ap program_in was);
       events = again.by_log.events;
       told = again.by_log.told;
-      unhanded = again.by_log.unhanded
-          (ap (λ (x : SiteView). x.node.core.fetches.handed) was
-          ∙ first_unhanded c.opening_by.result c.args.log.now.head.config c.args.log.now.head.me (Called []));
       made = again.by_log.made;
       whole = again.whole;
       left = again.left;

@@ -4,7 +4,6 @@ use Rattle.ivy_program.specs.stated.Programs.{Program}
 use Rattle.ivy_program.specs.Programs.{handed, one_by_one}
 use Rattle.ivy_logs.specs.Entries.{calls_in}
 use Rattle.ivy_site.specs.SiteView.{SiteView}
-use Rattle.ivy_site.proofs.Unhanded.{first_unhanded}
 use Rattle.ivy_join.specs.ReplaySites.{program_in}
 use Rattle.ivy_join.proofs.Calls.{written-handed}
 use Rattle.ivy_process.proofs.node.Node.restart_opened.Goals as goal
@@ -33,9 +32,6 @@ returns c =
       runs = again.by_log.program ∙ ap (λ (p : Program). handed calls p) (ap program_in was)
           ∙ written-handed calls c.args.program c.instructions.ensures.sound;
       events = again.by_log.events;
-      unhanded = again.by_log.unhanded
-          (ap (λ (x : SiteView). x.node.core.fetches.handed) was
-          ∙ first_unhanded c.args.opening c.args.config.now c.args.me c.args.program);
       made = again.by_log.made;
       whole = again.whole;
       left = again.left;

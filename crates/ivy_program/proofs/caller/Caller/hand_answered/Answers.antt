@@ -12,10 +12,10 @@ returns c = λ reply.
     let was = c.self.inside in
     let none = none_left was.made.told was.last was.left c.self.invariant
     (subst HasEnded (sym c.self.view_is) c.requires.free) in
-    subst (λ (rows : List (List Call)). awaiting rows was.left
+    subst (λ (rows : List (List Call)). awaiting was.fetches.told rows was.left
     ≡ answered_with (process_handed ((c.args.call ∷ []) ∷ []) c.args.self.now) reply)
     (sym c.append.ensures)
-    (subst (λ (p : Process). awaiting (was.made.told ++ (c.args.call ∷ []) ∷ []) was.left
+    (subst (λ (p : Process). awaiting was.fetches.told (was.made.told ++ (c.args.call ∷ []) ∷ []) was.left
     ≡ answered_with (process_handed ((c.args.call ∷ []) ∷ []) p) reply)
     c.self.view_is
-    (handed_answered was.made.told was.left c.args.call reply none))
+    (handed_answered was.fetches.told was.made.told was.left c.args.call reply none))

@@ -1,7 +1,6 @@
 use Rattle.std.proofs.Common.{rules, ap, refl, ◌∙◌}
 use Rattle.ivy_memory.proofs.keeping.Beginning.{err_there}
 use Rattle.ivy_site.proofs.Calling.{begin_alone, cannot_begin, called, called_few, on_err, serves, unposted}
-use Rattle.ivy_site.specs.Inside.{all_used}
 use Rattle.ivy_site.proofs.Turned.{has_turned}
 use Rattle.ivy_site.proofs.host.Host.begin.Goals as goal
 
@@ -30,7 +29,7 @@ returns-clause-ok g c =
     (record { is = c.next_number-number.ensures.is; below = c.next_number-number.ensures.small })
     refl c.requires.idle c.requires.asks c.requires.alone)
     c.args.outbox.now c.begin.new.post c.me.result c.keep.new.self.memory c.keep.new.self.machine
-    c.keep.new.self.history.records (all_used c.keep.new.self.fetches.told) c.keep.result c.in_ok-answer.answer (ap all_used c.keep.ensures.fetches) (search rules)
+    c.keep.new.self.history.records c.keep.result c.in_ok-answer.answer (search rules)
     c.in_ok-answer.ensures.reply (c.keep.ensures.memory ∙ c.in_ok-answer.ensures.ok)
     c.in_ok-answer.ensures.took c.in_ok-answer.ensures.posted c.keep.ensures.served
     c.keep.ensures.history c.keep.ensures.machine)

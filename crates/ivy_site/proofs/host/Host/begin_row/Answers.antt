@@ -2,7 +2,7 @@ use Rattle.std.proofs.Common.{true, ap, refl, sym}
 use Rattle.ivy_alloc.specs.declared.CallProgress.TheVariants.{Awaited}
 use Rattle.ivy_memory.specs.BatchedCalls.{first_call}
 use Rattle.ivy_memory.proofs.keeping.Beginning.{err_there}
-use Rattle.ivy_site.specs.Inside.{all_used, host_in}
+use Rattle.ivy_site.specs.Inside.{host_in}
 use Rattle.ivy_site.proofs.Calling.{cannot_begin, called, called_few, on_err, unposted}
 use Rattle.ivy_site.proofs.BatchedTurn.{row_begins}
 use Rattle.ivy_site.proofs.Turned.{has_turned}
@@ -34,7 +34,7 @@ returns-clause-ok g c =
     a.addr a.words a.bytes.now c.next_number-number.result c.requires.some
     (record { is = c.next_number-number.ensures.is; below = c.next_number-number.ensures.small }))
     a.outbox.now c.begin_row.new.post a.self.now.memory.coherence.me c.begin_row.new.self
-    c.hand_together.new.self a.self.now.history.records (all_used a.self.now.fetches.told) true Awaited refl refl
+    c.hand_together.new.self a.self.now.history.records true Awaited refl
     (sym c.in_ok-begin_row.ensures.waits) c.in_ok-begin_row.ensures.ok c.in_ok-begin_row.ensures.took
     c.in_ok-begin_row.ensures.posted refl refl c.hand_together.ensures)
 

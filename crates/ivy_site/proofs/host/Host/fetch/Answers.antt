@@ -9,14 +9,14 @@ pub returns-in_err-fetch-clause-spent : goal.returns-in_err-fetch-clause-spent
 returns-in_err-fetch-clause-spent g c =
     let a = c.args in
     err_there c.from_residual.result _ _ c.from_residual.ensures.1
-    (fetch_spent (host_in a.self.now) a.page a.write refl c.requires.rests c.requires.idle c.requires.page
+    (fetch_spent (host_in a.self.now) a.page a.write refl c.requires.begun c.requires.waits c.requires.page
     c.next_number-number.result c.next_number-number.ensures.is c.next_number-number.ensures.small
     a.outbox.now _ c.in_err-fetch.ensures.posted.fault.0)
 
 pub returns-then-not-branch-clause-ok : goal.returns-then-not-branch-clause-ok
 returns-then-not-branch-clause-ok g c =
     let a = c.args in
-    fetched_none (host_in a.self.now) a.page a.write c.next_number-number.result
+    fetched_none (host_in a.self.now) a.page a.write refl c.next_number-number.result
     c.next_number-number.ensures.is a.outbox.now c.fetch.new.post c.fetch.new.self
     (sym c.in_ok-fetch.ensures.begun ∙ (search rules)) c.in_ok-fetch.ensures.ok
     c.in_ok-fetch.ensures.posted.posted
@@ -29,11 +29,11 @@ returns-then-not-branch-clause-few g c =
 pub returns-clause-ok : goal.returns-clause-ok
 returns-clause-ok g c =
     let a = c.args in
-    fetched_turn (host_in a.self.now) a.page a.write refl c.requires.rests c.requires.idle
+    fetched_turn (host_in a.self.now) a.page a.write refl c.requires.begun c.requires.waits
     c.requires.page c.next_number-number.result c.next_number-number.ensures.is
     c.next_number-number.ensures.small a.outbox.now c.fetch.new.post c.fetch.new.self
-    c.append.new.self.told (sym c.in_ok-fetch.ensures.begun ∙ (search rules)) c.in_ok-fetch.ensures.ok
-    c.in_ok-fetch.ensures.posted.took c.in_ok-fetch.ensures.posted.posted c.append.ensures
+    c.hand_fetch.new.self (sym c.in_ok-fetch.ensures.begun ∙ (search rules)) c.in_ok-fetch.ensures.ok
+    c.in_ok-fetch.ensures.posted.took c.in_ok-fetch.ensures.posted.posted c.hand_fetch.ensures
 
 pub returns-clause-few : goal.returns-clause-few
 returns-clause-few g c =

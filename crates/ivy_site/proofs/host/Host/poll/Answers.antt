@@ -1,7 +1,6 @@
 use Rattle.std.proofs.Common.{rules, ap, refl, ◌∙◌}
 use Rattle.ivy_memory.proofs.keeping.Beginning.{err_there}
 use Rattle.ivy_site.proofs.Calling.{poll_call, cannot_begin, called, called_few, on_err, unposted}
-use Rattle.ivy_site.specs.Inside.{all_used}
 use Rattle.ivy_site.proofs.host.Host.poll.Goals as goal
 
 pub returns-in_err-answer-clause-err : goal.returns-in_err-answer-clause-err
@@ -21,8 +20,8 @@ pub returns-clause-ok : goal.returns-clause-ok
 returns-clause-ok g c =
     called _ c.args.call _ (poll_call _ c.args.call refl c.requires.asked)
     c.args.outbox.now c.poll_reply.new.post c.me.result c.keep-changed.new.self.memory
-    c.keep-changed.new.self.machine c.keep-changed.new.self.history.records (all_used c.keep-changed.new.self.fetches.told) c.keep-changed.result c.in_ok-answer.answer
-    (ap all_used c.keep-changed.ensures.fetches) (search rules) c.in_ok-answer.ensures.reply
+    c.keep-changed.new.self.machine c.keep-changed.new.self.history.records c.keep-changed.result c.in_ok-answer.answer
+    (search rules) c.in_ok-answer.ensures.reply
     (c.keep-changed.ensures.memory ∙ c.in_ok-answer.ensures.ok) c.in_ok-answer.ensures.took
     c.in_ok-answer.ensures.posted c.keep-changed.ensures.served c.keep-changed.ensures.history
     c.keep-changed.ensures.machine

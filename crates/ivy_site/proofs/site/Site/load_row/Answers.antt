@@ -1,6 +1,6 @@
-use Rattle.std.proofs.Common.{ap, rules, arith, ◌∙◌}
+use Rattle.std.proofs.Common.{refl, rules, arith, ◌∙◌}
 use Rattle.ivy_model.specs.declared.Row.TheVariants.{Loads}
-use Rattle.ivy_site.specs.Inside.{all_used, host_in}
+use Rattle.ivy_site.specs.Inside.{host_in}
 use Rattle.ivy_site.proofs.Handed.{free_idle}
 use Rattle.ivy_site.proofs.InRow.{row_made}
 use Rattle.ivy_site.proofs.site.Site.load_row.Goals as goal
@@ -12,7 +12,7 @@ invariant_of-self g c =
     (free_idle _ c.self.invariant.0 taken.free) c.load_row-words.result c.load_row-words.new.into c.args.addr
     (omega (arith, taken.counted, c.load_row-words.ensures.fits)) c.self.inside.host.memory
     (c.load_row-words.ensures.hits c.self.inside.outbox.me) (host_in c.list_row.new.self)
-    (ap all_used c.list_row.ensures.fetches) c.list_row.ensures.memory c.list_row.ensures.machine c.me.result c.me.ensures
+    refl c.list_row.ensures.memory c.list_row.ensures.machine c.me.result c.me.ensures
     c.list_row.ensures.history c.list_row.new.events.marks c.list_row.ensures.events in (
       made.site,
       (
@@ -28,6 +28,6 @@ returns-clause-loads g c =
     (free_idle _ c.self.invariant.0 taken.free) c.load_row-words.result c.load_row-words.new.into c.args.addr
     (omega (arith, taken.counted, c.load_row-words.ensures.fits)) c.self.inside.host.memory
     (c.load_row-words.ensures.hits c.self.inside.outbox.me) (host_in c.list_row.new.self)
-    (ap all_used c.list_row.ensures.fetches) c.list_row.ensures.memory c.list_row.ensures.machine c.me.result c.me.ensures
+    refl c.list_row.ensures.memory c.list_row.ensures.machine c.me.result c.me.ensures
     c.list_row.ensures.history c.list_row.new.events.marks c.list_row.ensures.events in
     made.answered

@@ -23,14 +23,14 @@ returns-in_err-reply-in-Call-clause-spent g c =
     err_there c.from_residual-in_err-reply-in-Call.result _ _
     c.from_residual-in_err-reply-in-Call.ensures.1
     (spent_turn _ _ c.self.view_is _ _
-    (makes_call _ c.in-Call.call c.in_ok-next.field-0 c.next.new.self _ c.in_ok-next.ensures.step
+    (makes_call _ c.in-Call.call c.in_ok-next.field-0 c.next.new.self _ refl c.in_ok-next.ensures.step
     c.in-Call.is c.in_ok-reserve.ensures.records)
     c.in_err-reply-in-Call.ensures.spent)
 
 pub invariant_of-self-in-Call : goal.invariant_of-self-in-Call
 invariant_of-self-in-Call g c = (
   called_site _ _ _ c.begin.new.outbox _ _ c.self.invariant.0
-      (makes_call _ c.in-Call.call c.in_ok-next.field-0 c.next.new.self _ c.in_ok-next.ensures.step
+      (makes_call _ c.in-Call.call c.in_ok-next.field-0 c.next.new.self _ refl c.in_ok-next.ensures.step
       c.in-Call.is c.in_ok-reserve.ensures.records)
       c.in_ok-reply-in-Call.ensures.ok
       c.in_ok-reserve-2.ensures.same c.push_turn-in-Call.ensures.marks,
@@ -43,7 +43,7 @@ invariant_of-self-in-Call g c = (
 pub returns-in_ok-reply-in-Call-clause-done : goal.returns-in_ok-reply-in-Call-clause-done
 returns-in_ok-reply-in-Call-clause-done g c =
     called_turn _ _ c.self.view_is _ _ c.begin.new.outbox _ _
-    (makes_call _ c.in-Call.call c.in_ok-next.field-0 c.next.new.self _ c.in_ok-next.ensures.step
+    (makes_call _ c.in-Call.call c.in_ok-next.field-0 c.next.new.self _ refl c.in_ok-next.ensures.step
     c.in-Call.is c.in_ok-reserve.ensures.records)
     c.in_ok-reply-in-Call.ensures.ok
     c.in_ok-reserve-2.ensures.same c.push_turn-in-Call.ensures.marks
@@ -52,14 +52,14 @@ pub returns-in_err-changed-clause-spent : goal.returns-in_err-changed-clause-spe
 returns-in_err-changed-clause-spent g c =
     err_there c.from_residual-in_err-changed.result _ _ c.from_residual-in_err-changed.ensures.1
     (spent_turn _ _ c.self.view_is _ _
-    (ap (host_of _ _ _) c.in_ok-reserve.ensures.records)
+    (ap (host_of _ _) c.in_ok-reserve.ensures.records)
     c.in_err-changed.ensures.spent)
 
 pub returns-then-not-changed-clause-done : goal.returns-then-not-changed-clause-done
 returns-then-not-changed-clause-done g c =
     idle_turn _ _ c.self.view_is _ _ c.poll.new.outbox
     _
-    (ap (host_of _ _ _) c.in_ok-reserve.ensures.records)
+    (ap (host_of _ _) c.in_ok-reserve.ensures.records)
     (not_turned c.in_ok-changed.changed (search rules) _ _ _ _ c.in_ok-changed.ensures.ok)
     c.in_ok-reserve-2.ensures.same
 
@@ -67,7 +67,7 @@ pub invariant_of-self-in-Some : goal.invariant_of-self-in-Some
 invariant_of-self-in-Some g c = (
   called_site _ _ _ c.poll.new.outbox _ _
       c.self.invariant.0
-      (ap (host_of _ _ _) c.in_ok-reserve.ensures.records)
+      (ap (host_of _ _) c.in_ok-reserve.ensures.records)
       (has_turned c.in_ok-changed.changed (search rules) _ _ _ _ c.in_ok-changed.ensures.ok)
       c.in_ok-reserve-2.ensures.same c.push_turn.ensures.marks,
   (
@@ -80,7 +80,7 @@ pub returns-in-Some-clause-done : goal.returns-in-Some-clause-done
 returns-in-Some-clause-done g c =
     called_turn _ _ c.self.view_is _ _
     c.poll.new.outbox _ _
-    (ap (host_of _ _ _) c.in_ok-reserve.ensures.records)
+    (ap (host_of _ _) c.in_ok-reserve.ensures.records)
     (has_turned c.in_ok-changed.changed (search rules) _ _ _ _ c.in_ok-changed.ensures.ok)
     c.in_ok-reserve-2.ensures.same c.push_turn.ensures.marks
 

@@ -13,7 +13,7 @@ invariant_of-result g c =
     let config : IsConfig c.args.config = c.in_ok-check_wide.ensures.accepted.0 (search rules) in (
       first_running-of c.args.opening c.args.config (own_code c.args.config.nodes)
           c.in_ok-sites.sites.items
-          c.new.result.items config (length-replicate c.args.config.nodes (Called []))
+          c.new.result.items config (length-replicate c.args.config.nodes (Called [] []))
           c.in_ok-sites.ensures.first c.new.ensures.items,
       passed_none c.args.config (world_of c.in_ok-sites.sites.items c.new.result.items),
     )
