@@ -252,7 +252,7 @@ uint32_t ivy_turns(ivy_node *node, uint64_t *turns);
  * asked for from now on. IVY_DONE with *begun 0: nothing was done; the node may do that with the page already, or asked for
  * it already, seven pages are being fetched, the page is lent, or a call in progress stands in the way. Then ask again
  * later, or not at all. BAD_ARGUMENT: there is no such page, or `to` is neither; MEMORY, NUMBERS_SPENT: nothing changed;
- * CLOSED. Strings wait after *begun 1: take them, as after each call. */
+ * CLOSED. The first page, of the counts, may be fetched too. Strings wait after *begun 1: take them, as after each call. */
 uint32_t ivy_fetch(ivy_node *node, uint32_t page, uint32_t to, uint32_t *begun);
 
 /* ---- Strings ------------------------------------------------------------------------------------------------------ */

@@ -96,7 +96,7 @@ pub enum Declined {
     Wanted(Want),
     /// The page is not here, or not here to be written, or a call waits for it.
     NotHere,
-    /// No page can be lent, or given back, so.
+    /// No page can be lent, given back or fetched so.
     NoSuchLending,
 }
 

@@ -1,12 +1,10 @@
 -- What the owner of a node hands in: rows of calls, or a page that is to be fetched ahead. What a site
 -- did before does not see it.
-use Rattle.std.proofs.Common.{◌≡◌, ◌∙◌, ℕ, Bool, List, [], ◌∷◌, Some, refl, ap}
+use Rattle.std.proofs.Common.{◌≡◌, ◌∙◌, ℕ, Bool, List, [], ◌∷◌, refl, ap}
 use Rattle.ivy_model.specs.declared.Call.{Call}
-use Rattle.ivy_wire.specs.stated.Data.{Message}
 use Rattle.ivy_program.specs.Programs.{ahead, handed}
 use Rattle.ivy_program.specs.stated.Programs.{Program}
 use Rattle.ivy_moves.specs.Carrying.{EventsCarryOver, IsUnseen, changed, effect_changed, node_changed}
-use Rattle.ivy_moves.specs.stated.Cores.{Outcome}
 use Rattle.ivy_moves.proofs.Unseen.{events-over}
 use Rattle.ivy_host.specs.Handing.{fetching, handing}
 use Rattle.ivy_host.specs.stated.Hosts.{Host, host_rules}

@@ -5,7 +5,6 @@ use Rattle.ivy_model.specs.stated.Config.{IsConfig}
 use Rattle.ivy_wire.specs.stated.Data.{Message}
 use Rattle.ivy_link.specs.declared.Verdict.{Verdict}
 use Rattle.ivy_link.specs.declared.Verdict.TheVariants as verdict
-use Rattle.ivy_program.specs.Programs.{ahead}
 use Rattle.ivy_program.specs.stated.Programs.{Program}
 use Rattle.ivy_program.specs.stated.InstructionSteps.{Process}
 use Rattle.ivy_moves.specs.stated.Nodes.{pulsing}
