@@ -4,7 +4,7 @@
  * before they write. */
 #include "bindings_ahead.h"
 
-enum { N = 512, ROW = N * sizeof(double), HALF = N / NODES, EDGE = 16, BLOCKS = 8, ROUNDS = 11 };
+enum { N = 512, ROW = N * sizeof(double), HALF = N / NODES, EDGE = 32, BLOCKS = 4, ROUNDS = 11 };
 enum { PAGES = 1 + 2 * NODES * EDGE * ROW / PAGE };
 enum { OFF, ON, ALONE, WAYS };
 

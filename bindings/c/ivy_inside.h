@@ -303,6 +303,8 @@ void ivy_in_map_heed(ivy_process *p);
 uint32_t ivy_in_map_begin(ivy_process *p, const call *c, uint64_t *value);
 /* Words in a row, the lock not held. */
 uint32_t ivy_in_map_row(ivy_process *p, uint32_t kind, uint64_t address, uint8_t *into, const uint8_t *from, size_t len);
+/* A hint on a page: whether it was asked for. */
+uint32_t ivy_in_map_hint(ivy_process *p, uint32_t page);
 /* Nobody needs it any more; the lock is not held. */
 void ivy_in_map_end(ivy_process *p);
 

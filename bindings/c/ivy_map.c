@@ -8,20 +8,21 @@
  *   3. A page that was gone, before the instruction could run, for the third time is asked for with the token. Who has it is told
  *      by tickets. It is given back once the thread ran for RAN_NS since its last page came, or LATE_US after that.
  *   4. Whoever asks for a page looks at the token first, and waits for those who had drawn it when it looked.
- *   5. Whoever asks for a page for the first time tells all, and waits, in no call, until they have heard it. They hear it while
- *      they have no call in progress. From then on they keep that page, where it may have been written, before each call.
- *   6. A fault that has its page, and did not fail before, may bring pages behind it, each asked for as any other. It stops where
- *      somebody waits here, where the token is drawn, and once half of the window of its own page is over.
+ *   5. Whoever asks for a page for the first time tells all, and waits until they have heard it. They hear it while they have no
+ *      call in progress. From then on they keep that page, where it may have been written, before each call.
+ *   6. A page is fetched, by no call. A fault that did not fail before may fetch pages behind its own too. Not where somebody waits
+ *      here, nor where the token is drawn; and once it has its own it waits for some of them, for half of the window of its own at most.
  *
- * WHY IT IS ENOUGH. A page can be kept only while its node has no call in progress, but by (5) nobody asks then for one that is
- * still to be kept. So a call ends, since what it waits for is served, and who tells is heard. Who did not map the memory does not
- * tell: until all have, all that may have been written is kept before each call. So no node waits for another one's call, nor for
- * its window for long (1), nor for a page that a waiting node does not need (2), and each page that is asked for comes. Say a
- * thread's pages come and go. After three times it draws a ticket, and those before it end. Who asks later waits for it (4), and
- * those who asked before it drew are finitely many. When they are through it asks alone, so what comes stays: it has the page, or
- * one after another the pages, of its instruction until it ran, if the machine lets it run within LATE_US. So it goes on, and gives
- * the token to the next one. Who only looks waits for those that had drawn before, not for later ones, so it does not wait for ever
- * either. What comes ahead (6) takes a few calls more, each of which ends, and who failed brings nothing.
+ * WHY IT IS ENOUGH. A page can be kept only while its node has no call in progress. Who faults has none, and nothing is lent beside the
+ * call of another thread, so each page that is asked for can be given, in its time. A call is of a word that is never lent, and by
+ * (5) nobody asks for a page that is still to be kept while it waits. So a call ends, since what it waits for is served, and who tells is
+ * heard. Who did not map the memory does not tell: until all have, all that may have been written is kept before each call. So no node
+ * waits for another one's call, nor for its window for long (1), nor for a page that a waiting node does not need (2), and each page that
+ * is asked for comes. Say a thread's pages come and go. After three times it draws a ticket, and those before it end. Who asks later waits
+ * for it (4), and those who asked before it drew are finitely many. When they are through it asks alone, so what comes stays: it has the
+ * page, or one after another the pages, of its instruction until it ran, if the machine lets it run within LATE_US. So it goes on, and
+ * gives the token to the next one. Who only looks waits for those that had drawn before, not for later ones, so it does not wait for ever
+ * either. What comes ahead (6) are a few pages more, each of which is kept for a window, and who failed brings none.
  *
  * WHO LOOKS. While the only thread of a program waits it looks at no page. So what it waits for is shown while that is still under
  * way, and it goes on once that is lent, or hidden again. What others take meanwhile is lowered once they were served, before the lock
@@ -202,6 +203,7 @@ static void tell(ivy_process *p, uint32_t page) {
     ivy_in_wait(p);
   }
   while (many) map->pages[page + --many].is_told = 1;
+  ivy_in_end_call(p);
 }
 
 /* ---- A page comes -------------------------------------------------------------------------------------------------------- */
@@ -252,16 +254,14 @@ static uint32_t lend(ivy_process *p, uint32_t page, uint32_t to) {
   return show(p, page, to);
 }
 
-/* What was asked for is here: it is lent before anything else is delivered. */
-static void take_reply(ivy_process *p) {
+/* Pages that were fetched are lent in the step in which they come, before anything else is delivered. While a call is in progress none
+ * is, since what the program writes then cannot be kept. */
+static void lend_fetched(ivy_process *p) {
   ivy_mapping *map = p->map;
-  uint64_t value;
-  if (!map->asking) return;
-  uint32_t status = ivy_reply(&p->node, &value);
-  if (status >= 256) return;
-  map->asking = p->pending = 0;
-  map->answer = status == IVY_DONE ? lend(p, map->page, map->to) : status;
-  map->counts.gone += map->answer != IVY_DONE;
+  for (uint32_t i = 0; i < MAP_COMING && !p->pending; i++) {
+    map_page *it = &map->pages[map->coming[i]];
+    if (it->coming && lend(p, map->coming[i], it->coming) != IVY_NO_PAGE) it->coming = IVY_UNLENT;
+  }
 }
 
 /* ---- Strings ------------------------------------------------------------------------------------------------------------- */
@@ -288,13 +288,13 @@ static void go_on(ivy_process *p, uint32_t peer) {
   ivy_mapping *map = p->map;
   uint32_t page, on, status;
   while ((status = ivy_go_on(&p->node, (uint8_t)peer, &page, &on)) == IVY_WANTED && may_take(p, page)) {
-    take_reply(p);
+    lend_fetched(p);
     take(p, page, on);
   }
   map->held = status == IVY_WANTED ? map->held | 1u << peer : map->held & ~(1u << peer);
   ivy_in_send_frames(p);
   lower_late(map);
-  take_reply(p);
+  lend_fetched(p);
 }
 
 /* Gives a string to the node, once it may have the page that it would take. Whether it has it. */
@@ -307,7 +307,7 @@ static int offer(ivy_process *p, const uint8_t *bytes, size_t len) {
     status = ivy_in_deliver(p, bytes, len);
     lower_late(p->map);
   }
-  take_reply(p);
+  lend_fetched(p);
   if (status == IVY_DONE) go_on(p, bytes[SOURCE]);
   return 1;
 }
@@ -361,6 +361,14 @@ long ivy_in_map_patience(const ivy_process *p, long wait_us) {
 
 /* ---- The token: tickets in the runtime's own page, by calls -------------------------------------------------------------- */
 
+int ivy_in_map_look(ivy_process *p, uint64_t place, uint64_t *number) {
+  uint8_t word[8];
+  size_t words = 0;
+  ivy_load_block(&p->node, place, word, sizeof word, &words);
+  if (words) *number = ivy_in_get64(word);
+  return words != 0;
+}
+
 static uint64_t call_of(ivy_process *p, uint32_t kind, uint32_t width, uint64_t place, uint64_t operand) {
   const call c = { kind, width, place, operand, 0 };
   uint64_t value = 0;
@@ -371,6 +379,12 @@ static uint64_t call_of(ivy_process *p, uint32_t kind, uint32_t width, uint64_t 
 
 static uint32_t drawn(ivy_process *p) { return (uint32_t)call_of(p, IVY_LOAD, 4, ivy_in_map_address(TOKEN_PAGE), 0); }
 static uint32_t served(ivy_process *p) { return (uint32_t)call_of(p, IVY_LOAD, 4, ivy_in_map_address(TOKEN_PAGE) + 4, 0); }
+
+/* Whether nobody has drawn it, or this process has it, as is known here without a call. */
+static int is_free(ivy_process *p) {
+  uint64_t both = 1;
+  return p->map->has_token || (ivy_in_map_look(p, ivy_in_map_address(TOKEN_PAGE), &both) && both >> 32 == (uint32_t)both);
+}
 
 /* Waits until so many were served. */
 static void wait_for_ticket(ivy_process *p, uint32_t number) {
@@ -408,114 +422,128 @@ void ivy_in_map_tick(ivy_process *p) {
   ivy_mapping *map = p->map;
   for (uint32_t page = ROOT_PAGE; p->dead && !map->is_hidden && page < map->count; page++) lower(map, page, IVY_UNLENT);
   map->is_hidden = p->dead != 0;
-  if (!map->has_token || p->in_call || p->error) return;
-  if (map->holder && ran(map->holder->thread) - map->holder->ran <= RAN_NS && ivy_in_now() - map->shown_at < LATE_US) return;
+  if (!map->has_token || map->waiting == map->holder || p->in_call || p->error) return;
+  if ((!map->holder || ran(map->holder->thread) - map->holder->ran <= RAN_NS) && ivy_in_now() - map->shown_at < LATE_US) return;
   map->lowers = 1;
   ivy_in_map_end_token(p);
   map->lowers = 0;
 }
 
-/* ---- Faults -------------------------------------------------------------------------------------------------------------- */
-
-/* Asks for a page of which all were told, and lends it in the step in which it comes, if it is not gone then. */
-static uint32_t ask(ivy_process *p, uint32_t page, uint32_t to) {
-  ivy_mapping *map = p->map;
-  uint64_t value;
-  uint32_t status, kind = to == IVY_TO_WRITE ? IVY_FETCH_AND_ADD : IVY_LOAD;
-  do {
-    while (!map->pages[page].is_told) tell(p, page);
-    ivy_in_map_keep(p);
-    status = ivy_begin(&p->node, kind, 1, ivy_in_map_address(page), 0, 0, &value);
-    p->in_call = 1;
-  } while (status == IVY_MEMORY && !p->error && (ivy_in_wait(p), 1));
-  map->counts.asked++;
-  if (status < 256) status = status == IVY_DONE ? lend(p, page, to) : status;
-  if (status == IVY_PENDING) {
-    p->pending = map->asking = 1;
-    p->counts.misses++;
-    map->page = page;
-    map->to = to;
-    ivy_in_send_frames(p);
-    if (is_still(p) && (map->pages[page].shown || !map->room)) show(p, page, to); /* nobody can look before it is here */
-    while (map->asking && !ivy_in_is_over(p)) ivy_in_wait(p);
-    status = map->asking ? p->error : map->answer;
-  }
-  ivy_in_end_call(p);
-  return status;
-}
+/* ---- Pages are fetched ------------------------------------------------------------------------------------------------------ */
 
 /* Whether a page is lent for as much: it may be gone again when who asked for it has the lock. */
 static int has(const ivy_mapping *map, uint32_t page, uint32_t to) { return map->pages[page].lent >= to; }
 
-uint32_t ivy_in_map_acquire(ivy_process *p, uint32_t page, uint32_t to, map_thread *who) {
+/* Asks for a page of which all were told, and has it lent when it comes. Whether it was asked for now: else it is under way, or seven
+ * others are. */
+static uint32_t fetch(ivy_process *p, uint32_t page, uint32_t to) {
   ivy_mapping *map = p->map;
-  uint32_t status = IVY_DONE;
-  map->is_fresh = 1; /* the program went on since all was kept */
-  for (uint32_t failed = who ? who->failed : 0; !p->error; failed++) {
-    if (!has(map, page, to)) lend(p, page, to);
-    if (has(map, page, to)) return show(p, page, to);
-    if (map->pages[page].lent && who && !p->shared) give_back(p, page, IVY_UNLENT); /* who could see it waits here */
-    else if (map->pages[page].lent) take(p, page, IVY_UNLENT);
-    map->waiting = who;
-    map->waits++;
-    ivy_in_map_pump(p);
-    if (failed >= FAILURES && !map->has_token) take_token(p, who);
-    if (!map->has_token) wait_for_ticket(p, drawn(p));
-    if (!p->error) status = ask(p, page, to);
-    map->waits--;
-    map->waiting = NULL;
-    if (status != IVY_DONE && status != IVY_NO_PAGE && status != IVY_MEMORY) break;
-  }
-  lower(map, page, IVY_UNLENT); /* it may be shown already */
-  return p->error ? p->error : status;
+  uint32_t *place = &map->coming[page % MAP_COMING], begun = 0, status = ivy_fetch(&p->node, page, to, &begun);
+  if (status != IVY_DONE && status != IVY_MEMORY) ivy_in_fail(p, status);
+  map->counts.asked += begun;
+  if (*place != page) map->pages[*place].coming = IVY_UNLENT;
+  *place = page;
+  if (map->pages[page].coming < to) map->pages[page].coming = (uint8_t)to;
+  return begun;
 }
 
-/* ---- Pages that come ahead: where faults of one kind run upwards, one brings those behind it too, by a call each -------------- */
+/* So many pages at most are waited for in the fault that fetches them, and a page comes ahead once where the run has twice as many;
+ * where the program went on past it, as often as KNOWN says. */
+enum { MOST_AWAITED = 3, UNTRIED = 0, TRIED, KNOWN = TRIED + 8 };
 
-/* So many at most. A page comes so once where the run has twice as many; where the program went on past it, as often as this says. */
-enum { MOST_BROUGHT = 8, UNTRIED = 0, TRIED, KNOWN = TRIED + 8 };
-
-/* Not where somebody waits for a page, as far as is known here, or for the token, where one comes and goes, or where the program has
- * waited for half of the window of its own; nor what others took just now, or use by threads that go on meanwhile. */
-static int may_bring(ivy_process *p, uint32_t page, uint32_t to, uint32_t behind) {
-  ivy_mapping *map = p->map;
-  int64_t now = ivy_in_now();
-  if (has(map, page, to) || now - map->pages[page].taken < WINDOW_US) return 0;
-  if (p->error || p->shared || map->kept || map->held || map->waiting->failed || map->has_token) return 0;
-  return now <= map->pages[behind].until - WINDOW_US / 2 && drawn(p) == served(p);
+/* Not where somebody waits for a page, as far as is known here, or for the token; nor what others took just now. */
+static int may_bring(ivy_process *p, uint32_t page, uint32_t to) {
+  const ivy_mapping *map = p->map;
+  return !has(map, page, to) && map->pages[page].is_told && ivy_in_now() - map->pages[page].taken >= WINDOW_US && !p->error &&
+         !map->kept && !map->held && !map->has_token && is_free(p);
 }
 
-static void bring(ivy_process *p, uint32_t page, uint32_t to) {
-  map_page *it = &p->map->pages[page];
-  p->map->counts.ahead++;
-  if (lend(p, page, to) == IVY_DONE) return;
-  if (it->lent) give_back(p, page, IVY_UNLENT);
-  ask(p, page, to);
-  if (!it->lent) lower(p->map, page, IVY_UNLENT);
-}
-
-/* A fault had its page. Where that is right behind those that came ahead, these were used. */
-static void bring_row(ivy_process *p, uint32_t page, uint32_t to, map_thread *who) {
+/* The pages behind one at which faults that run upwards are, beside which six may be fetched: some together, by one string. It may be
+ * one of those that come, and then those before it were used. */
+static void bring_row(ivy_process *p, uint32_t page, uint32_t to) {
   ivy_mapping *map = p->map;
   map_run *run = &map->runs[to];
-  int is_next = page == run->next;
-  for (uint32_t i = 0; is_next && i <= run->ahead; i++) map->pages[page - i].chances[to] = KNOWN;
-  run->many = is_next ? run->many + run->ahead + 1 : 1;
-  uint32_t tries = run->many / 2;
-  run->next = page + 1;
-  map->waiting = who;
-  map->waits++;
-  while (run->next - page <= MOST_BROUGHT && run->next < map->count) {
+  int is_next = run->first <= page && page <= run->next;
+  uint32_t most = p->ahead < MOST_FETCHED ? p->ahead : MOST_FETCHED - 1;
+  for (uint32_t i = run->first; is_next && i <= page; i++) map->pages[i].chances[to] = KNOWN;
+  run->many = is_next ? run->many + page - run->first + 1 : 1;
+  run->first = page + 1;
+  if (!is_next || run->next <= page) run->next = page + 1;
+  if (page + most < run->next + most / 2) return;
+  for (uint32_t tries = run->many / 2; run->next - page <= most && run->next < map->count; run->next++) {
     uint8_t *chances = &map->pages[run->next].chances[to];
-    if (*chances == TRIED || (*chances == UNTRIED && !tries) || !may_bring(p, run->next, to, page)) break;
+    if (*chances == TRIED || (*chances == UNTRIED && !tries) || !may_bring(p, run->next, to)) break;
     if (*chances == UNTRIED) *chances = TRIED, tries--;
     else --*chances;
-    bring(p, run->next++, to);
+    if (map->pages[run->next].lent) give_back(p, run->next, IVY_UNLENT); /* it is hidden before the program goes on, or here then */
+    if (lend(p, run->next, to) != IVY_DONE) fetch(p, run->next, to);
+    map->counts.ahead++;
   }
-  map->waits--;
-  map->waiting = NULL;
-  run->ahead = run->next - page - 1;
 }
+
+/* Asks for a page until it is lent, or somebody has drawn the token, or it was gone when it came: so often it was asked for. Those
+ * behind it may be asked for too. No call is in progress but by others, and then it is not lent. */
+static void ask(ivy_process *p, uint32_t page, uint32_t to, int brings, uint32_t *asked) {
+  ivy_mapping *map = p->map;
+  p->counts.misses++;
+  for (int again = 0; !p->error; again = 1) {
+    if (map->pages[page].lent || lend(p, page, to) == IVY_DONE || (again && !is_free(p))) return;
+    uint32_t begun = fetch(p, page, to), is_gone = begun && *asked;
+    if (!again && brings && !p->shared) bring_row(p, page, to);
+    ivy_in_send_together(p);
+    *asked += begun;
+    map->counts.gone += is_gone;
+    if (is_gone) return;
+    if (!p->shared && (map->pages[page].shown || !map->room)) show(p, page, to); /* nobody can look before it is here */
+    ivy_in_wait(p);
+    if (p->in_call) ivy_in_enter_slowly(p); /* the call of another thread */
+  }
+}
+
+/* None is seen that is under way, once the program goes on. */
+static void hide_coming(ivy_mapping *map) {
+  for (uint32_t i = 0; i < MAP_COMING; i++)
+    if (!map->pages[map->coming[i]].lent) lower(map, map->coming[i], IVY_UNLENT);
+}
+
+uint32_t ivy_in_map_acquire(ivy_process *p, uint32_t page, uint32_t to, map_thread *who) {
+  ivy_mapping *map = p->map;
+  uint32_t asked = 0, failed = who ? who->failed : 0;
+  for (int brings = !failed; !p->error; brings = 0) {
+    if (!has(map, page, to)) lend(p, page, to);
+    if (has(map, page, to) && !who) hide_coming(map);
+    if (has(map, page, to)) return show(p, page, to);
+    if (map->pages[page].lent) (who && !p->shared ? give_back : take)(p, page, IVY_UNLENT); /* who could see it may wait here */
+    if (failed + asked >= FAILURES + (asked > 0) && !map->has_token) take_token(p, who);
+    if (!is_free(p)) wait_for_ticket(p, drawn(p));
+    while (!map->pages[page].is_told && !p->error) tell(p, page);
+    ask(p, page, to, brings, &asked);
+  }
+  lower(map, page, IVY_UNLENT); /* it may be shown already */
+  return p->error;
+}
+
+/* A fault has its page. Some of those behind it are waited for, but not for longer than half of the window of its own. */
+static void wait_for_row(ivy_process *p, uint32_t page, uint32_t to) {
+  ivy_mapping *map = p->map;
+  int64_t until = map->pages[page].until - WINDOW_US / 2;
+  uint32_t last = map->runs[to].next < page + 1 + MOST_AWAITED ? map->runs[to].next : page + 1 + MOST_AWAITED;
+  for (uint32_t next = page + 1; next < last && !p->error && ivy_in_now() < until; next += has(map, next, to)) {
+    if (has(map, next, to)) continue;
+    if (!map->pages[next].coming) break;
+    if (!map->due || until < map->due) map->due = until;
+    ivy_in_wait(p);
+  }
+  hide_coming(map);
+}
+
+/* A hint: a page is asked for where that disturbs nobody. */
+uint32_t ivy_in_map_hint(ivy_process *p, uint32_t page) {
+  return ivy_in_map_has(p->map, page) && may_bring(p, page, IVY_TO_READ) && !p->map->pages[page].lent && lend(p, page, IVY_TO_READ) != IVY_DONE &&
+         fetch(p, page, IVY_TO_READ);
+}
+
+/* ---- Faults -------------------------------------------------------------------------------------------------------------- */
 
 /* The thread of a fault. Whether it ran since it had its last page. */
 static map_thread *thread_of(ivy_process *p, uint32_t thread, uint32_t page) {
@@ -546,9 +574,11 @@ void ivy_in_map_fault(ivy_process *p, uint32_t page, uint32_t to, uint32_t threa
   if (status == IVY_DONE) {
     map_thread *who = thread_of(p, thread, page);
     int had = has(map, page, to);
+    map->waiting = who;
     status = ivy_in_map_acquire(p, page, to, who);
     remember(who, page);
-    if (!had) bring_row(p, page, to, who);
+    if (!had) wait_for_row(p, page, to);
+    map->waiting = NULL;
     if (p->error) status = p->error;
     map->shown_at = ivy_in_now();
     if (!map->image->wait) who->ran = ran(thread); /* else it did not run meanwhile */

@@ -34,12 +34,9 @@ static int is_by_image(const ivy_mapping *map, const call *c) {
 
 /* A load whose page is here needs no call, before which all is kept. */
 static int load_at_once(ivy_process *p, const call *c, uint64_t *value) {
-  uint8_t word[8];
-  size_t words = 0;
-  if (c->kind != IVY_LOAD || !is_width(c->width) || c->place % c->width) return 0;
-  ivy_load_block(&p->node, c->place - c->place % 8, word, sizeof word, &words);
-  if (words) *value = ivy_in_get64(word) << 8 * (c->place % 8) >> (64 - 8 * c->width);
-  return words != 0;
+  if (c->kind != IVY_LOAD || !is_width(c->width) || c->place % c->width || !ivy_in_map_look(p, c->place - c->place % 8, value)) return 0;
+  *value = *value << 8 * (c->place % 8) >> (64 - 8 * c->width);
+  return 1;
 }
 
 uint32_t ivy_in_map_begin(ivy_process *p, const call *c, uint64_t *value) {
@@ -61,38 +58,31 @@ uint32_t ivy_in_map_begin(ivy_process *p, const call *c, uint64_t *value) {
 
 /* The words of a row that are in one page, one after another. The program's bytes are not touched here: they may be mapped. */
 static uint32_t carry_out_row(ivy_process *p, uint32_t kind, uint64_t address, uint64_t *words, size_t many) {
-  uint32_t status = IVY_DONE;
-  if (address % 8 || !ivy_in_map_has(p->map, page_of(address))) {
-    for (size_t i = 0; i < many && status == IVY_DONE; i++) {
-      const call c = { kind, 8, address + 8 * i, turned(words[i]), 0 };
-      uint64_t value = 0;
-      status = ivy_in_call(p, &c, &value);
-      if (kind == IVY_LOAD) words[i] = turned(value);
-    }
-    return status;
-  }
-  status = ivy_in_map_acquire(p, page_of(address), kind == IVY_LOAD ? IVY_TO_READ : IVY_TO_WRITE, NULL);
+  uint32_t status = ivy_in_enter(p);
+  if (status == IVY_DONE) status = ivy_in_map_acquire(p, page_of(address), kind == IVY_LOAD ? IVY_TO_READ : IVY_TO_WRITE, NULL);
   uint64_t *at = (uint64_t *)(void *)(p->map->base + address);
   for (size_t i = 0; i < many && status == IVY_DONE; i++) {
     if (kind == IVY_LOAD) words[i] = __atomic_load_n(at + i, __ATOMIC_RELAXED);
     else __atomic_store_n(at + i, words[i], __ATOMIC_RELAXED);
   }
-  if (!p->map->holder) ivy_in_map_end_token(p);
+  if (status == IVY_DONE && !p->map->holder) ivy_in_map_end_token(p);
+  ivy_in_leave(p);
   return status;
 }
 
+/* Words between words, or of a page that is never lent, go by calls. */
 uint32_t ivy_in_map_row(ivy_process *p, uint32_t kind, uint64_t address, uint8_t *into, const uint8_t *from, size_t len) {
   uint64_t words[MAP_PAGE / 8];
   uint32_t status = len % 8 ? (uint32_t)IVY_BAD_ARGUMENT : (uint32_t)IVY_DONE;
   for (size_t done = 0, part; done < len && status == IVY_DONE; done += part) {
-    part = MAP_PAGE - (size_t)((address + done) % MAP_PAGE);
-    if (part % 8) part = 8;
+    uint64_t at = address + done;
+    int is_lent = at % 8 == 0 && ivy_in_map_has(p->map, page_of(at));
+    part = is_lent ? MAP_PAGE - (size_t)(at % MAP_PAGE) : 8;
     if (part > len - done) part = len - done;
-    if (kind == IVY_STORE) memcpy(words, from + done, part);
-    status = ivy_in_enter(p);
-    if (status == IVY_DONE) status = carry_out_row(p, kind, address + done, words, part / 8);
-    ivy_in_leave(p);
-    if (kind == IVY_LOAD && status == IVY_DONE) memcpy(into + done, words, part);
+    if (from) memcpy(words, from + done, part);
+    if (is_lent) status = carry_out_row(p, kind, at, words, part / 8);
+    else status = ivy_call(p, kind, 8, at, from ? turned(words[0]) : 0, 0, words), words[0] = turned(words[0]);
+    if (into && status == IVY_DONE) memcpy(into + done, words, part);
   }
   return status;
 }

@@ -29,22 +29,21 @@ typedef struct {
   void *(*wait)(void *process);
 } ivy_image;
 
-/* A page: until when it is kept; what the node lends of it, what the image shows of it; whether others may ask for it, and whether
- * they know that this process may; and whether it is open: it may have been written since the node had its bytes. Then it is in a
- * list, at a place, if others may ask for it. */
+/* A page: until when it is kept; what the node lends of it, what the image shows of it, and for what it is to be lent once it comes;
+ * whether others may ask for it, and whether they know that this process may; and whether it is open: it may have been written since
+ * the node had its bytes. Then it is in a list, at a place, if others may ask for it. */
 enum { CLOSED, OPEN, LISTED };
-typedef struct { int64_t until, taken; uint32_t place; uint8_t lent, shown, is_common, is_told, is_open, chances[3]; } map_page;
+typedef struct { int64_t until, taken; uint32_t place; uint8_t lent, shown, coming, is_common, is_told, is_open, chances[3]; } map_page;
 
 /* Pages in a row: the first, and how many. */
 typedef struct { uint32_t first, many; } map_row;
 
-/* Faults of one kind that run upwards: at which page the next one would be, so many pages they are, and so many of the last ones
- * came ahead. */
-typedef struct { uint32_t next, many, ahead; } map_run;
+/* Faults of one kind that run upwards: the first page that came ahead, the one behind the last, and so many pages they are. */
+typedef struct { uint32_t first, next, many; } map_run;
 
 /* A thread that faults: the pages that it had last for what it does, how often they were gone before it could go on, and what
  * time of a processor it had taken when it got the last one. */
-enum { MAP_THREADS = 64, MAP_LAST = 4 };
+enum { MAP_THREADS = 64, MAP_LAST = 4, MAP_COMING = MOST_FETCHED + 1 };
 typedef struct { uint32_t thread, many, failed, last[MAP_LAST]; int64_t ran; } map_thread;
 
 /* A string that is kept back, with all that came later from its peer. */
@@ -52,15 +51,13 @@ typedef struct kept_string { struct kept_string *next; size_t len; uint8_t bytes
 
 struct ivy_mapping {
   const ivy_image *image;
-  uint8_t *base;  /* what the program sees */
-  uint8_t *bytes; /* the same bytes, for the runtime */
-  uint8_t *room;  /* where a page is loaded to before it is shown, if that is not in `bytes` */
+  uint8_t *base, *bytes, *room; /* what the program sees; the same bytes, for the runtime; and where a page is loaded to before it is shown,
+                                   if that is not in `bytes` */
   uint32_t count;
   map_page *pages;
   uint32_t *open, opens; /* the pages that are listed */
   map_row opened, told;  /* how many were opened last in a row, at most, and the page behind them; the same of those told of */
-  int faults;            /* the descriptor of userfaultfd */
-  int child_of, is_hidden;
+  int faults, child_of, is_hidden; /* the descriptor of userfaultfd; the process; whether all is hidden, since the run is over */
   pthread_t thread;
 
   /* Who has mapped the memory; who is told what is asked for; who knows that of this process; who heard what is told now. */
@@ -68,21 +65,19 @@ struct ivy_mapping {
   map_row asks[MOST_NODES];     /* what each may ask for, which is not heeded yet */
 
   kept_string *first[MOST_NODES];
-  uint32_t kept;                   /* so many of all */
-  uint32_t held;                   /* peers of which the node holds a string that is due */
-  int gave;                        /* a page was given back, and nobody went on since */
-  uint32_t late, late_on;          /* a page that is to be lowered still, if there is one, to what */
-  int64_t due;                     /* when the first of them may take its page */
+  uint32_t kept, held;          /* so many of all; peers of which the node holds a string that is due */
+  int gave;                     /* a page was given back, and nobody went on since */
+  uint32_t late, late_on;       /* a page that is to be lowered still, if there is one, to what */
+  int64_t due;                  /* when the first of them may take its page */
 
-  int asking;           /* a page is asked for, which is lent once it comes: */
-  uint32_t page, to, answer;
-  map_thread *waiting;  /* who waits for it, if that is an instruction */
-  int waits, is_fresh;  /* so many waits, before which all is kept, but for what is listed since */
+  uint32_t coming[MAP_COMING];  /* pages that were fetched, each in the place of its number, modulo so many */
+  map_thread *waiting;          /* who waits for its page, if that is an instruction: the last one */
+  int waits, is_fresh;          /* so many waits, before which all is kept, but for what is listed since */
   map_thread threads[MAP_THREADS];
-  map_run runs[3]; /* those that load, and those that store */
-  int has_token, lowers; /* it has the token; pages are lowered before a call, since the program goes on meanwhile */
+  map_run runs[3];              /* those that load, and those that store */
+  int has_token, lowers;        /* it has the token; pages are lowered before a call, since the program goes on meanwhile */
   map_thread *holder;
-  int64_t shown_at;     /* when it was given its last page */
+  int64_t shown_at;             /* when it was given its last page */
   ivy_map_counts counts;
 };
 
@@ -98,6 +93,8 @@ static inline uint8_t *ivy_in_map_at(uint8_t *base, uint32_t page) { return base
 uint32_t ivy_in_map_acquire(ivy_process *p, uint32_t page, uint32_t to, map_thread *who);
 /* An instruction of a thread needs a page: it has it after this. */
 void ivy_in_map_fault(ivy_process *p, uint32_t page, uint32_t to, uint32_t thread);
+/* The number of a word of 8 bytes, where it is here. */
+int ivy_in_map_look(ivy_process *p, uint64_t place, uint64_t *number);
 /* Gives the token back, if it is here. */
 void ivy_in_map_end_token(ivy_process *p);
 /* What was written is kept, since a call begins. */

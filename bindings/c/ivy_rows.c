@@ -118,11 +118,18 @@ uint32_t ivy_write(ivy_process *p, uint64_t address, const void *from, size_t le
 
 /* ---- A hint ------------------------------------------------------------------------------------------------------------- */
 
-/* As many pages of a range as may be fetched now. Mapped memory fetches its own. */
+/* Whether a page is fetched from now on. */
+static uint32_t hint(ivy_process *p, uint32_t page) {
+  uint32_t begun = 0;
+  if (p->map) return ivy_in_map_hint(p, page);
+  ivy_fetch(&p->node, page, IVY_TO_READ, &begun);
+  return begun;
+}
+
+/* As many pages of a range as may be fetched now. */
 static void fetch_range(ivy_process *p, uint64_t first, uint64_t last) {
-  uint32_t many = 0, begun;
-  if (p->log || p->map) return;
-  while (first <= last && many < p->ahead && ivy_fetch(&p->node, (uint32_t)first++, IVY_TO_READ, &begun) == IVY_DONE) many += begun;
+  if (p->log) return;
+  for (uint32_t many = 0; first <= last && many < p->ahead; first++) many += hint(p, (uint32_t)first);
   ivy_in_send_together(p);
 }
 

@@ -209,8 +209,9 @@ uint32_t ivy_write(ivy_process *process, uint64_t address, const void *from, siz
 /* A hint: so many bytes from an address on, of any alignment, will be read soon. The pages that they lie on come while the program
  * goes on, as many as are free: a node fetches seven at once, and IVY_AHEAD says how many are asked for here at most. It waits for
  * no page, nor for the call of another thread where ivy_use_threads was said. What becomes of it is seen only in how long later
- * calls take. Nothing is asked for where there is a log, or where memory is mapped. IVY_DONE; IVY_RESERVED or IVY_OUT_OF_RANGE where not all of the bytes are of the heap, and nothing was done;
- * or the status of a failure. */
+ * calls take. Nothing is asked for where there is a log; nor, where memory is mapped, for pages that this process never asked for
+ * before. IVY_DONE; IVY_RESERVED or IVY_OUT_OF_RANGE where not all of the bytes are of the heap, and nothing was done; or the
+ * status of a failure. */
 uint32_t ivy_prefetch(ivy_process *process, uint64_t address, uint64_t bytes);
 
 /* ---- Addresses ---------------------------------------------------------------------------------------------------------

@@ -5,8 +5,8 @@ use Rattle.ivy_model.specs.declared.Fault.{Fault}
 use Rattle.ivy_model.specs.declared.Record.{Record}
 use Rattle.ivy_moves.specs.Events.{Event}
 use Rattle.ivy_calls.specs.declared.Answer.{Answer}
-use Rattle.ivy_calls.specs.Answers.{answer, answers}
-use Rattle.ivy_logs.specs.declared.log.LogEntry.TheVariants.{Did, Asked, Answered}
+use Rattle.ivy_calls.specs.Answers.{answer}
+use Rattle.ivy_logs.specs.declared.log.LogEntry.TheVariants.{Did, Asked, Answered, Fetched}
 use Rattle.ivy_logs.specs.Entries.{LogEntry, answer_in, answers_in}
 use Rattle.ivy_logs.proofs.Entries.{flat-taken}
 use Rattle.ivy_join.specs.ReplaySites.{AddsRecords}
@@ -26,6 +26,8 @@ told-entry before (Did event) count b d first many adds has =
     subst (λ l. StandFirst l d) (sym (append-nil before)) (first-longer before b d first adds)
 told-entry before (Asked call) count b d first many adds has =
     subst (λ l. StandFirst l d) (sym (append-nil before)) (first-longer before b d first adds)
+told-entry before (Fetched page write) count b d first many adds has =
+    subst (λ l. StandFirst l d) (sym (append-nil before)) (first-longer before b d first adds)
 told-entry before (Answered given) count b d first many adds has =
     first-all (before ++ given ∷ []) d
     (first-and-last before given d (first-longer before b d first adds)
@@ -36,6 +38,14 @@ pub did-told : (made : Result Bool Fault) (entry : LogEntry) (event : Event) (co
     → entry ≡ Did event → IfOk made (λ happens. IsTrue happens → HasAnswer count entry history)
 did-told (Ok happens) entry event count history is = λ yes. subst (λ e. HasAnswer count e history) (sym is) tt
 did-told (Err fault) entry event count history is = tt
+
+-- nor is a page that is fetched ahead
+pub fetched-told : (made : Result Bool Fault) (entry : LogEntry) (page : ℕ) (write : Bool) (count : ℕ)
+    (history : List Record) → entry ≡ Fetched page write
+    → IfOk made (λ happens. IsTrue happens → HasAnswer count entry history)
+fetched-told (Ok happens) entry page write count history is =
+    λ yes. subst (λ e. HasAnswer count e history) (sym is) tt
+fetched-told (Err fault) entry page write count history is = tt
 
 -- one entry more
 pub told-more : (log : List LogEntry) (i : ℕ) (entry : LogEntry) (count : ℕ) (b d : List Record)

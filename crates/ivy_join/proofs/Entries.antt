@@ -1,34 +1,30 @@
 -- A site with own code goes on by the entries of its log.
-use Rattle.std.proofs.Common.{◌≡◌, ℕ, zero, suc, ◌+◌, ◌<◌, List, [], ◌∷◌, ◌++◌, length, take, get_or, Contains, Bool, Result, Ok, Err, IfOk, IsTrue, refl, sym, ap, subst, ◌∙◌, append-nil, append_assoc, arith}
-use Rattle.std.proofs.lemmas.List.{map-append, take_more}
+use Rattle.std.proofs.Common.{◌≡◌, ℕ, zero, suc, ◌+◌, ◌<◌, List, [], ◌∷◌, ◌++◌, length, take, get_or, Contains, Bool, true, false, Result, Ok, Err, IfOk, IsTrue, refl, sym, ap, subst, ◌∙◌, append-nil, append_assoc, arith}
+use Rattle.std.specs.Prelude.{MatchBool}
+use Rattle.std.proofs.lemmas.List.{take_more}
 use Rattle.std.proofs.lemmas.List.Concat.{flat_map-append}
 use Rattle.std.proofs.lemmas.List.Elements.{Contains-append_left, Contains-append_right}
 use Rattle.ivy_model.specs.declared.Call.{Call}
 use Rattle.ivy_model.specs.declared.Fault.{Fault}
 use Rattle.ivy_model.specs.stated.Config.{IsConfig}
 use Rattle.ivy_calls.specs.declared.Answer.{Answer}
-use Rattle.ivy_logs.specs.declared.log.LogEntry.TheVariants.{Did, Asked, Answered}
-use Rattle.ivy_logs.specs.Entries.{LogEntry, call_in, calls_in, event_in, events_in}
+use Rattle.ivy_logs.specs.declared.log.LogEntry.TheVariants.{Did, Asked, Answered, Fetched}
+use Rattle.ivy_logs.specs.Entries.{LogEntry, event_in, events_in}
 use Rattle.ivy_logs.proofs.Entries.{marks-append}
 use Rattle.ivy_moves.specs.Events.{Event}
 use Rattle.ivy_moves.specs.Marks.{marks, marks_of}
 use Rattle.ivy_moves.specs.Parts.{AllCanBeMade}
-use Rattle.ivy_program.specs.stated.Programs.{Program, Written, Called}
-use Rattle.ivy_program.specs.Programs.{handed, one_by_one}
-use Rattle.ivy_host.proofs.HandedHosts.{handed_none}
-use Rattle.ivy_site.specs.Handed.{site_handed}
+use Rattle.ivy_site.specs.Calls.{BeginsFetch}
+use Rattle.ivy_site.specs.Handed.{site_fetching, site_handed}
+use Rattle.ivy_site.specs.declared.turn.Turn.TheVariants.{Moved}
 use Rattle.ivy_site.specs.SiteView.{SiteView}
+use Rattle.ivy_join.specs.Calls.{handed_by_log}
 use Rattle.ivy_join.specs.ReplaySites.{program_in, taken_by, taken_in, CanGoOnBy, GoesOnBy}
 use Rattle.ivy_join.specs.Remade.{CanTake, GoesOnByEntries}
 use Rattle.ivy_join.proofs.Answered.{adds-further, adds-none}
-use Rattle.ivy_join.proofs.EventSteps.{took-further}
+use Rattle.ivy_join.proofs.Calls.{by-further}
+use Rattle.ivy_join.proofs.EventSteps.{took-further, turn-goes, turn-listed}
 use Rattle.ivy_join.proofs.Taken.{can-more-strings, taken-own}
-
--- further rows of calls, and then others
-pub handed-further : (more rest : List (List Call)) (p : Program)
-    → handed rest (handed more p) ≡ handed (more ++ rest) p
-handed-further more rest (Written is) = refl
-handed-further more rest (Called rows fs) = ap (λ xs. Called xs fs) (append_assoc rows more rest)
 
 -- what was delivered before
 abbrev Took : List (List ℕ) → SiteView → Type 0
@@ -40,7 +36,7 @@ module _ (sent : List (List ℕ)) where
     me = refl;
     config = refl;
     opened = refl;
-    program = sym (handed_none (program_in s));
+    program = refl;
     answered = adds-none s.node.core.history s.node.core.history refl;
     events = sym (append-nil s.events);
     took = took;
@@ -53,7 +49,7 @@ module _ (sent : List (List ℕ)) where
     me = on.me;
     config = on.config;
     opened = on.opened;
-    program = on.program ∙ sym (handed_none (program_in s));
+    program = on.program;
     answered = on.answered;
     events = listed ∙ ap (λ l. s.events ++ l) (sym (append-nil (marks_of event)));
     took = took-further sent s s' took on;
@@ -77,11 +73,26 @@ module _ (sent : List (List ℕ)) where
     me = refl;
     config = refl;
     opened = refl;
-    program = sym (handed_none (program_in s));
+    program = refl;
     answered = adds-none s.node.core.history s.node.core.history refl;
     events = sym (append-nil s.events);
     took = took;
   }
+
+  -- a page that is fetched ahead, in a turn
+  pub fetched_on : (page : ℕ) (write : Bool) (s s' : SiteView) → Took sent s → BeginsFetch page write s s'
+      → GoesOnByEntries sent (Fetched page write ∷ []) s s'
+  fetched_on page write s s' took begins =
+      let mid : SiteView = site_fetching page write s in
+      let on = turn-goes sent Moved mid s' begins.turns in record {
+        me = on.me;
+        config = on.config;
+        opened = on.opened;
+        program = on.program;
+        answered = on.answered;
+        events = turn-listed mid s' begins.turns;
+        took = took-further sent mid s' took on;
+      }
 
   -- strings that wait are taken out
   pub entries-emptied : (entries : List LogEntry) (a b d : SiteView) → GoesOnByEntries sent entries a b
@@ -119,14 +130,8 @@ module _ (sent : List (List ℕ)) where
         me = y.me ∙ x.me;
         config = y.config ∙ x.config;
         opened = y.opened ∙ x.opened;
-        program = y.program ∙ ap (handed (one_by_one (calls_in (entry ∷ [])))) x.program
-            ∙ handed-further (one_by_one (calls_in (take i entries)))
-            (one_by_one (calls_in (entry ∷ []))) (program_in a)
-            ∙ ap (λ l. handed l (program_in a))
-            (sym (map-append (λ (call : Call). call ∷ []) (calls_in (take i entries))
-            (calls_in (entry ∷ []))))
-            ∙ ap (λ l. handed (one_by_one l) (program_in a))
-            (sym (flat_map-append call_in (take i entries) (entry ∷ [])));
+        program = y.program ∙ ap (handed_by_log (entry ∷ [])) x.program
+            ∙ by-further (take i entries) (entry ∷ []) (program_in a);
         answered = adds-further a.node.core.history b.node.core.history d.node.core.history x.answered
             y.answered;
         events = y.events ∙ ap (λ l. l ++ marks (events_in (entry ∷ []))) x.events
@@ -149,12 +154,26 @@ did-made entry event s s' (Ok happens) is on made =
     (did-on sent event s s' took (on sent limits took (subst (CanTake sent) is can)) (made yes))
 did-made entry event s s' (Err fault) is on made = tt
 
+-- and of a page that was asked for
+pub fetched-made : (entry : LogEntry) (page : ℕ) (write : Bool) (s s' : SiteView) (made : Result Bool Fault)
+    → entry ≡ Fetched page write
+    → IfOk made (λ begun. MatchBool begun (BeginsFetch page write s s') (s' ≡ s))
+    → IfOk made (λ happens. IsTrue happens → (sent : List (List ℕ)) → IsConfig s.config
+    → AllCanBeMade sent s.config.nodes s.me s.events → CanTake sent entry
+    → GoesOnByEntries sent (entry ∷ []) s s')
+fetched-made entry page write s s' (Ok true) is made =
+    λ yes sent limits took can. subst (λ e. GoesOnByEntries sent (e ∷ []) s s') (sym is)
+    (fetched_on sent page write s s' took made)
+fetched-made entry page write s s' (Ok false) is made = λ yes. absurd (let apart : false ≡ true = yes in cc)
+fetched-made entry page write s s' (Err fault) is made = tt
+
 entry-more : (strings others : List (List ℕ)) (entry : LogEntry)
     → ((s : List ℕ) → Contains strings s → Contains others s) → CanTake strings entry
     → CanTake others entry
 entry-more strings others (Did event) all can = can-more-strings strings others event all can
 entry-more strings others (Asked call) all can = tt
 entry-more strings others (Answered answer) all can = tt
+entry-more strings others (Fetched page write) all can = tt
 
 entry-own : (entry : LogEntry) → CanTake (taken_by (event_in entry)) entry
 entry-own (Did event) =
@@ -162,6 +181,7 @@ entry-own (Did event) =
     (λ s there. Contains-append_left (taken_in event) [] s there) (taken-own event)
 entry-own (Asked call) = tt
 entry-own (Answered answer) = tt
+entry-own (Fetched page write) = tt
 
 -- what an entry delivers is among the strings that the log delivers
 pub entry-taken : (log : List LogEntry) (i : ℕ) (entry : LogEntry) → i < length log → entry ≡ get_or log i entry

@@ -86,7 +86,7 @@ module _ (sent : List (List ℕ)) where
       (can-append sent s.config.nodes s.me s.events on.more before on.can)))
 
   -- a turn
-  turn-goes : (t : turn.Turn) (s s' : SiteView) → AfterTurn t s s' → GoesOnBy sent s s'
+  pub turn-goes : (t : turn.Turn) (s s' : SiteView) → AfterTurn t s s' → GoesOnBy sent s s'
   turn-goes Idle s s' after = stays s s' after.1
   turn-goes Ended s s' after = stays s s' after.2
   turn-goes Moved s s' after = record {

@@ -55,7 +55,7 @@ never-further a b ms m more config x never others effect happen =
 
 -- turns
 
-turn-makes : (s s' : SiteView) → AfterTurn Moved s s' → Makes (Turn ∷ []) s s'
+pub turn-makes : (s s' : SiteView) → AfterTurn Moved s s' → Makes (Turn ∷ []) s s'
 unfolding turned
 turn-makes s s' after = record {
   effect = after.effect;

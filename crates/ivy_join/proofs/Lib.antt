@@ -5,6 +5,7 @@ pub mod Collected
 pub mod Ended
 pub mod Taken
 pub mod HandedLogs
+pub mod Fetched
 pub mod Entries
 pub mod Calls
 pub mod AnswersLogged

@@ -3,8 +3,9 @@ use Rattle.std.proofs.Common.{◌≡◌, ℕ, zero, suc, ◌+◌, ◌<◌, ◌�
 use Rattle.std.proofs.lemmas.List.{length-map}
 use Rattle.std.proofs.lemmas.Option.{same_Some, none-some, slice_get-map, slice_get_within, slice_get_cases}
 use Rattle.ivy_model.specs.declared.Config.{Config}
-use Rattle.ivy_logs.specs.declared.log.LogEntry.TheVariants.{Did, Asked, Answered}
-use Rattle.ivy_logs.specs.Entries.{LogEntry, call_in, event_in, events_in}
+use Rattle.ivy_logs.specs.declared.log.LogEntry.TheVariants.{Did, Asked, Answered, Fetched}
+use Rattle.ivy_logs.specs.Entries.{LogEntry, event_in, events_in}
+use Rattle.ivy_logs.specs.Faults.{HandsNothing}
 use Rattle.ivy_logs.proofs.Entries.{marks-append}
 use Rattle.ivy_moves.specs.declared.Event.TheVariants.{Turns, Delivered, Pulsed}
 use Rattle.ivy_moves.specs.Marks.{Mark, Delivery, marks, marks_of}
@@ -42,15 +43,15 @@ site-happens c o sent i s own =
     (first_node (managed_start k) s.config s.me (program_in s)) s.events own.made.effect) own.opened
     own.made.happen))
 
--- where it is none of a call, the event of an entry can't be made
-pub never-by : (node : ℕ) (entry : LogEntry) (sites : List SiteView) → call_in entry ≡ []
+-- where nothing is handed by it, the event of an entry can't be made
+pub never-by : (node : ℕ) (entry : LogEntry) (sites : List SiteView) → HandsNothing entry
     → IsNeverBy node entry sites → (s : SiteView) → slice_get sites node ≡ Some s
     → NeverHappen s.config s.me s.node (marks (event_in entry))
-never-by node (Did event) sites none never s at =
+never-by node (Did event) sites silent never s at =
     subst (NeverHappen s.config s.me s.node) (sym (append-nil (marks_of event))) (never s at)
-never-by node (Asked call) sites none never s at =
-    (let some : call ∷ [] ≡ [] = none in absurd cc)
-never-by node (Answered answer) sites none never s at = absurd never
+never-by node (Asked call) sites silent never s at = absurd silent
+never-by node (Answered answer) sites silent never s at = absurd never
+never-by node (Fetched page write) sites silent never s at = absurd silent
 
 -- an entry whose event can't follow those of the first ones of a log
 pub never-part : (c : Config) (o : Opening) (sent : List (List ℕ)) (sites : List SiteView) (i : ℕ) (s : SiteView)
@@ -101,6 +102,7 @@ stuck-blocked sent (Did (Delivered bytes) ∷ rest) stuck = stuck
 stuck-blocked sent (Did (Pulsed to) ∷ rest) stuck = absurd (stuck tt)
 stuck-blocked sent (Asked call ∷ rest) stuck = absurd (stuck tt)
 stuck-blocked sent (Answered answer ∷ rest) stuck = absurd (stuck tt)
+stuck-blocked sent (Fetched page write ∷ rest) stuck = absurd (stuck tt)
 
 -- it is not at its end
 stuck-some : (sent : List (List ℕ)) (rest : List LogEntry) → IsStuck sent rest → 0 < length rest
@@ -112,6 +114,7 @@ stuck-some sent (Did (Delivered bytes) ∷ rest) stuck some none =
 stuck-some sent (Did (Pulsed to) ∷ rest) stuck some none = stuck tt
 stuck-some sent (Asked call ∷ rest) stuck some none = stuck tt
 stuck-some sent (Answered answer ∷ rest) stuck some none = stuck tt
+stuck-some sent (Fetched page write ∷ rest) stuck some none = stuck tt
 
 none_early : (o : Opening) (c : Config) (programs : List Program) (j : ℕ) → early_of (opening (managed_start o) c programs) j ≡ []
 none_early o c [] j = refl

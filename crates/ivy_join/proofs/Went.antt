@@ -1,10 +1,11 @@
 -- A log that is gone on with: its next entry is made, waits, or can't be made.
-use Rattle.std.proofs.Common.{◌≡◌, ◌≢◌, ℕ, ◌+◌, ◌<◌, ◌≤◌, ◌==◌, false, not, List, [], length, drop, get_or, sym, ap, subst, ◌∙◌, arith}
+use Rattle.std.proofs.Common.{◌≡◌, ◌≢◌, ℕ, ◌+◌, ◌<◌, ◌≤◌, ◌==◌, false, not, List, All, length, drop, get_or, sym, ap, subst, ◌∙◌, arith}
 use Rattle.std.specs.Prelude.{IsTrue}
 use Rattle.std.proofs.lemmas.Bool.{eqb-false, eqb-true, not-false, not-true}
 use Rattle.std.proofs.lemmas.List.{drop_all, length-map}
 use Rattle.ivy_model.specs.declared.Config.{Config}
-use Rattle.ivy_logs.specs.Entries.{LogEntry, calls_in, event_in, events_in}
+use Rattle.ivy_logs.specs.Entries.{LogEntry, event_in, events_in}
+use Rattle.ivy_logs.specs.Faults.{HandsNothing}
 use Rattle.ivy_moves.specs.Marks.{marks}
 use Rattle.ivy_program.specs.stated.Programs.{Program}
 use Rattle.ivy_site.specs.SiteView.{SiteView}
@@ -13,7 +14,7 @@ use Rattle.ivy_host.specs.declared.opening.Opening.{Opening}
 use Rattle.ivy_join.specs.Exact.{HaveSent, IsMadeAt, IsMadeTo, IsNeverBy, IsNoPart, IsStuck, IsWaiting, PlaysTo}
 use Rattle.ivy_join.specs.Calls.{PlaysOn}
 use Rattle.ivy_join.specs.ReplaySites.{events_at, program_in, ArePlayed}
-use Rattle.ivy_join.proofs.Calls.{none-here, plays-none}
+use Rattle.ivy_join.proofs.Calls.{plays-none, silent-here}
 use Rattle.ivy_join.proofs.Counted.{drop_at, made_more}
 use Rattle.ivy_join.proofs.HandedLogs.{there_is}
 use Rattle.ivy_join.proofs.Stuck.{never-by, never-part}
@@ -70,15 +71,15 @@ module _ (node : ℕ) (log : List LogEntry) (first place : ℕ) (old cur : List 
   pub plays-never : (c : Config) (o : Opening) (programs : List Program) (entry : LogEntry) → ArePlayed c o cur sent
       → PlaysOn node log first place programs (programs_of cur) → length cur ≡ length programs
       → node < length cur → place < length log → entry ≡ get_or log place entry → IsNeverBy node entry cur
-      → calls_in log ≡ [] → IsNoPart c o programs node (marks (events_in log))
-  plays-never c o programs entry played on count inside below is never none =
+      → All HandsNothing log → IsNoPart c o programs node (marks (events_in log))
+  plays-never c o programs entry played on count inside below is never silent =
       let at = there_is cur node inside in
       let same : programs_of cur ≡ programs =
-      plays-none node log first place programs (programs_of cur) none
+      plays-none node log first place programs (programs_of cur) silent
       (length-map cur program_in ∙ count) on in
       subst (λ ps. IsNoPart c o ps node (marks (events_in log))) same
       (never-part c o sent cur node at.0 log place entry played at.1 here below is
-      (never-by node entry cur (none-here log place entry none below is) never at.0 at.1))
+      (never-by node entry cur (silent-here log place entry silent below is) never at.0 at.1))
 
   -- it is made
   pub plays_more : (entry : LogEntry) (new : List SiteView) (sent' : List (List ℕ)) → place < length log

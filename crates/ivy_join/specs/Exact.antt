@@ -3,7 +3,7 @@
 use Rattle.std.specs.Prelude.{◌≡◌, ◌≢◌, ℕ, ◌+◌, ◌-◌, ◌<◌, ◌≤◌, Bool, true, false, IsTrue, List, [], ◌∷◌, ◌++◌, length, take, drop, slice_get, Some, Contains}
 use Rattle.ivy_model.specs.declared.Config.{Config}
 use Rattle.ivy_model.specs.stated.Config.{IsConfig}
-use Rattle.ivy_logs.specs.declared.log.LogEntry.TheVariants.{Did, Asked, Answered}
+use Rattle.ivy_logs.specs.declared.log.LogEntry.TheVariants.{Did, Asked, Answered, Fetched}
 use Rattle.ivy_logs.specs.Entries.{LogEntry, event_in, events_in}
 use Rattle.ivy_moves.specs.Marks.{Mark, Turn, Delivery, Pulse, marks, marks_of}
 use Rattle.ivy_moves.specs.stated.Nodes.{Node, Effect}
@@ -68,11 +68,13 @@ abbrev pub IsNeverAt : ℕ → List Mark → List SiteView → Type 0
 IsNeverAt node ms sites = (s : SiteView) → slice_get sites node ≡ Some s
     → NeverHappen s.config s.me s.node ms
 
--- nor the event of the entry; of a call that is not made nothing is said, and an answer is always passed over
+-- nor the event of the entry; of a call that is not made, or of a page that is not fetched, nothing
+-- is said, and an answer is always passed over
 abbrev pub IsNeverBy : ℕ → LogEntry → List SiteView → Type 0
 IsNeverBy node (Did event) sites = IsNeverAt node (marks_of event) sites
 IsNeverBy node (Asked call) sites = Unit {0}
 IsNeverBy node (Answered answer) sites = ⊥
+IsNeverBy node (Fetched page write) sites = Unit {0}
 
 -- the string that the entry delivers is none of these, and all is as it was
 pub record IsWaiting (entry : LogEntry) (old new : List SiteView) (sent sent' : List (List ℕ)) : Type 0

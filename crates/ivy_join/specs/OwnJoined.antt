@@ -1,21 +1,22 @@
 -- What logs of own code come to that are the parts of one run.
-use Rattle.std.specs.Prelude.{◌≡◌, ◌≤◌, ℕ, List, ◌++◌, length, map, slice_get, Option, Some, None, []}
+use Rattle.std.specs.Prelude.{◌≡◌, ◌≤◌, ℕ, List, [], ◌++◌, length, map, slice_get, Option, Some, None}
 use Rattle.ivy_model.specs.declared.Config.{Config}
 use Rattle.ivy_model.specs.declared.Record.{Record}
 use Rattle.ivy_model.specs.stated.Legal.{Legal}
 use Rattle.ivy_host.specs.declared.opening.Opening.{Opening}
 use Rattle.ivy_calls.specs.declared.Answer.{Answer}
 use Rattle.ivy_calls.specs.Answers.{answers, answers_of}
-use Rattle.ivy_logs.specs.Entries.{LogEntry, answers_in, calls_in, events_in}
+use Rattle.ivy_logs.specs.Entries.{LogEntry, answers_in, events_in}
 use Rattle.ivy_moves.specs.Marks.{marks}
 use Rattle.ivy_program.specs.stated.Programs.{Program, Called}
-use Rattle.ivy_program.specs.Programs.{one_by_one}
 use Rattle.ivy_site.specs.SiteView.{SiteView}
+use Rattle.ivy_join.specs.Calls.{handed_by_log}
 use Rattle.ivy_join.specs.Joined.{AreJoined}
 
--- own code that makes the calls of these entries, one after another
+-- own code that makes the calls of these entries, one after another, and has their pages fetched
+-- ahead
 abbrev pub program_by : List LogEntry → Program
-program_by entries = Called (one_by_one (calls_in entries)) []
+program_by entries = handed_by_log entries (Called [] [])
 
 -- the code of all nodes, by their logs
 abbrev pub programs_by : List (List LogEntry) → List Program
@@ -38,9 +39,9 @@ IsTold None s = Unit {0}
 abbrev pub AreTold : List (List LogEntry) → List SiteView → Type 0
 AreTold logs sites = (i : ℕ) → IsTold (slice_get logs i) (slice_get sites i)
 
--- the events of the logs, one a node, are the parts of one run of the programs that the calls in the logs
--- are, under this configuration; what is promised of every run holds at its end; the sites are its nodes
--- there; and each was answered what its log says
+-- the events of the logs, one a node, are the parts of one run of the programs that the calls and
+-- the fetches in the logs are, under this configuration; what is promised of every run holds at its
+-- end; the sites are its nodes there; and each was answered what its log says
 pub record AreOwnJoined (c : Config) (o : Opening) (logs : List (List LogEntry)) (sites : List SiteView) : Type 0 where
   pub joined : AreJoined c o (programs_by logs) (map (λ entries. marks (events_in entries)) logs) sites
   pub told : AreTold logs sites

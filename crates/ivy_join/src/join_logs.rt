@@ -1,5 +1,5 @@
-//! Whether logs are the parts of one run, of given programs or of the own code whose calls they have, and what they
-//! come to.
+//! Whether logs are the parts of one run, of given programs or of the own code whose calls and fetches they have, and
+//! what they come to.
 ghost use Rattle.std.specs.Prelude.{◌≡◌, ◌++◌, ◌≤◌, ◌<◌, ◌↔◌, false, length, map, take, IfOk, IfErr, IfSome, OnOk, IsTrue, slice_get};
 ghost use Rattle.std.specs.List.{All};
 ghost use Rattle.ivy_model.specs.stated.Config.{IsConfig};
@@ -12,7 +12,7 @@ ghost use Rattle.ivy_world.specs.WorldSites.{IsMemory};
 ghost use Rattle.ivy_calls.specs.Answers.{answers};
 ghost use Rattle.ivy_logs.specs.Entries.{answer_in, events_in};
 ghost use Rattle.ivy_logs.specs.Sums.{sum_of_run, sum_opened};
-ghost use Rattle.ivy_join.specs.Calls.{HaveNoCalls};
+ghost use Rattle.ivy_join.specs.Calls.{HandNothing};
 ghost use Rattle.ivy_join.specs.ReplaySites.{kept_from};
 ghost use Rattle.ivy_join.specs.Joined.{opening_by, AreHeads, AreJoined, AreNoParts, NamesSum, SaysNoParts, SaysOfCount, SaysOfHead, SaysOfHeads, SaysOfSums};
 ghost use Rattle.ivy_join.specs.OwnJoined.{AreAllTold, AreAnswered, AreOwnJoined, AreTold, Tells};
@@ -300,11 +300,10 @@ fn check_answers<A: Allocator + Copy>(sites: &[Site<A>], logs: &[Log<A>]) -> Res
 ///
 /// Where it answers, the logs are the parts of one run of these programs under this configuration, whatever wire the
 /// nodes had: what `World::run` promises of every run holds of what happened, and the nodes at the end of it are given.
-/// [`Unjoined::NotSent`] and [`Unjoined::NoSuchEvent`] say of logs without calls, as all logs of programs are, that they are
-/// the parts of no run of these programs under it.
-/// The other errors say nothing of that: memory ran out, the configuration does not suit, the logs are not those of its
-/// nodes, or one of them names the sum of another run. A log whose nodes began with steady hints names another
-/// configuration.
+/// [`Unjoined::NotSent`] and [`Unjoined::NoSuchEvent`] say of logs without calls and fetches, as all logs of programs
+/// are, that they are the parts of no run of these programs under it. The other errors say nothing of that: memory ran
+/// out, the configuration does not suit, the logs are not those of its nodes, or one of them names the sum of another
+/// run. A log whose nodes began with steady hints names another configuration.
 pub fn join<A: Allocator + Copy>(
     alloc: A,
     config: Config,
@@ -314,7 +313,7 @@ pub fn join<A: Allocator + Copy>(
     ensures heads { OnOk result (AreHeads false config 0 (map (λ l. l.head) logs.now)) }
     ensures joined { IfOk result (λ joined. AreJoined config Configured programs.items (map (λ l. marks (events_in l.entries.items)) logs.now) joined) }
     ensures summed { OnOk result (All (NamesSum (sum_of_run config programs.items)) (map (λ l. l.sum) logs.now)) }
-    ensures refused { IfErr result (λ why. SaysNoParts why → HaveNoCalls (map (λ l. l.entries.items) logs.now) → AreNoParts config Configured programs.items (map (λ l. marks (events_in l.entries.items)) logs.now)) }
+    ensures refused { IfErr result (λ why. SaysNoParts why → HandNothing (map (λ l. l.entries.items) logs.now) → AreNoParts config Configured programs.items (map (λ l. marks (events_in l.entries.items)) logs.now)) }
     ensures named { IfErr result (λ why. SaysNoParts why → AreHeads false config 0 (map (λ l. l.head) logs.now)) }
 {
     join_opened(alloc, false, config, programs, logs)
@@ -331,7 +330,7 @@ pub fn join_opened<A: Allocator + Copy>(
     ensures heads { OnOk result (AreHeads steady config 0 (map (λ l. l.head) logs.now)) }
     ensures joined { IfOk result (λ joined. AreJoined config (opening_by steady) programs.items (map (λ l. marks (events_in l.entries.items)) logs.now) joined) }
     ensures summed { OnOk result (All (NamesSum (sum_opened steady config programs.items)) (map (λ l. l.sum) logs.now)) }
-    ensures refused { IfErr result (λ why. SaysNoParts why → HaveNoCalls (map (λ l. l.entries.items) logs.now) → AreNoParts config (opening_by steady) programs.items (map (λ l. marks (events_in l.entries.items)) logs.now)) }
+    ensures refused { IfErr result (λ why. SaysNoParts why → HandNothing (map (λ l. l.entries.items) logs.now) → AreNoParts config (opening_by steady) programs.items (map (λ l. marks (events_in l.entries.items)) logs.now)) }
     ensures named { IfErr result (λ why. SaysNoParts why → AreHeads steady config 0 (map (λ l. l.head) logs.now)) }
 {
     config.check()?;
@@ -349,10 +348,11 @@ pub fn join_opened<A: Allocator + Copy>(
 
 /// Joins the logs of the nodes of own code, the log of node 0 first.
 ///
-/// Where it answers, the logs are the parts of one run of the programs that the calls in them are, whatever wire the nodes
-/// had: what `World::run` promises of every run holds of what happened, and each node was answered in it what its log says.
-/// Where no call is in progress at its end, and no log lacks its last answer, one flat memory could have given the answers
-/// in the logs. A log whose nodes began with steady hints names another configuration.
+/// Where it answers, the logs are the parts of one run of the programs that the calls and the fetches in them are,
+/// whatever wire the nodes had: what `World::run` promises of every run holds of what happened, and each node was
+/// answered in it what its log says. Where no call is in progress at its end, and no log lacks its last answer, one
+/// flat memory could have given the answers in the logs. A log whose nodes began with steady hints names another
+/// configuration.
 pub fn join_own<A: Allocator + Copy>(
     alloc: A,
     config: Config,

@@ -1,16 +1,19 @@
-//! The logs of all nodes, made again one beside another: a node's code makes a call where its log says so.
-ghost use Rattle.std.specs.Prelude.{◌≡◌, ◌<◌, ◌↔◌, ◌++◌, ℕ, List, [], ◌∷◌, length, map, IfErr, slice_get, slice_set, Contains, IfOk, OnErr, IfSome, OnOk, IsTrue, MatchBool};
+//! The logs of all nodes, made again one beside another: a node's code makes a call, or has a page fetched ahead, where
+//! its log says so.
+ghost use Rattle.std.specs.Prelude.{◌≡◌, ◌<◌, ◌↔◌, ◌++◌, ℕ, All, List, [], ◌∷◌, length, map, IfErr, slice_get, slice_set, Contains, IfOk, OnErr, IfSome, OnOk, IsTrue, MatchBool};
 ghost use Rattle.ivy_model.specs.declared.Config.{Config};
 ghost use Rattle.ivy_model.specs.stated.Legal.{HasWidth};
 ghost use Rattle.ivy_model.specs.stated.Config.{IsConfig};
 ghost use Rattle.ivy_program.specs.OwnCode.{IsFree};
 ghost use Rattle.ivy_host.specs.declared.opening.Opening.{Opening};
 ghost use Rattle.ivy_moves.specs.Marks.{marks, Delivery, Pulse, marks_of, turns};
+ghost use Rattle.ivy_site.specs.Calls.{BeginsFetch};
 ghost use Rattle.ivy_site.specs.Handed.{site_handed};
 ghost use Rattle.ivy_world.specs.WorldSites.{programs_of};
-ghost use Rattle.ivy_logs.specs.Entries.{calls_in, events_in};
-ghost use Rattle.ivy_logs.specs.declared.log.LogEntry.TheVariants.{Did, Asked};
-ghost use Rattle.ivy_join.specs.Calls.{with_calls, HaveCalled, HaveNoCalls, PlaysOn, HasCalledBy};
+ghost use Rattle.ivy_logs.specs.Entries.{events_in};
+ghost use Rattle.ivy_logs.specs.Faults.{HandsNothing};
+ghost use Rattle.ivy_logs.specs.declared.log.LogEntry.TheVariants.{Did, Asked, Fetched};
+ghost use Rattle.ivy_join.specs.Calls.{handed_by_logs, HaveHanded, HandNothing, PlaysOn, HasHandedBy};
 ghost use Rattle.ivy_join.specs.Exact.{AreAllMade, AreMadeTo, CameTo, HaveSent, IsMadeTo, IsNoPart, IsOneLeft, PlaysAll, PlaysTo, IsMadeAt, IsNeverAt, SaysMade};
 ghost use Rattle.ivy_join.specs.Joined.{part_in, AreNoParts, SaysNoParts};
 ghost use Rattle.ivy_join.specs.ReplaySites.{events_at, ArePlayed, CanBeTaken, AddsSent, CanGoOnBy, GoesOnBy};
@@ -91,6 +94,22 @@ pub fn make<A: Allocator + Copy>(site: &mut Site<A>, event: &Event<Bytes<A>>) ->
         Event::Turns(count) => make_turns(site, *count),
         Event::Delivered(string) => make_delivery(site, string),
         Event::Pulsed(to) => make_pulse(site, *to),
+    }
+}
+
+/// Own code has its node fetch a page ahead, in a turn [1]. It says whether the node asks for the page; else nothing is
+/// done.
+pub(crate) fn make_fetch<A: Allocator + Copy>(
+    site: &mut Site<A>,
+    page: u32,
+    write: bool,
+) -> Result<bool, Fault>
+    ensures { IfOk result (λ begun. MatchBool begun (BeginsFetch page write site.old site.new) (site.new ≡ site.old)) }
+{
+    match site.fetch(page, write) {
+        Ok(begun) => Ok(begun),
+        Err(Fault::Memory) => Err(Fault::Memory),
+        Err(_) => Ok(false),
     }
 }
 
@@ -226,7 +245,7 @@ fn play_call<A: Allocator + Copy>(
 ) -> Result<Outcome, Fault>
     requires node { node < length sites.old.items }
     ensures played { OnOk result ((c : Config) (o : Opening) (sent : List (List ℕ)) → ArePlayed c o sites.old.items sent → ArePlayed c o sites.new.items sent) }
-    ensures called { IfOk result (HasCalledBy node (Asked call) (programs_of sites.old.items) (programs_of sites.new.items)) }
+    ensures handed { IfOk result (HasHandedBy node (Asked call) (programs_of sites.old.items) (programs_of sites.new.items)) }
     ensures exact { IfOk result (λ outcome. (c : Config) (o : Opening) (sent : List (List ℕ)) → ArePlayed c o sites.old.items sent → HaveSent sent sites.old.items → CameTo node (Asked call) sites.old.items sites.new.items sent sent outcome) }
     ensures count { length sites.new.items ≡ length sites.old.items }
 {
@@ -234,6 +253,36 @@ fn play_call<A: Allocator + Copy>(
         return Ok(Outcome::Never);
     }
     hand(sites, node, call)?;
+    Ok(Outcome::Made)
+}
+
+/// A node's code has a page fetched ahead, where the node asks for it, and what that sends is sent [1].
+fn play_fetch<A: Allocator + Copy>(
+    config: &Config,
+    opening: Opening,
+    sites: &mut Vec<Site<A>, A>,
+    sent: &mut Strings<A>,
+    node: usize,
+    page: u32,
+    write: bool,
+) -> Result<Outcome, Fault>
+    requires played { ArePlayed config.now opening sites.old.items sent.old }
+    requires node { node < length sites.old.items }
+    ensures played { OnOk result (ArePlayed config.now opening sites.new.items sent.new) }
+    ensures handed { IfOk result (HasHandedBy node (Fetched page write) (programs_of sites.old.items) (programs_of sites.new.items)) }
+    ensures exact { IfOk result (λ outcome. HaveSent sent.old sites.old.items → CameTo node (Fetched page write) sites.old.items sites.new.items sent.old sent.new outcome) }
+    ensures count { length sites.new.items ≡ length sites.old.items }
+{
+    let site = &mut sites[node];
+    let begun = make_fetch(site, page, write)?;
+    if !begun {
+        return Ok(Outcome::Never);
+    }
+    // for the proof: it is what its events make of it.
+    let _ = site.event_list();
+    collect(site, sent)?;
+    // for the proof: it is so still.
+    let _ = site.event_list();
     Ok(Outcome::Made)
 }
 
@@ -249,7 +298,7 @@ pub(crate) fn play_entry<A: Allocator + Copy>(
     requires played { ArePlayed config.now opening sites.old.items sent.old }
     requires node { node < length sites.old.items }
     ensures played { OnOk result (ArePlayed config.now opening sites.new.items sent.new) }
-    ensures called { IfOk result (HasCalledBy node entry.now (programs_of sites.old.items) (programs_of sites.new.items)) }
+    ensures handed { IfOk result (HasHandedBy node entry.now (programs_of sites.old.items) (programs_of sites.new.items)) }
     ensures exact { IfOk result (λ outcome. HaveSent sent.old sites.old.items → CameTo node entry.now sites.old.items sites.new.items sent.old sent.new outcome) }
     ensures count { length sites.new.items ≡ length sites.old.items }
 {
@@ -258,6 +307,9 @@ pub(crate) fn play_entry<A: Allocator + Copy>(
         LogEntry::Asked(call) => play_call(sites, node, *call),
         // What was answered is compared once all was made.
         LogEntry::Answered(_) => Ok(Outcome::Made),
+        LogEntry::Fetched { page, write } => {
+            play_fetch(config, opening, sites, sent, node, *page, *write)
+        }
     }
 }
 
@@ -282,10 +334,10 @@ fn play_log<A: Allocator + Copy>(
     requires sent { HaveSent sent.old sites.old.items }
     requires here { IsMadeTo log.now.entries.items made.old (events_at sites.old.items node) }
     ensures played { OnOk result (ArePlayed config.now opening sites.new.items sent.new) }
-    ensures called { OnOk result (PlaysOn node log.now.entries.items made.old made.new (programs_of sites.old.items) (programs_of sites.new.items)) }
+    ensures handed { OnOk result (PlaysOn node log.now.entries.items made.old made.new (programs_of sites.old.items) (programs_of sites.new.items)) }
     ensures count { length sites.new.items ≡ length sites.old.items }
     ensures exact { IfOk result (λ went. PlaysTo node log.now.entries.items made.old made.new sites.old.items sites.new.items sent.old sent.new went) }
-    ensures refused { IfErr result (λ why. SaysNoParts why → calls_in log.now.entries.items ≡ [] → IsNoPart config.now opening (programs_of sites.old.items) node (marks (events_in log.now.entries.items))) }
+    ensures refused { IfErr result (λ why. SaysNoParts why → All HandsNothing log.now.entries.items → IsNoPart config.now opening (programs_of sites.old.items) node (marks (events_in log.now.entries.items))) }
 {
     let began = *made;
     for place in began..log.entries.len() {
@@ -320,10 +372,10 @@ fn play_round<A: Allocator + Copy>(
     requires sent { HaveSent sent.old sites.old.items }
     requires each { AreMadeTo (map (λ l. l.entries.items) logs.now) made.old sites.old.items }
     ensures played { OnOk result (ArePlayed config.now opening sites.new.items sent.new) }
-    ensures called { OnOk result (HaveCalled (map (λ l. l.entries.items) logs.now) made.old made.new (programs_of sites.old.items) (programs_of sites.new.items)) }
+    ensures handed { OnOk result (HaveHanded (map (λ l. l.entries.items) logs.now) made.old made.new (programs_of sites.old.items) (programs_of sites.new.items)) }
     ensures count { length sites.new.items ≡ length sites.old.items }
     ensures exact { IfOk result (λ went. PlaysAll (map (λ l. l.entries.items) logs.now) made.old made.new sites.new.items sent.new went) }
-    ensures refused { IfErr result (λ why. SaysNoParts why → HaveNoCalls (map (λ l. l.entries.items) logs.now) → AreNoParts config.now opening (programs_of sites.old.items) (map (λ l. marks (events_in l.entries.items)) logs.now)) }
+    ensures refused { IfErr result (λ why. SaysNoParts why → HandNothing (map (λ l. l.entries.items) logs.now) → AreNoParts config.now opening (programs_of sites.old.items) (map (λ l. marks (events_in l.entries.items)) logs.now)) }
 {
     let mut went = false;
     for node in 0..logs.len() {
@@ -361,9 +413,9 @@ fn check_ends<A: Allocator>(logs: &[Log<A>], made: &[usize]) -> Result<(), Unjoi
 
 /// Makes the entries of all logs again, each delivery once its string was sent [1].
 ///
-/// Where it is refused otherwise than for want of memory, logs without calls are not the parts of a run: what a node does
-/// depends on its own events alone, and what was sent only grows. So a round in which no log goes on has made all that a run
-/// with these parts could have made.
+/// Where it is refused otherwise than for want of memory, logs without calls and fetches are not the parts of a run:
+/// what a node does depends on its own events alone, and what was sent only grows. So a round in which no log goes on
+/// has made all that a run with these parts could have made.
 pub(crate) fn play<A: Allocator + Copy>(
     alloc: A,
     config: &Config,
@@ -377,10 +429,10 @@ pub(crate) fn play<A: Allocator + Copy>(
     requires sent { HaveSent sent.old sites.old.items }
     requires none { (i : ℕ) → events_at sites.old.items i ≡ [] }
     ensures played { OnOk result (ArePlayed config.now opening sites.new.items sent.new) }
-    ensures called { OnOk result (programs_of sites.new.items ≡ with_calls (map (λ l. l.entries.items) logs.now) (programs_of sites.old.items)) }
+    ensures handed { OnOk result (programs_of sites.new.items ≡ handed_by_logs (map (λ l. l.entries.items) logs.now) (programs_of sites.old.items)) }
     ensures count { length sites.new.items ≡ length sites.old.items }
     ensures lists { OnOk result ((i : ℕ) → events_at sites.new.items i ≡ part_in (map (λ l. marks (events_in l.entries.items)) logs.now) i) }
-    ensures refused { IfErr result (λ why. SaysNoParts why → HaveNoCalls (map (λ l. l.entries.items) logs.now) → AreNoParts config.now opening (programs_of sites.old.items) (map (λ l. marks (events_in l.entries.items)) logs.now)) }
+    ensures refused { IfErr result (λ why. SaysNoParts why → HandNothing (map (λ l. l.entries.items) logs.now) → AreNoParts config.now opening (programs_of sites.old.items) (map (λ l. marks (events_in l.entries.items)) logs.now)) }
 {
     let mut made = vec![in alloc; 0usize; logs.len()]?;
     while play_round(config, opening, sites, sent, logs, &mut made)? {}

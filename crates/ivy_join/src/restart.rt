@@ -6,7 +6,7 @@ ghost use Rattle.ivy_site.specs.Handed.{site_handed};
 ghost use Rattle.ivy_logs.specs.Entries.{answer_in};
 ghost use Rattle.ivy_join.specs.Remade.{CanTake, GoesOnByEntries, HasAnswer, IsAnsweredLast, IsMadeByLog};
 
-use crate::replay_log::{drop_frames, has_width, make};
+use crate::replay_log::{drop_frames, has_width, make, make_fetch};
 use ivy_calls::Answer;
 use ivy_logs::LogEntry;
 use ivy_model::{Call, Fault};
@@ -58,7 +58,8 @@ fn has_answer<A: Allocator + Copy>(site: &Site<A>, answer: Answer, told: u64) ->
 }
 
 /// Makes an entry of a log at its site, at which no string waits, after so many answers [1]. It says whether it happens
-/// there: of a call, whether the code may make it, and of an answer, whether it is the next one, to the last call.
+/// there: of a call, whether the code may make it, of an answer, whether it is the next one, to the last call, and of a
+/// page that was fetched ahead, whether the node asks for it.
 fn make_entry<A: Allocator + Copy>(
     site: &mut Site<A>,
     entry: &LogEntry<Bytes<A>>,
@@ -71,6 +72,7 @@ fn make_entry<A: Allocator + Copy>(
         LogEntry::Did(event) => make(site, event),
         LogEntry::Asked(call) => make_call(site, *call),
         LogEntry::Answered(answer) => Ok(has_answer(site, *answer, told)),
+        LogEntry::Fetched { page, write } => make_fetch(site, *page, *write),
     }
 }
 
@@ -87,9 +89,10 @@ fn told_after<A: Allocator + Copy>(site: &Site<A>, entry: &LogEntry<Bytes<A>>, t
 
 /// Makes the entries of a log again at a site that made no event yet, and none besides.
 ///
-/// The site is then what the events among them make of it, its code has made their calls, and was answered what they say:
-/// an answer that the log leaves out is refused with the next one. What the events sent is dropped: it went out before the node was killed, or was lost with it. The last call may have its reply already, where
-/// the log lacks that.
+/// The site is then what the events among them make of it, its code has made their calls and had their pages fetched
+/// ahead, and was answered what they say: an answer that the log leaves out is refused with the next one. What the
+/// events sent is dropped: it went out before the node was killed, or was lost with it. The last call may have its
+/// reply already, where the log lacks that.
 pub fn replay<A: Allocator + Copy>(
     site: &mut Site<A>,
     log: &[LogEntry<Bytes<A>>],

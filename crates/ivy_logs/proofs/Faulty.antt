@@ -1,5 +1,5 @@
 -- Lines at fault, and the entries before them.
-use Rattle.std.proofs.Common.{◌≡◌, ◌≢◌, ◌∙◌, ℕ, zero, suc, ◌+◌, ◌<◌, ◌≤◌, Bor, List, [], ◌∷◌, Option, Some, None, IfNone, codes, length, map, take, get_or, slice_get, option_map, refl, ap, subst, zero-add, arith}
+use Rattle.std.proofs.Common.{◌≡◌, ◌≢◌, ◌∙◌, ℕ, zero, suc, ◌+◌, ◌<◌, ◌≤◌, Bool, Bor, List, [], ◌∷◌, Option, Some, None, IfNone, codes, length, map, take, get_or, slice_get, slice_index, option_map, refl, ap, subst, zero-add, arith}
 use Rattle.std.specs.List.{AllZip, enumerate_from, filter}
 use Rattle.std.proofs.lemmas.List.FromFn.{get_or-enumerate_from, length-enumerate_from}
 use Rattle.std.proofs.lemmas.Option.{slice_get-map, slice_get_read}
@@ -12,16 +12,16 @@ use Rattle.ivy_moves.specs.declared.Event.TheVariants.{Turns, Delivered, Pulsed}
 use Rattle.ivy_program.specs.texts.Lines.{IsNumberWord}
 use Rattle.ivy_program.specs.texts.TextWords.{words_of}
 use Rattle.ivy_program.proofs.reading.Reading.{texts_of}
-use Rattle.ivy_texts.specs.Spelled.{BeginsWith, SpellsCall, has_words, worded}
+use Rattle.ivy_texts.specs.Spelled.{BeginsWith, Names, SpellsCall, has_words, worded}
 use Rattle.ivy_texts.proofs.Calls.{call_counted}
 use Rattle.ivy_texts.proofs.Worded.{texts-all}
-use Rattle.ivy_logs.specs.declared.log.LogEntry.TheVariants.{Did, Asked, Answered}
+use Rattle.ivy_logs.specs.declared.log.LogEntry.TheVariants.{Did, Asked, Answered, Fetched}
 use Rattle.ivy_logs.specs.declared.log.LogHead.{LogHead}
 use Rattle.ivy_logs.specs.declared.log.LogKind.{LogKind}
 use Rattle.ivy_logs.specs.declared.log.LogKind.TheVariants.{OfProgram, OfOwnCode}
 use Rattle.ivy_logs.specs.Entries.{LogEntry, SpellsAnswered, SpellsEntry, SpellsIn}
 use Rattle.ivy_logs.specs.Faults.{IsAtFault, IsFirstAtFault, SpellsNone}
-use Rattle.ivy_logs.specs.Spelled.{IsHexOf, SpellsEvent, SpellsNode, SpellsSum}
+use Rattle.ivy_logs.specs.Spelled.{fetch_word, IsHexOf, SpellsEvent, SpellsNode, SpellsSum}
 
 -- how many words there are
 counted : {X : Type 0} (R : List ℕ → X → Type 0) (keyword : List ℕ) (xs : List X) (words : List (List ℕ))
@@ -48,16 +48,44 @@ answered_counted [] c (Refused n) h = absurd h
 answered_counted (w ∷ []) c (Refused n) h = absurd h.1
 answered_counted (w ∷ v ∷ ws) c (Refused n) h = omega (arith, call_counted ws c h.1.1)
 
+fetch_counted : (words : List (List ℕ)) (page : ℕ) (write : Bool)
+    → BeginsWith (codes "fetch") (Names (fetch_word write) (page ∷ [])) words → length words ≡ 3
+fetch_counted [] page write h = absurd h
+fetch_counted (w ∷ ws) page write h =
+    omega (arith, counted IsNumberWord (fetch_word write) (page ∷ []) ws h.1)
+
 entry_counted : (words : List (List ℕ)) (e : LogEntry) → SpellsEntry words e → length words ≤ 7
 entry_counted words (Did event) h = omega (arith, event_counted words event h)
 entry_counted words (Asked call) h = omega (arith, called (codes "call") words call h)
 entry_counted words (Answered answer) h = answered_counted words answer.call answer.reply h
+entry_counted words (Fetched page write) h = omega (arith, fetch_counted words page write h)
+
+-- another word than this one
+other-word : {A : Type 0} (v w : List ℕ) → v ≡ w → (slice_index v 0 ≡ slice_index w 0 → ⊥) → A
+other-word v w same apart = absurd (apart (ap (λ l. slice_index l 0) same))
+
+answered-named : (words : List (List ℕ)) (c : Call) (r : Reply)
+    → SpellsAnswered (codes "fetch" ∷ words) c r → ⊥
+answered-named words c (Value n) h = other-word (codes "fetch") (codes "value") h.0 (λ s. omega (arith, s))
+answered-named words c Done h = other-word (codes "fetch") (codes "done") h.0 (λ s. omega (arith, s))
+answered-named words c (Refused n) h = other-word (codes "fetch") (codes "refused") h.0 (λ s. omega (arith, s))
+
+-- behind the word of a page that is fetched ahead there are two
+pub fetch_named : (words : List (List ℕ)) (e : LogEntry) → SpellsEntry (codes "fetch" ∷ words) e → length words ≡ 2
+fetch_named words (Did (Turns n)) h = other-word (codes "fetch") (codes "turns") h.0 (λ s. omega (arith, s))
+fetch_named words (Did (Delivered bytes)) h =
+    other-word (codes "fetch") (codes "took") h.0 (λ s. omega (arith, s))
+fetch_named words (Did (Pulsed n)) h = other-word (codes "fetch") (codes "pulse") h.0 (λ s. omega (arith, s))
+fetch_named words (Asked call) h = other-word (codes "fetch") (codes "call") h.0 (λ s. omega (arith, s))
+fetch_named words (Answered answer) h = absurd (answered-named words answer.call answer.reply h)
+fetch_named words (Fetched page write) h = counted IsNumberWord (fetch_word write) (page ∷ []) words h.1
 
 in_counted : (kind : LogKind) (words : List (List ℕ)) (e : LogEntry) → SpellsIn kind words e → length words ≤ 7
 in_counted OfOwnCode words e h = entry_counted words e h
 in_counted OfProgram words (Did event) h = omega (arith, event_counted words event h)
 in_counted OfProgram words (Asked call) h = absurd h
 in_counted OfProgram words (Answered answer) h = absurd h
+in_counted OfProgram words (Fetched page write) h = absurd h
 
 -- more words than these are those of no entry
 pub too_many : (kind : LogKind) (words : List (List ℕ)) → 7 < length words → SpellsNone kind words

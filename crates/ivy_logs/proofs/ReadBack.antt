@@ -18,7 +18,7 @@ use Rattle.ivy_program.specs.texts.Lines.{IsNumberWord}
 use Rattle.ivy_program.specs.texts.TextWords.{words_of}
 use Rattle.ivy_texts.specs.Printed.{call_text, reply_text, then_number}
 use Rattle.ivy_texts.specs.Spelled.{SpellsCall, worded}
-use Rattle.ivy_logs.specs.declared.log.LogEntry.TheVariants.{Did, Asked, Answered}
+use Rattle.ivy_logs.specs.declared.log.LogEntry.TheVariants.{Did, Asked, Answered, Fetched}
 use Rattle.ivy_logs.specs.declared.log.LogHead.{LogHead}
 use Rattle.ivy_logs.specs.declared.log.LogKind.{LogKind}
 use Rattle.ivy_logs.specs.declared.log.LogKind.TheVariants.{OfProgram, OfOwnCode}
@@ -210,6 +210,15 @@ answered call (Refused code) wide all = record {
   spelled = (refl, (number-word code wide, call-spelled call all));
 }
 
+-- a page that is fetched ahead
+abbrev fetch-line : (access : List ℕ) (page : ℕ) → IsWord access → IsWide page → Line
+fetch-line access page is wide = record {
+  word = codes "fetch";
+  more = access ∷ decimal page ∷ [];
+  is = literal (codes "fetch") refl (omega arith);
+  all = All-cons IsWord access (decimal page ∷ []) is (one-word (decimal page) (is-number page wide));
+}
+
 writes : (entry : LogEntry) → FitsEntry entry → Writes entry
 writes (Did (Turns count)) fits = record {
   line = record {
@@ -254,6 +263,16 @@ writes (Asked call) fits = record {
   spelled = (refl, call-spelled call fits);
 }
 writes (Answered answer) fits = answered answer.call answer.reply fits.0 fits.1
+writes (Fetched page false) fits = record {
+  line = fetch-line (codes "read") page (literal (codes "read") refl (omega arith)) fits;
+  text = sym (spaced-to (codes "fetch") (codes "read" ∷ decimal page ∷ []) (10 ∷ []));
+  spelled = (refl, (refl, numbers-words (page ∷ []) (All-cons IsWide page [] fits (All-nil IsWide))));
+}
+writes (Fetched page true) fits = record {
+  line = fetch-line (codes "write") page (literal (codes "write") refl (omega arith)) fits;
+  text = sym (spaced-to (codes "fetch") (codes "write" ∷ decimal page ∷ []) (10 ∷ []));
+  spelled = (refl, (refl, numbers-words (page ∷ []) (All-cons IsWide page [] fits (All-nil IsWide))));
+}
 
 -- so it is in a log of either kind
 fits-entry : (kind : LogKind) (entry : LogEntry) → FitsIn kind entry → FitsEntry entry
@@ -261,6 +280,7 @@ fits-entry OfOwnCode entry fits = fits
 fits-entry OfProgram (Did event) fits = fits
 fits-entry OfProgram (Asked call) fits = absurd fits
 fits-entry OfProgram (Answered answer) fits = absurd fits
+fits-entry OfProgram (Fetched page write) fits = absurd fits
 
 spelled-in : (kind : LogKind) (words : List (List ℕ)) (entry : LogEntry) → FitsIn kind entry
     → SpellsEntry words entry → SpellsIn kind words entry
@@ -268,6 +288,7 @@ spelled-in OfOwnCode words entry fits spelled = spelled
 spelled-in OfProgram words (Did event) fits spelled = spelled
 spelled-in OfProgram words (Asked call) fits spelled = absurd fits
 spelled-in OfProgram words (Answered answer) fits spelled = absurd fits
+spelled-in OfProgram words (Fetched page write) fits spelled = absurd fits
 
 module _ (kind : LogKind) where
   abbrev lines-of : (entries : List LogEntry) → All (FitsIn kind) entries → List Line

@@ -19,12 +19,12 @@ use Rattle.ivy_moves.specs.declared.Event.TheVariants.{Turns, Delivered, Pulsed}
 use Rattle.ivy_program.specs.texts.Lines.{IsNumberWord}
 use Rattle.ivy_program.specs.texts.TextWords.{words_of}
 use Rattle.ivy_texts.specs.Spelled.{BeginsWith, Names, SpellsCall, worded}
-use Rattle.ivy_logs.specs.declared.log.LogEntry.TheVariants.{Did, Asked, Answered}
+use Rattle.ivy_logs.specs.declared.log.LogEntry.TheVariants.{Did, Asked, Answered, Fetched}
 use Rattle.ivy_logs.specs.declared.log.LogHead.{LogHead}
 use Rattle.ivy_logs.specs.declared.log.LogKind.{LogKind}
 use Rattle.ivy_logs.specs.declared.log.LogKind.TheVariants.{OfProgram, OfOwnCode}
 use Rattle.ivy_logs.specs.Entries.{LogEntry, Numbered, SpellsAnswered, SpellsEntry, SpellsIn}
-use Rattle.ivy_logs.specs.Spelled.{HasWholeLines, IsHexOf, IsManagerWord, SpellsConfig, SpellsEvent, SpellsHead, SpellsNode, is_end, kind_word, log_word}
+use Rattle.ivy_logs.specs.Spelled.{HasWholeLines, fetch_word, IsHexOf, IsManagerWord, SpellsConfig, SpellsEvent, SpellsHead, SpellsNode, is_end, kind_word, log_word}
 use Rattle.ivy_logs.specs.ReadBack.{LogsSpellOne, numbers_of}
 use Rattle.ivy_logs.proofs.ReadBack.{keyword_of}
 
@@ -266,6 +266,32 @@ call-letter : (words : List (List ℕ)) (c : Call) → BeginsWith (codes "call")
     → FirstIs words 99
 call-letter words c s = begins-first (codes "call") (λ rest. SpellsCall rest c) words s
 
+-- a page that is fetched ahead, to read or to write
+record Page : Type 0 where
+  number : ℕ
+  write : Bool
+
+abbrev SpellsPage : Page → List (List ℕ) → Type 0
+SpellsPage p words = Names (fetch_word p.write) (p.number ∷ []) words
+
+access-once : (a b : Bool) → fetch_word a ≡ fetch_word b → a ≡ b
+access-once false false same = refl
+access-once true true same = refl
+access-once false true same =
+    differ (codes "read") (codes "write") 0 114 119 same refl refl (λ s. omega (arith, s))
+access-once true false same =
+    differ (codes "write") (codes "read") 0 119 114 same refl refl (λ s. omega (arith, s))
+
+page-once : (words : List (List ℕ)) (a b : Page) → SpellsPage a words → SpellsPage b words → a ≡ b
+page-once words a b s t =
+    let same = names-once words (fetch_word a.write) (fetch_word b.write) (a.number ∷ []) (b.number ∷ []) s t in
+    ap (λ n. record { number = n; write = a.write }) (ap (λ l. slice_index l 0) same.1)
+    ∙ ap (λ w. record { number = b.number; write = w }) (access-once a.write b.write same.0)
+
+fetch-letter : (words : List (List ℕ)) (page : ℕ) (write : Bool)
+    → BeginsWith (codes "fetch") (Names (fetch_word write) (page ∷ [])) words → FirstIs words 102
+fetch-letter words page write s = begins-first (codes "fetch") (Names (fetch_word write) (page ∷ [])) words s
+
 entry-once : (words : List (List ℕ)) (d e : LogEntry) → SpellsEntry words d → SpellsEntry words e → d ≡ e
 entry-once words (Did x) (Did y) a b = ap Did (event-once words x y a b)
 entry-once words (Asked c) (Asked d) a b =
@@ -290,6 +316,25 @@ entry-once words (Did x) (Answered y) a b =
     all-apart words (event-letter words x a) (answer-letter words y.call y.reply b)
 entry-once words (Answered x) (Did y) a b =
     all-apart words (event-letter words y b) (answer-letter words x.call x.reply a)
+entry-once words (Fetched m v) (Fetched n w) a b =
+    let x : Page = record { number = m; write = v } in let y : Page = record { number = n; write = w } in
+    ap (λ (p : Page). Fetched p.number p.write) (after-once SpellsPage page-once (codes "fetch") words x y a b)
+entry-once words (Fetched n w) (Did y) a b =
+    apart words 116 116 112 102 (λ s. omega (arith, s)) (λ s. omega (arith, s)) (λ s. omega (arith, s))
+    (event-letter words y b) (fetch-letter words n w a)
+entry-once words (Did x) (Fetched n w) a b =
+    apart words 116 116 112 102 (λ s. omega (arith, s)) (λ s. omega (arith, s)) (λ s. omega (arith, s))
+    (event-letter words x a) (fetch-letter words n w b)
+entry-once words (Fetched n w) (Answered y) a b =
+    apart words 118 100 114 102 (λ s. omega (arith, s)) (λ s. omega (arith, s)) (λ s. omega (arith, s))
+    (answer-letter words y.call y.reply b) (fetch-letter words n w a)
+entry-once words (Answered x) (Fetched n w) a b =
+    apart words 118 100 114 102 (λ s. omega (arith, s)) (λ s. omega (arith, s)) (λ s. omega (arith, s))
+    (answer-letter words x.call x.reply a) (fetch-letter words n w b)
+entry-once words (Fetched n w) (Asked d) a b =
+    two-letters words 99 102 (λ s. omega (arith, s)) (call-letter words d b) (fetch-letter words n w a)
+entry-once words (Asked c) (Fetched n w) a b =
+    two-letters words 99 102 (λ s. omega (arith, s)) (call-letter words c a) (fetch-letter words n w b)
 
 in-once : (kind : LogKind) (words : List (List ℕ)) (d e : LogEntry) → SpellsIn kind words d → SpellsIn kind words e
     → d ≡ e
@@ -297,8 +342,10 @@ in-once OfOwnCode words d e a b = entry-once words d e a b
 in-once OfProgram words (Did x) (Did y) a b = ap Did (event-once words x y a b)
 in-once OfProgram words (Did x) (Asked d) a b = absurd b
 in-once OfProgram words (Did x) (Answered y) a b = absurd b
+in-once OfProgram words (Did x) (Fetched n w) a b = absurd b
 in-once OfProgram words (Asked c) e a b = absurd a
 in-once OfProgram words (Answered x) e a b = absurd a
+in-once OfProgram words (Fetched n w) e a b = absurd a
 
 -- the first line
 kind-once : (word : List ℕ) (k l : Kind) → word ≡ kind_word k → word ≡ kind_word l → k ≡ l

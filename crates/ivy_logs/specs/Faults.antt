@@ -11,7 +11,7 @@ use Rattle.ivy_model.specs.stated.Legal.{HasWidth}
 use Rattle.ivy_moves.specs.Events.{Event}
 use Rattle.ivy_moves.specs.declared.Event.TheVariants.{Turns, Delivered, Pulsed}
 use Rattle.ivy_program.specs.texts.TextWords.{words_of}
-use Rattle.ivy_logs.specs.declared.log.LogEntry.TheVariants.{Did, Asked, Answered}
+use Rattle.ivy_logs.specs.declared.log.LogEntry.TheVariants.{Did, Asked, Answered, Fetched}
 use Rattle.ivy_logs.specs.declared.log.LogHead.{LogHead}
 use Rattle.ivy_logs.specs.declared.log.LogKind.{LogKind}
 use Rattle.ivy_logs.specs.Entries.{LogEntry, SpellsIn}
@@ -21,7 +21,8 @@ use Rattle.ivy_logs.specs.Spelled.{HasWholeLines, SpellsHead, is_end}
 abbrev pub IsByte : ℕ → Type 0
 IsByte n = n < 2 ^ 8
 
--- the number of a node is one byte, and so is that of a refusal; a call has a width that there is
+-- the number of a node is one byte, and so is that of a refusal; a call has a width that there is,
+-- and a page a number of four bytes
 abbrev pub IsEvent : Event → Type 0
 IsEvent (Turns count) = Unit {0}
 IsEvent (Delivered bytes) = Unit {0}
@@ -36,12 +37,14 @@ abbrev pub IsEntry : LogEntry → Type 0
 IsEntry (Did event) = IsEvent event
 IsEntry (Asked call) = HasWidth call
 IsEntry (Answered answer) = IsReply answer.reply × HasWidth answer.call
+IsEntry (Fetched page write) = page < 2 ^ 32
 
--- the entry is no call
-abbrev pub IsNoCall : LogEntry → Type 0
-IsNoCall (Did event) = Unit {0}
-IsNoCall (Asked call) = ⊥
-IsNoCall (Answered answer) = Unit {0}
+-- own code handed nothing by the entry: it is no call, and no page that is fetched ahead
+abbrev pub HandsNothing : LogEntry → Type 0
+HandsNothing (Did event) = Unit {0}
+HandsNothing (Asked call) = ⊥
+HandsNothing (Answered answer) = Unit {0}
+HandsNothing (Fetched page write) = ⊥
 
 -- the numbers of a first line are within the bytes that they have
 pub record IsHead (h : LogHead) : Type 0 where

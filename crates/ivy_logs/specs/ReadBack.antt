@@ -10,7 +10,7 @@ use Rattle.ivy_moves.specs.declared.Event.TheVariants.{Turns, Delivered, Pulsed}
 use Rattle.ivy_logs.specs.declared.log.LogHead.{LogHead}
 use Rattle.ivy_logs.specs.declared.log.LogKind.{LogKind}
 use Rattle.ivy_logs.specs.declared.log.LogKind.TheVariants.{OfProgram, OfOwnCode}
-use Rattle.ivy_logs.specs.declared.log.LogEntry.TheVariants.{Did, Asked, Answered}
+use Rattle.ivy_logs.specs.declared.log.LogEntry.TheVariants.{Did, Asked, Answered, Fetched}
 use Rattle.ivy_logs.specs.Entries.{HasSum, LogEntry, SpellsLog, entry_lines}
 use Rattle.ivy_logs.specs.Printed.{first_line}
 use Rattle.ivy_logs.specs.Spelled.{MayHaveSum, named_kind}
@@ -48,12 +48,14 @@ abbrev pub FitsEntry : LogEntry → Type 0
 FitsEntry (Did event) = FitsEvent event
 FitsEntry (Asked call) = All IsWide (numbers_of call)
 FitsEntry (Answered answer) = IsWideReply answer.reply × All IsWide (numbers_of answer.call)
+FitsEntry (Fetched page write) = IsWide page
 
 -- of these a log of a program has events alone
 abbrev pub FitsDid : LogEntry → Type 0
 FitsDid (Did event) = FitsEvent event
 FitsDid (Asked call) = ⊥
 FitsDid (Answered answer) = ⊥
+FitsDid (Fetched page write) = ⊥
 
 abbrev pub FitsIn : LogKind → LogEntry → Type 0
 FitsIn OfProgram = FitsDid

@@ -100,6 +100,11 @@ SpellsEvent words (Delivered bytes) =
     BeginsWith (codes "took") (λ rest. AllZip IsHexOf rest (bytes ∷ [])) words
 SpellsEvent words (Pulsed to) = Names (codes "pulse") (to ∷ []) words
 
+-- the word of what a page is fetched ahead for: to read, or to write
+abbrev pub fetch_word : Bool → List ℕ
+fetch_word false = codes "read"
+fetch_word true = codes "write"
+
 -- these are the whole lines of the text, without the LF of the last one: what stands behind it is none
 abbrev pub HasWholeLines : List ℕ → List ℕ → Type 0
 HasWholeLines text whole =

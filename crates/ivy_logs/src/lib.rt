@@ -6,7 +6,8 @@
 //! node was killed while it wrote. By a line `TO sum I SUM` node I tells another one that sum.
 //!
 //! A log of own code begins with `ivy own` in place of `ivy log`, and has besides what the node's code called and was
-//! answered: `call CALL`, and then `done CALL`, `value X CALL` or `refused C CALL`.
+//! answered: `call CALL`, and then `done CALL`, `value X CALL` or `refused C CALL`. And it has the pages that the code
+//! had fetched ahead: `fetch read P` or `fetch write P`, which is the turn too in which the node asked for the page.
 //!
 //! Numbers in brackets, as `[1, 20]`, are those of the faults that a call may answer.
 //!

@@ -13,9 +13,9 @@ ghost use Rattle.ivy_moves.specs.Events as events;
 ghost use Rattle.ivy_calls.specs.declared.Answer.{Answer};
 ghost use Rattle.ivy_texts.specs.Spelled.{worded, BeginsWith};
 ghost use Rattle.ivy_logs.specs.Entries.{HasSum, answers_in, SpellsAnswered, SpellsDid, SpellsEntry, SpellsIn, SpellsLog};
-ghost use Rattle.ivy_logs.specs.Faults.{IsFaultAmong, IsFaultOfLog, IsHead, IsByte, IsEntry, IsEvent, IsNoCall, IsReply, SpellsNone};
+ghost use Rattle.ivy_logs.specs.Faults.{HandsNothing, IsFaultAmong, IsFaultOfLog, IsHead, IsByte, IsEntry, IsEvent, IsReply, SpellsNone};
 ghost use Rattle.ivy_logs.specs.declared.log.LogHead.{LogHead};
-ghost use Rattle.ivy_logs.specs.Spelled.{log_word, IsManagerWord, HasWholeLines, MayHaveSum, SpellsConfig, SpellsFirst, SpellsHead, SpellsNode, SpellsEvent};
+ghost use Rattle.ivy_logs.specs.Spelled.{fetch_word, log_word, IsManagerWord, HasWholeLines, MayHaveSum, SpellsConfig, SpellsFirst, SpellsHead, SpellsNode, SpellsEvent};
 ghost use Rattle.ivy_logs.specs.Entries as entries;
 ghost use Rattle.ivy_logs.specs.Digits.{IsHalf};
 ghost use Rattle.hex.specs.Hex.{decode_of, decode_pairs};
@@ -98,6 +98,8 @@ pub enum LogEntry<B> {
     Asked(Call),
     /// The call was answered.
     Answered(Answer),
+    /// Its code had a page fetched ahead, to read or to write, and the node asked for it in a turn.
+    Fetched { page: u32, write: bool },
 }
 
 /// What a digit stands for, in either case, or more than that.
@@ -274,13 +276,43 @@ fn asked<A: Allocator>(words: &[&str]) -> Option<LogEntry<Bytes<A>>>
     Some(LogEntry::Asked(parse_call(words)?))
 }
 
+/// What a page is fetched ahead for, by its word: whether to write.
+fn parse_access(word: &str) -> Option<bool>
+    ensures named { IfSome result (λ write. word.now ≡ fetch_word write) }
+    ensures none { IfNone result ((write : Bool) → ¬ (word.now ≡ fetch_word write)) }
+{
+    match word {
+        "read" => Some(false),
+        "write" => Some(true),
+        _ => None,
+    }
+}
+
+/// A page that is fetched ahead, which words name after the first.
+fn fetched<A: Allocator>(words: &[&str]) -> Option<LogEntry<Bytes<A>>>
+    ensures spelled { IfSome result (SpellsEntry (codes "fetch" ∷ map (λ w. w.now) words.now)) }
+    ensures none { IfNone result ((e : entries.LogEntry) → IsEntry e → ¬ SpellsEntry (codes "fetch" ∷ map (λ w. w.now) words.now) e) }
+{
+    // for the proof: each number of words but two has its own arm.
+    match *words {
+        [] => None,
+        [_] => None,
+        [access, page] => {
+            let write = parse_access(access)?;
+            let page = parse_size(page)?;
+            Some(LogEntry::Fetched { page, write })
+        }
+        _ => None,
+    }
+}
+
 /// An event of the node, or what it was answered, where words are that [1].
 fn parse_came<A: Allocator + Copy>(
     alloc: A,
     words: &[&str],
 ) -> Result<Option<LogEntry<Bytes<A>>>, Fault>
     ensures spelled { IfOk result (λ o. IfSome o (SpellsEntry (map (λ w. w.now) words.now))) }
-    ensures none { IfOk result (λ o. IfNone o ((e : entries.LogEntry) → IsEntry e → IsNoCall e → ¬ SpellsEntry (map (λ w. w.now) words.now) e)) }
+    ensures none { IfOk result (λ o. IfNone o ((e : entries.LogEntry) → IsEntry e → HandsNothing e → ¬ SpellsEntry (map (λ w. w.now) words.now) e)) }
     ensures memory { IsOkUnless result Fault.Memory }
 {
     if let Some(answer) = parse_answer(words) {
@@ -303,6 +335,7 @@ fn parse_any<A: Allocator + Copy>(
 {
     match words.split_first() {
         Some((&"call", call)) => Ok(asked(call)),
+        Some((&"fetch", page)) => Ok(fetched(page)),
         _ => parse_came(alloc, words),
     }
 }

@@ -1,7 +1,7 @@
 //! What is written of frames and of logs.
 ghost use Rattle.std.specs.Prelude.{◌≡◌, ◌++◌, OnOk, flat_map, string_bytes};
 ghost use Rattle.ivy_logs.specs.Entries.{entry_line};
-ghost use Rattle.ivy_logs.specs.Spelled.{manager_word};
+ghost use Rattle.ivy_logs.specs.Spelled.{fetch_word, manager_word};
 ghost use Rattle.ivy_logs.specs.Printed.{event_line, first_line, frame_line, head_line, head_line_of_run, log_text, log_text_of_run, node_text, sum_end};
 
 use crate::log::{LogEntry, LogHead, LogKind};
@@ -120,6 +120,13 @@ pub fn push_event<A: Allocator + Copy>(
     }
 }
 
+/// The word of what a page is fetched ahead for.
+fn fetch_word(write: bool) -> &'static str
+    ensures { result.now ≡ fetch_word write }
+{
+    if write { "write" } else { "read" }
+}
+
 /// Writes the line of an entry behind a text. Err only where the allocator has no memory.
 pub fn push_entry<A: Allocator + Copy>(
     alloc: A,
@@ -137,6 +144,10 @@ pub fn push_entry<A: Allocator + Copy>(
             ReplyText(answer.reply),
             CallText(answer.call)
         ),
+        LogEntry::Fetched { page, write } => {
+            let access = fetch_word(*write);
+            writeln!(text, "fetch {access} {}", Decimal(u64::from(*page)))
+        }
     }
 }
 

@@ -1,35 +1,36 @@
--- A node with own code goes on by events, calls and answers, whose lines it notes and writes.
-use Rattle.std.proofs.Common.{◌≡◌, ℕ, ◌+◌, ◌<◌, ◌≤◌, List, [], ◌∷◌, ◌++◌, length, take, Option, Some, None, false, Result, Ok, Err, IfOk, map, refl, sym, ap, subst, ◌∙◌, append-nil, append_assoc, arith}
+-- A node with own code goes on by events, calls, pages fetched ahead and answers, whose lines it notes and writes.
+use Rattle.std.proofs.Common.{◌≡◌, ℕ, ◌+◌, ◌<◌, ◌≤◌, Bool, List, [], ◌∷◌, ◌++◌, length, take, Option, Some, None, false, Result, Ok, Err, IfOk, map, refl, sym, ap, subst, ◌∙◌, append-nil, append_assoc, arith}
 use mathlib.Core.Bool.{true≢false}
 use Rattle.std.specs.Option.{is_some}
 use Rattle.std.specs.Io.KnownBytes.{Appends}
 use Rattle.std.proofs.KnownBytes.{Appends-nil, Appends-trans}
-use Rattle.std.proofs.lemmas.List.{length-append, map-append, take_all}
+use Rattle.std.proofs.lemmas.List.{length-append, take_all}
 use Rattle.std.proofs.lemmas.List.Concat.{flat_map-append}
 use Rattle.ivy_model.specs.declared.Call.{Call}
 use Rattle.ivy_model.specs.declared.Record.{Record}
 use Rattle.ivy_model.specs.declared.Reply.{Reply}
 use Rattle.ivy_calls.specs.declared.Answer.{Answer}
-use Rattle.ivy_calls.specs.Answers.{answers}
 use Rattle.ivy_moves.specs.Events.{Event}
 use Rattle.ivy_moves.specs.Marks.{marks}
+use Rattle.ivy_program.specs.stated.InstructionSteps.{Process}
 use Rattle.ivy_program.specs.stated.Programs.{Program}
-use Rattle.ivy_program.specs.Programs.{handed, one_by_one}
-use Rattle.ivy_host.proofs.HandedHosts.{handed_none}
-use Rattle.ivy_logs.specs.declared.log.LogEntry.TheVariants.{Did, Asked, Answered}
-use Rattle.ivy_logs.specs.Entries.{LogEntry, answer_in, answers_in, call_in, calls_in, entry_line, event_in, events_in, entry_lines}
+use Rattle.ivy_logs.specs.declared.log.LogEntry.TheVariants.{Did, Asked, Answered, Fetched}
+use Rattle.ivy_logs.specs.Entries.{LogEntry, answer_in, answers_in, entry_line, event_in, events_in, entry_lines}
 use Rattle.ivy_logs.specs.Printed.{event_line}
 use Rattle.ivy_logs.proofs.Entries.{marks-append}
+use Rattle.ivy_site.specs.Handed.{site_fetching}
 use Rattle.ivy_site.specs.SiteView.{SiteView}
+use Rattle.ivy_join.specs.Calls.{handed_by_log}
 use Rattle.ivy_join.specs.ReplaySites.{program_in, AddsRecords}
 use Rattle.ivy_join.specs.Remade.{IsAnsweredLast, StandFirst}
 use Rattle.ivy_join.proofs.Answered.{adds-further, adds-none, first-all, first-and-last, first-longer, first-whole}
-use Rattle.ivy_join.proofs.Entries.{handed-further}
+use Rattle.ivy_join.proofs.Calls.{by-further}
+use Rattle.ivy_join.proofs.EventSteps.{turn-listed}
 use Rattle.ivy_process.specs.declared.failure.NodeFailure.{NodeFailure}
 use Rattle.ivy_process.specs.declared.past.Recalled.{Recalled}
 use Rattle.ivy_process.specs.declared.past.Recalled.TheVariants.{Known, Open, New}
-use Rattle.ivy_process.specs.NodeLogs.{Served, lines_of, AddsEvents, KeepsCalls, StreamsPart, StreamsWhole}
-use Rattle.ivy_process.specs.OwnNodes.{Begun, begun, HasResumed, HasWorked, IsRecalled, NotesAnswer, NotesCall, OwnStreams, Replies, RepliesFrom, Resumes, ResumesUnless}
+use Rattle.ivy_process.specs.NodeLogs.{Served, lines_of, AddsEvents, StreamsPart, StreamsWhole}
+use Rattle.ivy_process.specs.OwnNodes.{Begun, begun, HasResumed, HasWorked, IsRecalled, NotesAnswer, NotesCall, NotesFetch, OwnStreams, Replies, RepliesFrom, Resumes, ResumesUnless}
 use Rattle.ivy_process.proofs.Logged.{streams-begin}
 
 did-events : (events : List Event) → events_in (map Did events) ≡ events
@@ -40,9 +41,9 @@ did-answers : (events : List Event) → answers_in (map Did events) ≡ []
 did-answers [] = refl
 did-answers (e ∷ es) = did-answers es
 
-did-calls : (events : List Event) → calls_in (map Did events) ≡ []
-did-calls [] = refl
-did-calls (e ∷ es) = did-calls es
+did-handed : (events : List Event) (p : Program) → handed_by_log (map Did events) p ≡ p
+did-handed [] p = refl
+did-handed (e ∷ es) p = did-handed es p
 
 did-lines : (events : List Event) → entry_lines (map Did events) ≡ lines_of events
 did-lines [] = refl
@@ -54,8 +55,7 @@ pub streams-own : (past : List LogEntry) (b d : Served) (log log' : Option (List
 streams-own past b d log log' x = record {
   entries = map Did x.events;
   answers = did-answers x.events;
-  called = x.kept.program ∙ sym (handed_none (program_in b.site))
-      ∙ ap (λ l. handed (one_by_one l) (program_in b.site)) (sym (did-calls x.events));
+  handed = x.kept.program ∙ sym (did-handed x.events (program_in b.site));
   answered = x.kept.answered;
   listed = x.listed ∙ ap (λ l. b.site.events ++ marks l) (sym (did-events x.events));
   part = x.part;
@@ -69,13 +69,27 @@ pub called-own : (past : List LogEntry) (call : Call) (b d : Served) (log : Opti
 called-own past call b d log n = record {
   entries = Asked call ∷ [];
   answers = refl;
-  called = ap program_in n.made;
+  handed = ap program_in n.made;
   answered = adds-none b.site.node.core.history d.site.node.core.history
       (ap (λ (x : SiteView). x.node.core.history) n.made);
   listed = ap (λ (x : SiteView). x.events) n.made ∙ sym (append-nil b.site.events);
   part = [];
   written = Appends-nil log;
   all = n.noted ∙ ap (λ l. b.unlogged ++ l) (sym (append-nil (entry_line (Asked call))));
+}
+
+-- a page that is fetched ahead
+pub fetched-own : (past : List LogEntry) (page : ℕ) (write : Bool) (b d : Served) (log : Option (List ℕ))
+    → NotesFetch page write b d → OwnStreams (begun past b log) d log []
+fetched-own past page write b d log n = record {
+  entries = Fetched page write ∷ [];
+  answers = refl;
+  handed = ap (λ (p : Process). p.program) n.begins.process;
+  answered = adds-none b.site.node.core.history d.site.node.core.history n.begins.recorded;
+  listed = turn-listed (site_fetching page write b.site) d.site n.begins.turns;
+  part = [];
+  written = Appends-nil log;
+  all = n.noted ∙ ap (λ l. b.unlogged ++ l) (sym (append-nil (entry_line (Fetched page write))));
 }
 
 -- an answer
@@ -86,7 +100,7 @@ answered-own past count call reply b d log n =
     let entry : LogEntry = Answered (record { call = call; reply = reply }) in record {
       entries = entry ∷ [];
       answers = refl;
-      called = ap program_in n.same ∙ sym (handed_none (program_in b.site));
+      handed = ap program_in n.same;
       answered = adds-none b.site.node.core.history d.site.node.core.history
           (ap (λ (x : SiteView). x.node.core.history) n.same);
       listed = ap (λ (x : SiteView). x.events) n.same ∙ sym (append-nil b.site.events);
@@ -103,11 +117,7 @@ own-further from past b d log log' told more x y = record {
   entries = x.entries ++ y.entries;
   answers = flat_map-append answer_in x.entries y.entries
       ∙ ap (λ l. l ++ answers_in y.entries) x.answers ∙ ap (λ l. told ++ l) y.answers;
-  called = y.called ∙ ap (handed (one_by_one (calls_in y.entries))) x.called
-      ∙ handed-further (one_by_one (calls_in x.entries)) (one_by_one (calls_in y.entries)) from.program
-      ∙ ap (λ l. handed l from.program)
-      (sym (map-append (λ (call : Call). call ∷ []) (calls_in x.entries) (calls_in y.entries)))
-      ∙ ap (λ l. handed (one_by_one l) from.program) (sym (flat_map-append call_in x.entries y.entries));
+  handed = y.handed ∙ ap (handed_by_log y.entries) x.handed ∙ by-further x.entries y.entries from.program;
   answered = adds-further from.history b.site.node.core.history d.site.node.core.history x.answered y.answered;
   listed = y.listed ∙ ap (λ l. l ++ marks (events_in y.entries)) x.listed
       ∙ append_assoc from.events (marks (events_in x.entries)) (marks (events_in y.entries))
@@ -308,7 +318,7 @@ has-worked done past count old mid new log log' log'' told out x y long did =
     record {
       entries = z.entries;
       listed = z.listed;
-      called = z.called;
+      handed = z.handed;
       answered = λ said.
           first-whole (answers_in past ++ x.fresh) new.site.node.core.history
           (first-longer (answers_in past ++ x.fresh) mid.site.node.core.history new.site.node.core.history

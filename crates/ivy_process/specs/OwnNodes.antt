@@ -1,34 +1,38 @@
--- A node with own code in a process: what it did, called and was answered, and what its log has of that.
-use Rattle.std.specs.Prelude.{◌≡◌, ◌+◌, ◌<◌, ◌≤◌, ℕ, List, [], ◌∷◌, ◌++◌, length, take, Option, Some, None}
+-- A node with own code in a process: what it did, called, had fetched ahead and was answered, and
+-- what its log has of that.
+use Rattle.std.specs.Prelude.{◌≡◌, ◌+◌, ◌<◌, ◌≤◌, ℕ, Bool, List, [], ◌∷◌, ◌++◌, length, take, Option, Some, None}
 use Rattle.std.specs.Io.KnownBytes.{Appends}
 use Rattle.ivy_model.specs.declared.Call.{Call}
 use Rattle.ivy_model.specs.declared.Record.{Record}
 use Rattle.ivy_model.specs.declared.Reply.{Reply}
 use Rattle.ivy_calls.specs.declared.Answer.{Answer}
 use Rattle.ivy_calls.specs.Answers.{answers}
-use Rattle.ivy_logs.specs.declared.log.LogEntry.TheVariants.{Asked, Answered}
+use Rattle.ivy_logs.specs.declared.log.LogEntry.TheVariants.{Asked, Answered, Fetched}
 use Rattle.ivy_logs.specs.declared.log.LogHead.{LogHead}
 use Rattle.ivy_logs.specs.Entries.{LogEntry, answers_in, calls_in, entry_line, events_in, entry_lines}
+use Rattle.ivy_site.specs.Calls.{BeginsFetch}
 use Rattle.ivy_site.specs.Handed.{site_handed}
 use Rattle.ivy_site.specs.Sites.{IsMadeByEvents}
+use Rattle.ivy_join.specs.Calls.{handed_by_log}
 use Rattle.ivy_join.specs.Joined.{opening_by}
+use Rattle.ivy_join.specs.OwnJoined.{program_by}
 use Rattle.ivy_join.specs.ReplaySites.{program_in, AddsRecords}
 use Rattle.ivy_join.specs.Remade.{IsAnsweredLast, StandFirst}
 use Rattle.ivy_moves.specs.Marks.{Mark, marks}
-use Rattle.ivy_program.specs.stated.Programs.{Called, Program}
-use Rattle.ivy_program.specs.Programs.{handed, one_by_one}
+use Rattle.ivy_program.specs.stated.Programs.{Program}
 use Rattle.ivy_process.specs.declared.failure.NodeFailure.{NodeFailure}
 use Rattle.ivy_process.specs.declared.past.Recalled.{Recalled}
 use Rattle.ivy_process.specs.declared.past.Recalled.TheVariants.{Known, Open, New}
 use Rattle.ivy_process.specs.NodeLogs.{Served}
 
--- the node of this log is what the events of it make of it, its code has made the calls in it and was answered
--- first what it says, and the log lacks no line; the node may make so many turns more
+-- the node of this log is what the events of it make of it, its code has made the calls in it, had
+-- its pages fetched ahead and was answered first what it says, and the log lacks no line; the node
+-- may make so many turns more
 pub record IsOpened (head : LogHead) (log : List LogEntry) (turns : ℕ) (new : Served) : Type 0 where
   pub config : new.site.config ≡ head.config
   pub opened : new.site.opened ≡ opening_by head.steady
   pub number : new.site.me ≡ head.me
-  pub runs : program_in new.site ≡ Called (one_by_one (calls_in log)) []
+  pub runs : program_in new.site ≡ program_by log
   pub events : new.site.events ≡ marks (events_in log)
   pub told : StandFirst (answers_in log) new.site.node.core.history
   pub made : IsMadeByEvents new.site
@@ -39,6 +43,13 @@ pub record IsOpened (head : LogHead) (log : List LogEntry) (turns : ℕ) (new : 
 pub record NotesCall (call : Call) (old new : Served) : Type 0 where
   pub made : new.site ≡ site_handed ((call ∷ []) ∷ []) old.site
   pub noted : new.unlogged ≡ old.unlogged ++ entry_line (Asked call)
+
+-- the node's code had the page fetched ahead, in one of the turns that the node may make, and its
+-- line is noted
+pub record NotesFetch (page : ℕ) (write : Bool) (old new : Served) : Type 0 where
+  pub begins : BeginsFetch page write old.site new.site
+  pub noted : new.unlogged ≡ old.unlogged ++ entry_line (Fetched page write)
+  pub left : new.left + 1 ≡ old.left
 
 -- after so many answers the node's code had this one, to this call, and its line is noted
 pub record NotesAnswer (count : ℕ) (call : Call) (reply : Reply) (old new : Served) : Type 0 where
@@ -82,14 +93,14 @@ begun past s log = record {
   log = log;
 }
 
--- from there the node went on by entries, of which these are the answers, and its code made the calls of them, and no
--- other one: what was written behind the log, and what it lacks now, are what it lacked before, and the lines of the
--- entries
+-- from there the node went on by entries, of which these are the answers, and its code made the
+-- calls of them and had their pages fetched ahead, and no other ones: what was written behind the
+-- log, and what it lacks now, are what it lacked before, and the lines of the entries
 pub record OwnStreams (from : Begun) (new : Served) (log : Option (List ℕ)) (told : List Answer) : Type 0
   where
     pub entries : List LogEntry
     pub answers : answers_in entries ≡ told
-    pub called : program_in new.site ≡ handed (one_by_one (calls_in entries)) from.program
+    pub handed : program_in new.site ≡ handed_by_log entries from.program
     pub answered : AddsRecords from.history new.site.node.core.history
     pub listed : new.site.events ≡ from.events ++ marks (events_in entries)
     pub part : List ℕ
@@ -139,14 +150,15 @@ pub record HasResumed (from : Begun) (count : ℕ) (new : Served) (log : Option 
   pub first : StandFirst (answers_in from.past) from.history
       → StandFirst (answers_in from.past ++ fresh) new.site.node.core.history
 
--- by what the log says that the node was answered, before and since, its work has done what it had to, and given
--- this; behind the log was written what it lacked, and the lines of all that the node did, called and was answered
--- since: its events are those, its code made these calls, and it was answered what the log says, and nothing else
+-- by what the log says that the node was answered, before and since, its work has done what it had
+-- to, and given this; behind the log was written what it lacked, and the lines of all that the node
+-- did, called, had fetched ahead and was answered since: its events are those, its code handed
+-- that, and it was answered what the log says, and nothing else
 pub record HasWorked {Out : Type 0} (done : ℕ → List Answer → Out → Type 0) (past : List LogEntry)
     (old new : Served) (log log' : Option (List ℕ)) (out : Out) : Type 0 where
   pub entries : List LogEntry
   pub listed : new.site.events ≡ old.site.events ++ marks (events_in entries)
-  pub called : program_in new.site ≡ handed (one_by_one (calls_in entries)) (program_in old.site)
+  pub handed : program_in new.site ≡ handed_by_log entries (program_in old.site)
   pub answered : StandFirst (answers_in past) old.site.node.core.history
       → answers new.site.node.core.history ≡ answers_in (past ++ entries)
   pub written : Appends log log' (old.unlogged ++ entry_lines entries)

@@ -1,5 +1,5 @@
 //! A node that notes each event that it makes in lines for its log.
-ghost use Rattle.std.specs.Prelude.{◌≡◌, ◌↔◌, ◌++◌, ◌<◌, [], length, IfOk, IsTrue, None, OnOk};
+ghost use Rattle.std.specs.Prelude.{◌≡◌, ◌↔◌, ◌++◌, ◌<◌, [], length, IfOk, IsTrue, MatchBool, None, OnOk};
 ghost use Rattle.std.specs.Io.KnownBytes.{Appends};
 ghost use Rattle.ivy_model.specs.stated.Config.{IsConfig};
 ghost use Rattle.ivy_model.specs.stated.Legal.{HasWidth};
@@ -11,7 +11,7 @@ ghost use Rattle.ivy_host.specs.declared.opening.Opening.TheVariants.{Configured
 ghost use Rattle.ivy_site.specs.Sites.{first_keeping, first_opened, GoesAsFar};
 ghost use Rattle.ivy_join.specs.Remade.{IsAnsweredLast};
 ghost use Rattle.ivy_process.specs.NodeLogs.{head_of, is_steady, AddsEvents, IsEmptied, IsLogged, IsMadeAgain, IsRestarted, Takes, TakesLine, served, value_lines};
-ghost use Rattle.ivy_process.specs.OwnNodes.{IsOpened, NotesAnswer, NotesCall};
+ghost use Rattle.ivy_process.specs.OwnNodes.{IsOpened, NotesAnswer, NotesCall, NotesFetch};
 
 use crate::failure::NodeFailure;
 use crate::limits::{NodeLimits, Untaken};
@@ -137,9 +137,9 @@ impl Node {
         Node::at_beginning(alloc, site, limits)
     }
 
-    /// The node with own code of this log, as it was when its log ended; where that has no entry, it has made no call yet.
-    /// It is what the events of the log make of it, and its code has made the calls of the log. Nothing that the events sent
-    /// is sent again, but for what pulses bring.
+    /// The node with own code of this log, as it was when its log ended; where that has no entry, it has made no call
+    /// yet. It is what the events of the log make of it, and its code has made the calls of the log and had its pages
+    /// fetched ahead. Nothing that the events sent is sent again, but for what pulses bring.
     pub fn open(alloc: Global, log: &Log<Global>, limits: NodeLimits) -> Result<Node, NodeFailure>
         requires limits { IsConfig log.now.head.config }
         requires here { log.now.head.me < log.now.head.config.nodes }
@@ -302,7 +302,7 @@ impl Node {
         Some(frame.source)
     }
 
-    /// Notes what the node did, called or was answered.
+    /// Notes what the node did, called, had fetched ahead or was answered.
     fn note(&mut self, entry: LogEntry<Bytes<Global>>) -> Result<(), NodeFailure>
         ensures { OnOk result (self.new ≡ served self.old.site (self.old.unlogged ++ entry_line entry) self.old.left self.old.told) }
     {
@@ -585,6 +585,22 @@ impl Node {
         }
         self.site.hand(call)?;
         self.note(LogEntry::Asked(call))
+    }
+
+    /// Its code has a page fetched ahead, to read or to write, in one of its turns, which is noted. It says whether the
+    /// node asks for the page; else nothing is done, as by `Site::fetch`.
+    pub fn fetch(&mut self, page: u32, write: bool) -> Result<bool, NodeFailure>
+        ensures { IfOk result (λ begun. MatchBool begun (NotesFetch page write self.old self.new) (self.new ≡ self.old)) }
+    {
+        if self.left == 0 {
+            return Err(NodeFailure::Refused(Fault::TurnLimit));
+        }
+        let begun = self.site.fetch(page, write)?;
+        if begun {
+            self.left -= 1;
+            self.note(LogEntry::Fetched { page, write })?;
+        }
+        Ok(begun)
     }
 
     /// How many calls of its code were answered.

@@ -32,6 +32,8 @@ pub(crate) fn recall(
     for at in place..entries.len() {
         match &entries[at] {
             LogEntry::Did(_) => {}
+            // A page that is fetched ahead has no answer.
+            LogEntry::Fetched { .. } => {}
             LogEntry::Asked(other) if *other == call => is_asked = true,
             LogEntry::Answered(answer) if answer.call == call => {
                 return Ok(Recalled::Known {
@@ -55,9 +57,11 @@ pub(crate) fn check_told(entries: &[LogEntry<Bytes<Global>>], place: usize) -> R
     ensures { OnOk result (answers_in entries.now ≡ answers_in (take place entries.now)) }
 {
     for at in place..entries.len() {
-        let LogEntry::Did(_) = &entries[at] else {
-            return Err(at);
-        };
+        match &entries[at] {
+            LogEntry::Did(_) => {}
+            LogEntry::Fetched { .. } => {}
+            LogEntry::Asked(_) | LogEntry::Answered(_) => return Err(at),
+        }
     }
     Ok(())
 }

@@ -43,10 +43,11 @@ open_in number joined = open_line number (is_whole joined.0 joined.1)
 abbrev pub all_open_in : List (List LogEntry) → List SiteView → List ℕ
 all_open_in logs sites = numbered_texts open_in 0 (zip logs sites)
 
--- logs of own code, each as some text spells it, were joined: they are the parts of one run of the programs that the
--- calls in them are, and each node was answered in it what its log says. How many calls of each node were answered was
--- printed, and then which nodes have a call in progress, or lack an answer in their log. Where no node was named so,
--- one flat memory could have given the answers in the logs
+-- logs of own code, each as some text spells it, were joined: they are the parts of one run of the
+-- programs that the calls and the fetches in them are, and each node was answered in it what its
+-- log says. How many calls of each node were answered was printed, and then which nodes have a call
+-- in progress, or lack an answer in their log. Where no node was named so, one flat memory could
+-- have given the answers in the logs
 pub record PrintsOwnJoined (old new : Option (List ℕ)) : Type 0 where
   pub steady : Bool
   pub config : Config

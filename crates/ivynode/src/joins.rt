@@ -3,7 +3,7 @@ ghost use Rattle.std.specs.Prelude.{◌≡◌, ◌<◌, ◌++◌, length, map, s
 ghost use Rattle.std.specs.List.{All};
 ghost use Rattle.std.specs.Io.KnownBytes.{Appends};
 ghost use Rattle.ivy_simulation.specs.Nodes.{outputs_text};
-ghost use Rattle.ivy_join.specs.Calls.{HaveNoCalls};
+ghost use Rattle.ivy_join.specs.Calls.{HandNothing};
 ghost use Rattle.ivynode.specs.Joined.{AreOfNoRun, AreRefused, AreSpelled, IsNoRun, IsSpelled, PrintsJoined, PrintsRun, outputs_in, ends_in};
 ghost use Rattle.ivynode.specs.OwnJoined.{PrintsOwnJoined, all_answered_in, all_open_in, answered_line, is_whole, open_line};
 
@@ -157,7 +157,8 @@ fn print_joined<W: Write>(joined: &Joined<Global>, out: &mut W) -> io::Result<()
 
 /// Joins logs, which stand in the order of their nodes, and prints what the programs printed.
 ///
-/// The failure says of logs without calls that they are not the parts of a run only where they are the parts of none.
+/// The failure says of logs without calls and fetches that they are not the parts of a run only where they are the
+/// parts of none.
 fn join_logs<W: Write>(
     alloc: Global,
     programs: Vec<Program<Global>>,
@@ -165,7 +166,7 @@ fn join_logs<W: Write>(
     out: &mut W,
 ) -> Result<(), Failure>
     ensures joined { OnOk result (PrintsRun programs.items (map (λ l. l.head) logs.now) (map (λ l. l.entries.items) logs.now) (W.contents out.old) (W.contents out.new)) }
-    ensures refused { IfErr result (λ why. IsNoRun why → HaveNoCalls (map (λ l. l.entries.items) logs.now) → AreOfNoRun programs.items (map (λ l. l.head) logs.now) (map (λ l. l.entries.items) logs.now)) }
+    ensures refused { IfErr result (λ why. IsNoRun why → HandNothing (map (λ l. l.entries.items) logs.now) → AreOfNoRun programs.items (map (λ l. l.head) logs.now) (map (λ l. l.entries.items) logs.now)) }
 {
     let Some(first) = logs.first() else {
         return Err(Failure::Unjoined(Unjoined::Missing(0)));

@@ -3,7 +3,7 @@ use Rattle.std.proofs.lemmas.List.{map-append, take_more}
 use Rattle.ivy_model.specs.declared.Call.{Call}
 use Rattle.ivy_model.specs.declared.Record.{Record}
 use Rattle.ivy_model.specs.declared.Reply.{Reply}
-use Rattle.ivy_logs.specs.declared.log.LogEntry.TheVariants.{Did, Asked, Answered}
+use Rattle.ivy_logs.specs.declared.log.LogEntry.TheVariants.{Did, Asked, Answered, Fetched}
 use Rattle.ivy_calls.specs.Answers.{answer, answers}
 use Rattle.ivy_calls.specs.declared.Answer.{Answer}
 use Rattle.ivy_logs.specs.Entries.{LogEntry, answer_in}
@@ -14,6 +14,7 @@ no-answer : (entry : LogEntry) → ((x : Answer) → entry ≡ Answered x → �
 no-answer (Did event) apart = refl
 no-answer (Asked call) apart = refl
 no-answer (Answered x) apart = absurd (apart x refl)
+no-answer (Fetched page write) apart = refl
 
 same-answer : (r : Record) (a : Answer) → r.call ≡ a.call → r.reply ≡ a.reply → answer r ≡ a
 same-answer r a calls replies =

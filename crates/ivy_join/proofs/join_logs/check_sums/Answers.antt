@@ -1,4 +1,4 @@
-use Rattle.std.proofs.Common.{rules, arith, ◌≡◌, ◌≤◌, All, length, map, slice_get, take, Some, refl, sym, ap, subst, ◌∙◌}
+use Rattle.std.proofs.Common.{rules, arith, ◌≡◌, ◌≤◌, All, length, map, slice_get, Some, refl, sym, ap, subst, ◌∙◌}
 use Rattle.std.proofs.lemmas.List.{length-map, take_all}
 use Rattle.ivy_join.specs.Joined.{NamesSum}
 use Rattle.ivy_join.proofs.Named.{head-there, names-more, names-none, other-sum}

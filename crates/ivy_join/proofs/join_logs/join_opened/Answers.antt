@@ -7,8 +7,8 @@ use Rattle.ivy_moves.specs.declared.keep.Keep.TheVariants.{Nothing}
 use Rattle.ivy_moves.specs.Marks.{marks}
 use Rattle.ivy_logs.specs.Entries.{events_in}
 use Rattle.ivy_logs.specs.Sums.{sum_opened}
-use Rattle.ivy_join.specs.Calls.{with_calls}
-use Rattle.ivy_join.proofs.Calls.{written-calls}
+use Rattle.ivy_join.specs.Calls.{handed_by_logs}
+use Rattle.ivy_join.proofs.Calls.{written-by-logs}
 use Rattle.ivy_join.specs.Exact.{HaveSent}
 use Rattle.ivy_join.specs.ReplaySites.{ArePlayed}
 use Rattle.ivy_join.specs.Joined.{AreJoined, AreNoParts, NamesSum, SaysNoParts}
@@ -81,10 +81,10 @@ returns-clause-joined g c =
     (subst (AreJoined c.args.config c.opening_by-opening.result c.args.programs.items _) (sym c.new.ensures)
     (joined c.args.config c.opening_by-opening.result c.args.programs.items c.play.new.sites.items c.play.new.sent _
     c.in_ok-play.ensures.played
-    (c.in_ok-play.ensures.called
-    ∙ ap (with_calls (map (λ (x : Log g.row.A.Denot). x.entries.items) c.args.logs.now))
+    (c.in_ok-play.ensures.handed
+    ∙ ap (handed_by_logs (map (λ (x : Log g.row.A.Denot). x.entries.items) c.args.logs.now))
     (first_programs c.opening_by-opening.result Nothing c.args.config c.args.programs.items c.in_ok-sites.sites.items limits each first)
-    ∙ written-calls (map (λ (x : Log g.row.A.Denot). x.entries.items) c.args.logs.now) c.args.programs.items
+    ∙ written-by-logs (map (λ (x : Log g.row.A.Denot). x.entries.items) c.args.logs.now) c.args.programs.items
     c.in_ok-sites.ensures.written)
     (length-map c.args.logs.now _ ∙ c.in_ok-check_all_heads.ensures.count ∙ sym began.count
     ∙ sym c.in_ok-play.ensures.count)

@@ -5,10 +5,10 @@ use Rattle.ivy_model.specs.stated.Config.{IsConfig}
 use Rattle.ivy_moves.specs.declared.keep.Keep.TheVariants.{History}
 use Rattle.ivy_program.specs.stated.Programs.{Called}
 use Rattle.ivy_world.specs.HandedWorlds.{own_code}
-use Rattle.ivy_join.specs.Calls.{with_calls}
+use Rattle.ivy_join.specs.Calls.{handed_by_logs}
 use Rattle.ivy_join.specs.Exact.{HaveSent}
 use Rattle.ivy_join.specs.ReplaySites.{ArePlayed}
-use Rattle.ivy_join.proofs.Calls.{own-calls}
+use Rattle.ivy_join.proofs.Calls.{own-by-logs}
 use Rattle.ivy_join.specs.Joined.{opening_by}
 use Rattle.ivy_join.specs.OwnJoined.{AreOwnJoined, AreTold}
 use Rattle.ivy_join.proofs.Ended.{first-played, first_programs, first-sent, nothing}
@@ -65,12 +65,12 @@ returns-clause-joined g c =
     (subst (AreOwnJoined c.args.config c.opening_by-opening.result (map (λ l. l.entries.items) c.args.logs.now)) (sym c.new.ensures)
     (own-joined _ c.args.config c.opening_by-opening.result c.args.logs.now c.play.new.sites.items c.play.new.sent
     c.in_ok-play.ensures.played
-    (c.in_ok-play.ensures.called
-    ∙ ap (with_calls (map (λ l. l.entries.items) c.args.logs.now))
+    (c.in_ok-play.ensures.handed
+    ∙ ap (handed_by_logs (map (λ l. l.entries.items) c.args.logs.now))
     (first_programs c.opening_by-opening.result History c.args.config (own_code c.args.config.nodes) c.in_ok-sites.sites.items limits
     (length-replicate c.args.config.nodes (Called [] [])) c.in_ok-sites.ensures.first
     ∙ ap own_code (sym c.in_ok-check_all_heads.ensures.count ∙ sym (length-map c.args.logs.now _)))
-    ∙ own-calls (map (λ l. l.entries.items) c.args.logs.now))
+    ∙ own-by-logs (map (λ l. l.entries.items) c.args.logs.now))
     (c.in_ok-check_all_heads.ensures.count ∙ sym began.count ∙ sym c.in_ok-play.ensures.count)
     c.in_ok-play.ensures.lists
     (subst (AreTold (map (λ l. l.entries.items) c.args.logs.now)) c.deref.ensures.value

@@ -5,9 +5,9 @@ use Rattle.ivy_world.specs.WorldSites.{programs_of}
 use Rattle.ivy_moves.specs.Marks.{marks}
 use Rattle.ivy_logs.specs.declared.log.Log.{Log}
 use Rattle.ivy_logs.specs.Entries.{events_in}
-use Rattle.ivy_join.specs.Calls.{HaveCalled, HaveNoCalls}
+use Rattle.ivy_join.specs.Calls.{HaveHanded, HandNothing}
 use Rattle.ivy_join.specs.ReplaySites.{program_in}
-use Rattle.ivy_join.proofs.Calls.{all-called, calls-begin, calls-then, have-none}
+use Rattle.ivy_join.proofs.Calls.{all-handed, hands-begin, hands-then, have-none}
 use Rattle.ivy_join.specs.Exact.{left_of, AreAllMade, AreMadeTo, IsOneLeft}
 use Rattle.ivy_join.specs.Joined.{AreNoParts, SaysNoParts}
 use Rattle.ivy_join.proofs.Counted.{lists-made, none-made}
@@ -35,7 +35,7 @@ returns-in_err-play_round-clause-refused g c =
     (have-none (map (λ (x : Log g.row.A.Denot). x.entries.items) c.args.logs.now) (replicate (length c.args.logs.now) 0)
     c.loop-made.made.items (programs_of c.args.sites.now.items) (programs_of c.loop-made.sites.items) none
     (zeros ∙ sym size) many (olds ∙ sym c.requires.logs ∙ sym size)
-    (length-map c.loop-made.sites.items program_in ∙ inv.count ∙ sym olds) inv.called)
+    (length-map c.loop-made.sites.items program_in ∙ inv.count ∙ sym olds) inv.handed)
     (c.in_err-play_round.ensures.refused (subst SaysNoParts p.2 told) none))
 
 pub loop-made-preserved : goal.loop-made-preserved
@@ -43,19 +43,19 @@ loop-made-preserved g c =
     let inv = c.loop-made.invariant in
     let p = c.in_ok-play_round.ensures.exact in record {
       played = c.in_ok-play_round.ensures.played;
-      called = subst (λ l. HaveCalled (map (λ (x : Log g.row.A.Denot). x.entries.items) c.args.logs.now)
+      handed = subst (λ l. HaveHanded (map (λ (x : Log g.row.A.Denot). x.entries.items) c.args.logs.now)
           (replicate (length c.args.logs.now) 0) l (programs_of c.args.sites.now.items)
           (programs_of c.play_round.new.sites.items))
           (sym (take_at c.play_round.new.made (drop (length c.play_round.new.made) c.loop-made.made.items)
           c.loop-made.made.len (c.play_round.auto.made ∙ c.deref_mut.ensures.len)))
-          (calls-then (map (λ (x : Log g.row.A.Denot). x.entries.items) c.args.logs.now) (replicate (length c.args.logs.now) 0)
+          (hands-then (map (λ (x : Log g.row.A.Denot). x.entries.items) c.args.logs.now) (replicate (length c.args.logs.now) 0)
           c.loop-made.made.items c.play_round.new.made (programs_of c.args.sites.now.items)
           (programs_of c.loop-made.sites.items) (programs_of c.play_round.new.sites.items)
           (length-replicate (length c.args.logs.now) 0 ∙ c.requires.logs ∙ sym c.loop-made.invariant.made
-          ∙ c.loop-made.made.ok.0) c.loop-made.invariant.called
-          (subst (λ l. HaveCalled (map (λ (x : Log g.row.A.Denot). x.entries.items) c.args.logs.now) l c.play_round.new.made
+          ∙ c.loop-made.made.ok.0) c.loop-made.invariant.handed
+          (subst (λ l. HaveHanded (map (λ (x : Log g.row.A.Denot). x.entries.items) c.args.logs.now) l c.play_round.new.made
           (programs_of c.loop-made.sites.items) (programs_of c.play_round.new.sites.items)) c.deref_mut.ensures.value
-          c.in_ok-play_round.ensures.called));
+          c.in_ok-play_round.ensures.handed));
       count = c.play_round.ensures.count ∙ inv.count;
       made = inv.made;
       have = p.have;
@@ -98,7 +98,7 @@ returns-clause-refused g c =
     ∙ sym (c.play_round.ensures.count ∙ c.loop-made.invariant.count) in
     let size = length-map c.args.logs.now (λ (x : Log g.row.A.Denot). x.entries.items) in
     let olds = length-map c.args.sites.now.items program_in in
-    let same : HaveNoCalls (map (λ (x : Log g.row.A.Denot). x.entries.items) c.args.logs.now)
+    let same : HandNothing (map (λ (x : Log g.row.A.Denot). x.entries.items) c.args.logs.now)
     → programs_of c.play_round.new.sites.items ≡ programs_of c.args.sites.now.items =
     (λ none. have-none (map (λ (x : Log g.row.A.Denot). x.entries.items) c.args.logs.now) (replicate (length c.args.logs.now) 0)
     c.play_round.new.made (programs_of c.args.sites.now.items) (programs_of c.play_round.new.sites.items) none
@@ -106,17 +106,17 @@ returns-clause-refused g c =
     (olds ∙ sym c.requires.logs ∙ sym size)
     (length-map c.play_round.new.sites.items program_in ∙ c.play_round.ensures.count
     ∙ c.loop-made.invariant.count ∙ sym olds)
-    (calls-then (map (λ (x : Log g.row.A.Denot). x.entries.items) c.args.logs.now) (replicate (length c.args.logs.now) 0)
+    (hands-then (map (λ (x : Log g.row.A.Denot). x.entries.items) c.args.logs.now) (replicate (length c.args.logs.now) 0)
     c.loop-made.made.items c.play_round.new.made (programs_of c.args.sites.now.items)
     (programs_of c.loop-made.sites.items) (programs_of c.play_round.new.sites.items)
     (length-replicate (length c.args.logs.now) 0 ∙ c.requires.logs ∙ sym c.loop-made.invariant.made
-    ∙ c.loop-made.made.ok.0) c.loop-made.invariant.called
-    (subst (λ l. HaveCalled (map (λ (x : Log g.row.A.Denot). x.entries.items) c.args.logs.now) l c.play_round.new.made
+    ∙ c.loop-made.made.ok.0) c.loop-made.invariant.handed
+    (subst (λ l. HaveHanded (map (λ (x : Log g.row.A.Denot). x.entries.items) c.args.logs.now) l c.play_round.new.made
     (programs_of c.loop-made.sites.items) (programs_of c.play_round.new.sites.items)) c.deref_mut.ensures.value
-    c.in_ok-play_round.ensures.called))) in
+    c.in_ok-play_round.ensures.handed))) in
     IfErr-weaker c.check_ends.result
     (λ why. IsOneLeft (map (λ (x : Log g.row.A.Denot). x.entries.items) c.args.logs.now) c.deref.result.now)
-    (λ why. SaysNoParts why → HaveNoCalls (map (λ (x : Log g.row.A.Denot). x.entries.items) c.args.logs.now)
+    (λ why. SaysNoParts why → HandNothing (map (λ (x : Log g.row.A.Denot). x.entries.items) c.args.logs.now)
     → AreNoParts c.args.config.now c.args.opening (programs_of c.args.sites.now.items)
     (map (λ (x : Log g.row.A.Denot). marks (events_in x.entries.items)) c.args.logs.now))
     (λ why left told none. subst (λ ps. AreNoParts c.args.config.now c.args.opening ps
@@ -130,8 +130,8 @@ returns-clause-refused g c =
 pub returns-in_err-made-clause-played : goal.returns-in_err-made-clause-played
 returns-in_err-made-clause-played g c = IfOk-from_err c.from_residual.result _ c.from_residual.ensures.0
 
-pub returns-in_err-made-clause-called : goal.returns-in_err-made-clause-called
-returns-in_err-made-clause-called g c = IfOk-from_err c.from_residual.result _ c.from_residual.ensures.0
+pub returns-in_err-made-clause-handed : goal.returns-in_err-made-clause-handed
+returns-in_err-made-clause-handed g c = IfOk-from_err c.from_residual.result _ c.from_residual.ensures.0
 
 pub returns-in_err-made-clause-lists : goal.returns-in_err-made-clause-lists
 returns-in_err-made-clause-lists g c = IfOk-from_err c.from_residual.result _ c.from_residual.ensures.0
@@ -148,9 +148,9 @@ pub loop-made-init : goal.loop-made-init
 loop-made-init g c =
     let zeros = c.in_ok-made.ensures.items_if_clones_equal (λ y same. same) in record {
       played = c.requires.played;
-      called = subst (λ ms. HaveCalled (map (λ (x : Log g.row.A.Denot). x.entries.items) c.args.logs.now) ms
+      handed = subst (λ ms. HaveHanded (map (λ (x : Log g.row.A.Denot). x.entries.items) c.args.logs.now) ms
           c.in_ok-made.made.items (programs_of c.args.sites.now.items) (programs_of c.args.sites.now.items)) zeros
-          (calls-begin (map (λ (x : Log g.row.A.Denot). x.entries.items) c.args.logs.now) c.in_ok-made.made.items
+          (hands-begin (map (λ (x : Log g.row.A.Denot). x.entries.items) c.args.logs.now) c.in_ok-made.made.items
           (programs_of c.args.sites.now.items));
       count = refl;
       made = c.in_ok-made.ensures.len ∙ c.requires.logs;
@@ -176,8 +176,8 @@ pub returns-in_err-play_round-clause-played : goal.returns-in_err-play_round-cla
 returns-in_err-play_round-clause-played g c =
     IfOk-from_err c.from_residual-in_err-play_round.result _ c.from_residual-in_err-play_round.ensures.0
 
-pub returns-in_err-play_round-clause-called : goal.returns-in_err-play_round-clause-called
-returns-in_err-play_round-clause-called g c =
+pub returns-in_err-play_round-clause-handed : goal.returns-in_err-play_round-clause-handed
+returns-in_err-play_round-clause-handed g c =
     IfOk-from_err c.from_residual-in_err-play_round.result _ c.from_residual-in_err-play_round.ensures.0
 
 pub returns-in_err-play_round-clause-lists : goal.returns-in_err-play_round-clause-lists
@@ -206,8 +206,8 @@ pub returns-clause-played : goal.returns-clause-played
 returns-clause-played g c =
     on_ok_weaker c.check_ends.result (λ _. c.in_ok-play_round.ensures.played) c.check_ends.ensures.all
 
-pub returns-clause-called : goal.returns-clause-called
-returns-clause-called g c =
+pub returns-clause-handed : goal.returns-clause-handed
+returns-clause-handed g c =
     let written : c.deref.result.now ≡ c.play_round.new.made =
     c.deref.ensures.value
     ∙ take_at c.play_round.new.made (drop (length c.play_round.new.made) c.loop-made.made.items)
@@ -217,16 +217,16 @@ returns-clause-called g c =
     let many : length c.play_round.new.made ≡ length (map (λ (x : Log g.row.A.Denot). x.entries.items) c.args.logs.now) =
     c.play_round.auto.made ∙ c.deref_mut.ensures.len ∙ c.loop-made.invariant.made ∙ sym c.requires.logs
     ∙ sym size in
-    let gone = calls-then (map (λ (x : Log g.row.A.Denot). x.entries.items) c.args.logs.now) (replicate (length c.args.logs.now) 0)
+    let gone = hands-then (map (λ (x : Log g.row.A.Denot). x.entries.items) c.args.logs.now) (replicate (length c.args.logs.now) 0)
     c.loop-made.made.items c.play_round.new.made (programs_of c.args.sites.now.items)
     (programs_of c.loop-made.sites.items) (programs_of c.play_round.new.sites.items)
     (length-replicate (length c.args.logs.now) 0 ∙ c.requires.logs ∙ sym c.loop-made.invariant.made
-    ∙ c.loop-made.made.ok.0) c.loop-made.invariant.called
-    (subst (λ l. HaveCalled (map (λ (x : Log g.row.A.Denot). x.entries.items) c.args.logs.now) l c.play_round.new.made
+    ∙ c.loop-made.made.ok.0) c.loop-made.invariant.handed
+    (subst (λ l. HaveHanded (map (λ (x : Log g.row.A.Denot). x.entries.items) c.args.logs.now) l c.play_round.new.made
     (programs_of c.loop-made.sites.items) (programs_of c.play_round.new.sites.items)) c.deref_mut.ensures.value
-    c.in_ok-play_round.ensures.called) in
+    c.in_ok-play_round.ensures.handed) in
     on_ok_weaker c.check_ends.result
-    (λ all. all-called (map (λ (x : Log g.row.A.Denot). x.entries.items) c.args.logs.now) (length c.args.logs.now)
+    (λ all. all-handed (map (λ (x : Log g.row.A.Denot). x.entries.items) c.args.logs.now) (length c.args.logs.now)
     (replicate (length c.args.logs.now) 0) c.play_round.new.made (programs_of c.args.sites.now.items)
     (programs_of c.play_round.new.sites.items) refl (length-replicate (length c.args.logs.now) 0 ∙ sym size)
     many (olds ∙ sym c.requires.logs ∙ sym size)

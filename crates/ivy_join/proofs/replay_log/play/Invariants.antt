@@ -1,6 +1,6 @@
 use Rattle.std.proofs.Common.{◌≡◌, length, map, replicate, vec_len}
 use Rattle.ivy_world.specs.WorldSites.{programs_of}
-use Rattle.ivy_join.specs.Calls.{HaveCalled}
+use Rattle.ivy_join.specs.Calls.{HaveHanded}
 use Rattle.ivy_join.specs.Exact.{left_of, AreMadeTo, HaveSent}
 use Rattle.ivy_join.specs.ReplaySites.{ArePlayed}
 use Rattle.ivy_join.proofs.replay_log.play.Given as goal
@@ -9,7 +9,7 @@ use Rattle.ivy_join.proofs.replay_log.play.Given as goal
 abbrev pub invariant-loop-made : goal.invariant-loop-made
 invariant-loop-made g l = record {
   played : ArePlayed l.config l.opening l.sites.items l.sent;
-  called : HaveCalled (map (λ x. x.entries.items) l.logs) (replicate (length l.logs) 0) l.made.items
+  handed : HaveHanded (map (λ x. x.entries.items) l.logs) (replicate (length l.logs) 0) l.made.items
       (programs_of l.initial.sites.items) (programs_of l.sites.items);
   count : length l.sites.items ≡ length l.initial.sites.items;
   made : vec_len l.made ≡ length l.initial.sites.items;

@@ -1,7 +1,7 @@
-use Rattle.std.proofs.Common.{rules, ◌<◌, [], length, sym, ◌∷◌, IfSome, slice_get, subst}
+use Rattle.std.proofs.Common.{rules, ◌<◌, length, sym, IfSome, slice_get, subst}
 use Rattle.std.proofs.lemmas.Result.{IfOk-from_err}
 use Rattle.ivy_program.specs.OwnCode.{IsFree}
-use Rattle.ivy_join.proofs.HandedLogs.{calls-called, calls-made, calls-played}
+use Rattle.ivy_join.proofs.HandedLogs.{call-handed, call-made, call-played}
 use Rattle.ivy_join.proofs.replay_log.play_call.Goals as goal
 
 pub hand-requires-clause-free : goal.hand-requires-clause-free
@@ -14,12 +14,12 @@ hand-requires-clause-width g c = c.may_ask.ensures.width (search rules)
 
 pub returns-clause-played : goal.returns-clause-played
 returns-clause-played g c =
-    calls-played c.args.sites.now.items c.args.node ((c.args.call ∷ []) ∷ []) c.hand.new.sites.items
+    call-played c.args.sites.now.items c.args.node c.args.call c.hand.new.sites.items
     c.requires.node c.in_ok-hand.ensures.ok
 
-pub returns-clause-called : goal.returns-clause-called
-returns-clause-called g c =
-    calls-called c.args.sites.now.items c.args.node ((c.args.call ∷ []) ∷ []) c.hand.new.sites.items
+pub returns-clause-handed : goal.returns-clause-handed
+returns-clause-handed g c =
+    call-handed c.args.sites.now.items c.args.node c.args.call c.hand.new.sites.items
     c.requires.node c.in_ok-hand.ensures.ok
 
 pub may_ask-requires : goal.may_ask-requires
@@ -31,8 +31,8 @@ hand-requires-clause-node g c = c.requires.node
 pub returns-in_err-hand-clause-played : goal.returns-in_err-hand-clause-played
 returns-in_err-hand-clause-played g c = IfOk-from_err c.from_residual.result _ c.from_residual.ensures.0
 
-pub returns-in_err-hand-clause-called : goal.returns-in_err-hand-clause-called
-returns-in_err-hand-clause-called g c = IfOk-from_err c.from_residual.result _ c.from_residual.ensures.0
+pub returns-in_err-hand-clause-handed : goal.returns-in_err-hand-clause-handed
+returns-in_err-hand-clause-handed g c = IfOk-from_err c.from_residual.result _ c.from_residual.ensures.0
 
 pub returns-in_err-hand-clause-count : goal.returns-in_err-hand-clause-count
 returns-in_err-hand-clause-count g c = c.in_err-hand.ensures.count
@@ -42,7 +42,7 @@ returns-clause-count g c = c.in_ok-hand.ensures.count
 
 pub returns-clause-exact : goal.returns-clause-exact
 returns-clause-exact g c =
-    calls-made c.args.sites.now.items c.args.node ((c.args.call ∷ []) ∷ []) c.hand.new.sites.items
+    call-made c.args.sites.now.items c.args.node c.args.call c.hand.new.sites.items
     c.requires.node c.in_ok-hand.ensures.ok
 
 pub returns-then-not-may_ask-clause-exact : goal.returns-then-not-may_ask-clause-exact

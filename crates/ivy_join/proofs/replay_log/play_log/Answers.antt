@@ -4,7 +4,7 @@ use Rattle.std.proofs.lemmas.Result.{err_from_is_err_and, IfOk-from_err}
 use Rattle.ivy_moves.specs.Marks.{marks}
 use Rattle.ivy_logs.specs.Entries.{event_in}
 use Rattle.ivy_world.specs.WorldSites.{programs_of}
-use Rattle.ivy_join.specs.Calls.{HasCalledBy, PlaysOn}
+use Rattle.ivy_join.specs.Calls.{HasHandedBy, PlaysOn}
 use Rattle.ivy_join.specs.ReplaySites.{program_in}
 use Rattle.ivy_join.proofs.Calls.{plays-begin, plays-same, plays_further}
 use Rattle.ivy_join.specs.Exact.{CameTo, IsMadeAt, IsNeverBy, IsWaiting}
@@ -40,7 +40,7 @@ returns-in-Never-clause-refused g c =
     at.sites.items c.args.sent.now at.sent from inv.have inv.here inv.elsewhere inv.sites inv.strings
     c.args.config.now c.args.opening (programs_of c.args.sites.now.items) c.index-entry.result.now inv.played
     (subst (λ m. PlaysOn c.args.node c.args.log.now.entries.items c.args.made.now m
-    (programs_of c.args.sites.now.items) (programs_of c.loop-place.sites.items)) inv.at inv.called)
+    (programs_of c.args.sites.now.items) (programs_of c.loop-place.sites.items)) inv.at inv.handed)
     (inv.count ∙ sym (length-map c.args.sites.now.items program_in)) inside below c.index-entry.ensures never none
 
 pub loop-place-preserved : goal.loop-place-preserved
@@ -55,13 +55,13 @@ loop-place-preserved g c =
     c.loop-place.sent c.play_entry.new.sent) c.in-Made.is (c.in_ok-play_entry.ensures.exact inv.have) in
     record {
       played = c.in_ok-play_entry.ensures.played;
-      called = plays_further c.args.node c.args.log.now.entries.items c.args.made.now c.loop-place.place
+      handed = plays_further c.args.node c.args.log.now.entries.items c.args.made.now c.loop-place.place
           c.index-entry.result.now (programs_of c.args.sites.now.items) (programs_of c.loop-place.sites.items)
           (programs_of c.play_entry.new.sites.items) below c.index-entry.ensures
           (subst (λ m. PlaysOn c.args.node c.args.log.now.entries.items c.args.made.now m
-          (programs_of c.args.sites.now.items) (programs_of c.loop-place.sites.items)) inv.at inv.called)
-          (subst (HasCalledBy c.args.node c.index-entry.result.now (programs_of c.loop-place.sites.items)
-          (programs_of c.play_entry.new.sites.items)) c.in-Made.is c.in_ok-play_entry.ensures.called);
+          (programs_of c.args.sites.now.items) (programs_of c.loop-place.sites.items)) inv.at inv.handed)
+          (subst (HasHandedBy c.args.node c.index-entry.result.now (programs_of c.loop-place.sites.items)
+          (programs_of c.play_entry.new.sites.items)) c.in-Made.is c.in_ok-play_entry.ensures.handed);
       count = c.play_entry.ensures.count ∙ inv.count;
       at = refl;
       have = made.have;
@@ -80,7 +80,7 @@ loop-place-preserved g c =
 pub loop-place-init : goal.loop-place-init
 loop-place-init g c = record {
   played = c.requires.played;
-  called = plays-begin c.args.node c.args.log.now.entries.items c.args.made.now (programs_of c.args.sites.now.items);
+  handed = plays-begin c.args.node c.args.log.now.entries.items c.args.made.now (programs_of c.args.sites.now.items);
   count = refl;
   at = refl;
   have = c.requires.sent;
@@ -99,8 +99,8 @@ play_entry-requires-clause-node g c = let count = c.loop-place.invariant.count i
 pub returns-in_err-play_entry-clause-played : goal.returns-in_err-play_entry-clause-played
 returns-in_err-play_entry-clause-played g c = IfOk-from_err c.from_residual.result _ c.from_residual.ensures.0
 
-pub returns-in_err-play_entry-clause-called : goal.returns-in_err-play_entry-clause-called
-returns-in_err-play_entry-clause-called g c = IfOk-from_err c.from_residual.result _ c.from_residual.ensures.0
+pub returns-in_err-play_entry-clause-handed : goal.returns-in_err-play_entry-clause-handed
+returns-in_err-play_entry-clause-handed g c = IfOk-from_err c.from_residual.result _ c.from_residual.ensures.0
 
 pub returns-in_err-play_entry-clause-exact : goal.returns-in_err-play_entry-clause-exact
 returns-in_err-play_entry-clause-exact g c = IfOk-from_err c.from_residual.result _ c.from_residual.ensures.0
@@ -116,13 +116,13 @@ returns-in_err-play_entry-clause-count g c = c.play_entry.ensures.count ∙ c.lo
 pub returns-in-Waits-clause-played : goal.returns-in-Waits-clause-played
 returns-in-Waits-clause-played g c = c.in_ok-play_entry.ensures.played
 
-pub returns-in-Waits-clause-called : goal.returns-in-Waits-clause-called
-returns-in-Waits-clause-called g c =
+pub returns-in-Waits-clause-handed : goal.returns-in-Waits-clause-handed
+returns-in-Waits-clause-handed g c =
     plays-same c.args.node c.args.log.now.entries.items c.args.made.now c.loop-place.made
     (programs_of c.args.sites.now.items) (programs_of c.loop-place.sites.items)
-    (programs_of c.play_entry.new.sites.items) c.loop-place.invariant.called
-    (subst (HasCalledBy c.args.node c.index-entry.result.now (programs_of c.loop-place.sites.items)
-    (programs_of c.play_entry.new.sites.items)) c.in-Waits.is c.in_ok-play_entry.ensures.called)
+    (programs_of c.play_entry.new.sites.items) c.loop-place.invariant.handed
+    (subst (HasHandedBy c.args.node c.index-entry.result.now (programs_of c.loop-place.sites.items)
+    (programs_of c.play_entry.new.sites.items)) c.in-Waits.is c.in_ok-play_entry.ensures.handed)
 
 pub returns-in-Waits-clause-count : goal.returns-in-Waits-clause-count
 returns-in-Waits-clause-count g c = c.play_entry.ensures.count ∙ c.loop-place.invariant.count
@@ -133,8 +133,8 @@ returns-in-Waits-clause-refused g c = tt
 pub returns-in-Never-clause-played : goal.returns-in-Never-clause-played
 returns-in-Never-clause-played g c = tt
 
-pub returns-in-Never-clause-called : goal.returns-in-Never-clause-called
-returns-in-Never-clause-called g c = tt
+pub returns-in-Never-clause-handed : goal.returns-in-Never-clause-handed
+returns-in-Never-clause-handed g c = tt
 
 pub returns-in-Never-clause-exact : goal.returns-in-Never-clause-exact
 returns-in-Never-clause-exact g c = tt
@@ -145,8 +145,8 @@ returns-in-Never-clause-count g c = c.play_entry.ensures.count ∙ c.loop-place.
 pub returns-clause-played : goal.returns-clause-played
 returns-clause-played g c = c.loop-place.invariant.played
 
-pub returns-clause-called : goal.returns-clause-called
-returns-clause-called g c = c.loop-place.invariant.called
+pub returns-clause-handed : goal.returns-clause-handed
+returns-clause-handed g c = c.loop-place.invariant.handed
 
 pub returns-clause-count : goal.returns-clause-count
 returns-clause-count g c = c.loop-place.invariant.count

@@ -9,7 +9,7 @@ use Rattle.ivy_join.proofs.replay_log.play_log.Given as goal
 abbrev pub invariant-loop-place : goal.invariant-loop-place
 invariant-loop-place g l = record {
   played : ArePlayed l.config l.opening l.sites.items l.sent;
-  called : PlaysOn l.node l.log.entries.items l.initial.made l.made (programs_of l.initial.sites.items)
+  handed : PlaysOn l.node l.log.entries.items l.initial.made l.made (programs_of l.initial.sites.items)
       (programs_of l.sites.items);
   count : length l.sites.items ≡ length l.initial.sites.items;
   at : l.made ≡ l.place;

@@ -5,7 +5,7 @@ use Rattle.std.proofs.lemmas.Option.{slice_get-get_or, slice_get-map, slice_get_
 use Rattle.ivy_world.specs.WorldSites.{programs_of}
 use Rattle.ivy_join.specs.Joined.{SaysNoParts}
 use Rattle.ivy_join.specs.ReplaySites.{program_in}
-use Rattle.ivy_join.proofs.Calls.{calls-begin, have-none, have-played}
+use Rattle.ivy_join.proofs.Calls.{hands-begin, have-none, have-played}
 use Rattle.ivy_join.proofs.Counted.{each-on, made-at-map, stuck-all}
 use Rattle.ivy_join.proofs.LogRounds.{few-on, less-on, none_of, stuck-on}
 use Rattle.ivy_logs.specs.declared.log.Log.{Log}
@@ -40,7 +40,7 @@ returns-in_err-play_log-clause-refused g c =
     (have-none (map f c.args.logs.now) c.args.made.now c.loop-node.made (programs_of c.args.sites.now.items)
     (programs_of c.loop-node.sites.items) none before (inv.long ∙ before)
     (olds ∙ sym c.requires.logs ∙ sym logs)
-    (length-map c.loop-node.sites.items program_in ∙ inv.count ∙ sym olds) inv.called)
+    (length-map c.loop-node.sites.items program_in ∙ inv.count ∙ sym olds) inv.handed)
     (c.requires.logs ∙ sym inv.count) log
     (c.in_err-play_log.ensures.refused (subst SaysNoParts p.2 told)
     (none c.loop-node.node c.index-logs-node.result.entries.items
@@ -63,9 +63,9 @@ loop-node-preserved g c =
     elim c.if-branch.branch [ then-branch w ↦ (λ is. search rules) | else-branch w ↦ (λ is. search rules) ] in
     record {
       played = c.in_ok-play_log.ensures.played;
-      called = have-played f c.args.logs.now c.args.made.now at.made at.node c.index-logs-node.result
+      handed = have-played f c.args.logs.now c.args.made.now at.made at.node c.index-logs-node.result
           c.play_log.new.made (programs_of c.args.sites.now.items) (programs_of at.sites.items)
-          (programs_of c.play_log.new.sites.items) log (search rules) inv.called c.in_ok-play_log.ensures.called;
+          (programs_of c.play_log.new.sites.items) log (search rules) inv.handed c.in_ok-play_log.ensures.handed;
       long = length-set at.made at.node c.play_log.new.made ∙ inv.long;
       count = c.play_log.ensures.count ∙ inv.count;
       have = p.have;
@@ -95,7 +95,7 @@ returns-clause-exact g c =
 pub loop-node-init : goal.loop-node-init
 loop-node-init g c = record {
   played = c.requires.played;
-  called = calls-begin (map (λ (x : Log g.row.A.Denot). x.entries.items) c.args.logs.now) c.args.made.now
+  handed = hands-begin (map (λ (x : Log g.row.A.Denot). x.entries.items) c.args.logs.now) c.args.made.now
       (programs_of c.args.sites.now.items);
   long = refl;
   count = refl;
@@ -121,8 +121,8 @@ play_log-requires-clause-sent g c = c.loop-node.invariant.have
 pub returns-in_err-play_log-clause-played : goal.returns-in_err-play_log-clause-played
 returns-in_err-play_log-clause-played g c = IfOk-from_err c.from_residual.result _ c.from_residual.ensures.0
 
-pub returns-in_err-play_log-clause-called : goal.returns-in_err-play_log-clause-called
-returns-in_err-play_log-clause-called g c = IfOk-from_err c.from_residual.result _ c.from_residual.ensures.0
+pub returns-in_err-play_log-clause-handed : goal.returns-in_err-play_log-clause-handed
+returns-in_err-play_log-clause-handed g c = IfOk-from_err c.from_residual.result _ c.from_residual.ensures.0
 
 pub returns-in_err-play_log-clause-exact : goal.returns-in_err-play_log-clause-exact
 returns-in_err-play_log-clause-exact g c = IfOk-from_err c.from_residual.result _ c.from_residual.ensures.0
@@ -133,8 +133,8 @@ returns-in_err-play_log-clause-count g c = c.play_log.ensures.count ∙ c.loop-n
 pub returns-clause-played : goal.returns-clause-played
 returns-clause-played g c = c.loop-node.invariant.played
 
-pub returns-clause-called : goal.returns-clause-called
-returns-clause-called g c = c.loop-node.invariant.called
+pub returns-clause-handed : goal.returns-clause-handed
+returns-clause-handed g c = c.loop-node.invariant.handed
 
 pub returns-clause-count : goal.returns-clause-count
 returns-clause-count g c = c.loop-node.invariant.count

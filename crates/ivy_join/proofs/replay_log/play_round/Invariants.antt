@@ -1,7 +1,7 @@
 use Rattle.std.proofs.Common.{◌≡◌, ◌<◌, ◌≤◌, false, length, map}
 use Rattle.std.specs.Prelude.{IsTrue}
 use Rattle.ivy_world.specs.WorldSites.{programs_of}
-use Rattle.ivy_join.specs.Calls.{HaveCalled}
+use Rattle.ivy_join.specs.Calls.{HaveHanded}
 use Rattle.ivy_join.specs.Exact.{left_of, AreMadeTo, HaveSent}
 use Rattle.ivy_join.specs.ReplaySites.{ArePlayed}
 use Rattle.ivy_join.proofs.Counted.{AreStuckTo}
@@ -11,7 +11,7 @@ use Rattle.ivy_join.proofs.replay_log.play_round.Given as goal
 abbrev pub invariant-loop-node : goal.invariant-loop-node
 invariant-loop-node g l = record {
   played : ArePlayed l.config l.opening l.sites.items l.sent;
-  called : HaveCalled (map (λ x. x.entries.items) l.logs) l.initial.made l.made
+  handed : HaveHanded (map (λ x. x.entries.items) l.logs) l.initial.made l.made
       (programs_of l.initial.sites.items) (programs_of l.sites.items);
   long : length l.made ≡ length l.initial.made;
   count : length l.sites.items ≡ length l.initial.sites.items;

@@ -1,5 +1,4 @@
-use Rattle.std.proofs.Common.{◌≡◌, ◌∙◌, [], ◌∷◌, sym, subst}
-use Rattle.std.proofs.lemmas.Result.{IfOk-from_err}
+use Rattle.std.proofs.Common.{◌∙◌, [], ◌∷◌, sym, subst}
 use Rattle.ivy_calls.specs.declared.Answer.{Answer}
 use Rattle.ivy_site.specs.SiteView.{SiteView}
 use Rattle.ivy_join.specs.Remade.{IsAnsweredLast}

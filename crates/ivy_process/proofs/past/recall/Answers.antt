@@ -5,7 +5,7 @@ use Rattle.ivy_model.specs.declared.Call.{Call}
 use Rattle.ivy_logs.specs.Entries.{LogEntry, answer_in, answers_in, call_in, calls_in}
 use Rattle.ivy_process.specs.OwnNodes.{EndsByCall}
 use Rattle.ivy_process.proofs.past.recall.Goals as goal
-use Rattle.ivy_process.proofs.past.recall.Goals.{in-Did, in-Asked}
+use Rattle.ivy_process.proofs.past.recall.Goals.{in-Did, in-Asked, in-Fetched}
 
 -- one entry more
 answers-more : (log : List LogEntry) (at : ℕ) (e : LogEntry) → at < length log → e ≡ get_or log at e
@@ -75,6 +75,18 @@ loop-at-preserved c =
                   ∙ ap (λ (k : Call). calls_in (take at log) ++ k ∷ []) call,
             );
             none = λ no. absurd (let same : true ≡ false = sym w.is_asked-is ∙ no in cc);
+          }
+      | in-Fetched w ↦
+          let calls : calls_in (take (c.loop-at.at + 1) c.args.entries.now) ≡ calls_in (take c.loop-at.at c.args.entries.now) =
+          calls-more log at c.index-entries-at.result below there
+          ∙ ap (λ e. calls_in (take at log) ++ call_in e) w.in-Fetched.is
+          ∙ append-nil (calls_in (take at log)) in record {
+            answers = answers-more log at c.index-entries-at.result below there
+                ∙ ap (λ e. answers_in (take at log) ++ answer_in e) w.in-Fetched.is
+                ∙ append-nil (answers_in (take at log)) ∙ c.loop-at.invariant.answers;
+            asked = λ yes. (let before : EndsByCall (take c.loop-at.at c.args.entries.now) c.args.call =
+                c.loop-at.invariant.asked (sym w.is_asked-is ∙ yes) in (before.0, calls ∙ before.1));
+            none = λ no. calls ∙ c.loop-at.invariant.none (sym w.is_asked-is ∙ no);
           }
     ]
 

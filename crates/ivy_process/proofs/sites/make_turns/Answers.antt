@@ -1,4 +1,4 @@
-use Rattle.std.proofs.Common.{rules, arith, refl, sym, append-nil, subst}
+use Rattle.std.proofs.Common.{rules, arith, refl, sym, append-nil}
 use Rattle.ivy_site.specs.declared.turn.Turn.TheVariants.{Moved}
 use Rattle.ivy_site.specs.Sites.{AfterTurn}
 use Rattle.ivy_join.proofs.EventSteps.{one_more}

@@ -1,4 +1,4 @@
-use Rattle.std.proofs.Common.{◌≡◌, ◌∙◌, ℕ, List, [], ◌∷◌, ◌++◌, ap, sym, append-nil, append_assoc}
+use Rattle.std.proofs.Common.{◌≡◌, ◌∙◌, ℕ, List, [], ◌∷◌, ◌++◌, ap, sym, append_assoc}
 use Rattle.std.specs.Prelude.{string_bytes, unwrap_or}
 use Rattle.ivy_wire.specs.Destinations.{dest_of}
 use Rattle.ivy_logs.specs.Printed.{frame_line}

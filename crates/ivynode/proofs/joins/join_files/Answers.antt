@@ -4,7 +4,7 @@ use Rattle.std.proofs.lemmas.Result.{on_ok_weaker}
 use Rattle.ivy_logs.specs.declared.log.LogKind.TheVariants.{OfProgram}
 use Rattle.ivynode.specs.Joined.{IsSpelled}
 use Rattle.ivynode.proofs.Printing.{all-zipped}
-use Rattle.ivynode.proofs.Uncalled.{err-weaker, no-calls}
+use Rattle.ivynode.proofs.Uncalled.{err-weaker, none-handed}
 use Rattle.ivynode.proofs.joins.join_files.Goals as goal
 
 pub returns-clause-joined : goal.returns-clause-joined
@@ -38,6 +38,6 @@ returns-clause-refused g c =
       heads = map (λ l. l.head) logs;
       logs = map (λ l. l.entries.items) logs;
       said = said;
-      none = refused told (no-calls (map (λ l. l.head) logs) (map (λ l. l.entries.items) logs) said);
+      none = refused told (none-handed (map (λ l. l.head) logs) (map (λ l. l.entries.items) logs) said);
     })
     (rw c.deref.ensures.value at c.join_logs.ensures.refused)

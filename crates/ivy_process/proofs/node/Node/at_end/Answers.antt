@@ -1,9 +1,8 @@
 use Rattle.std.proofs.Common.{ap, sym, subst, ◌∙◌}
 use Rattle.std.proofs.lemmas.Result.{IfOk-from_err}
 use Rattle.ivy_moves.specs.Marks.{marks}
-use Rattle.ivy_program.specs.stated.Programs.{Program}
-use Rattle.ivy_program.specs.Programs.{handed, one_by_one}
-use Rattle.ivy_logs.specs.Entries.{answers_in, calls_in, events_in}
+use Rattle.ivy_logs.specs.Entries.{answers_in, events_in}
+use Rattle.ivy_join.specs.Calls.{handed_by_log}
 use Rattle.ivy_join.specs.Remade.{StandFirst}
 use Rattle.ivy_site.specs.SiteView.{SiteView}
 use Rattle.ivy_site.specs.Sites.{IsMadeByEvents}
@@ -32,8 +31,8 @@ returns c =
         config = ap (λ (x : SiteView). x.config) same ∙ on.config ∙ ap (λ (x : SiteView). x.config) was;
         opened = ap (λ (x : SiteView). x.opened) same ∙ on.opened ∙ ap (λ (x : SiteView). x.opened) was;
         program = ap program_in same ∙ on.program
-            ∙ ap (λ (p : Program). handed (one_by_one (calls_in c.deref.result.now)) p) (ap program_in was)
-            ∙ ap (λ l. handed (one_by_one (calls_in l)) (program_in c.args.site)) c.deref.ensures.value;
+            ∙ ap (handed_by_log c.deref.result.now) (ap program_in was)
+            ∙ ap (λ l. handed_by_log l (program_in c.args.site)) c.deref.ensures.value;
         events = ap (λ (x : SiteView). x.events) same ∙ on.events
             ∙ ap (λ l. marks (events_in l)) c.deref.ensures.value;
         told = subst (λ l. StandFirst (answers_in l) c.learn_acknowledged.new.self.site.node.core.history)

@@ -1,11 +1,9 @@
-use Rattle.std.proofs.Common.{◌≡◌, ◌∙◌, ◌+◌, [], refl, sym, ap, subst, Some, None, arith}
+use Rattle.std.proofs.Common.{◌≡◌, ◌∙◌, ◌+◌, [], refl, sym, ap, subst, Some, arith}
 use Rattle.std.specs.Prelude.{string_bytes}
 use Rattle.std.proofs.lemmas.Result.{IfOk-from_err}
 use Rattle.ivy_moves.specs.declared.event.Event.TheVariants.{Delivered}
-use Rattle.ivy_link.specs.stated.LinkLimits.{most_ahead}
-use Rattle.ivy_site.specs.SiteView.{SiteView}
 use Rattle.ivy_site.specs.Inside.{AfterOnce}
-use Rattle.ivy_site.proofs.Receiving.{WentSoOften, went_more, went_to_end, went_all}
+use Rattle.ivy_site.proofs.Receiving.{WentSoOften, went_more}
 use Rattle.ivy_process.specs.NodeLogs.{Served, served, AddsEvents}
 use Rattle.ivy_process.proofs.Kept.{keeps-same, once-keeps}
 use Rattle.ivy_process.proofs.Logged.{stays, goes_further, noted-one, once-listed}

@@ -1,9 +1,7 @@
 use Rattle.std.proofs.Common.{ap, ◌∙◌}
 use Rattle.std.proofs.lemmas.Result.{IfOk-from_err, IfOk-weaker}
-use Rattle.ivy_program.specs.stated.Programs.{Program}
-use Rattle.ivy_program.specs.Programs.{handed, one_by_one}
-use Rattle.ivy_logs.specs.Entries.{calls_in}
 use Rattle.ivy_site.specs.SiteView.{SiteView}
+use Rattle.ivy_join.specs.Calls.{handed_by_log}
 use Rattle.ivy_join.specs.ReplaySites.{program_in}
 use Rattle.ivy_process.proofs.node.Node.open.Goals as goal
 
@@ -27,8 +25,7 @@ returns c =
       config = again.by_log.config ∙ ap (λ (x : SiteView). x.config) was;
       opened = again.by_log.opened ∙ ap (λ (x : SiteView). x.opened) was ∙ c.opening_by.ensures;
       number = again.by_log.me ∙ ap (λ (x : SiteView). x.me) was;
-      runs = again.by_log.program
-          ∙ ap (λ (p : Program). handed (one_by_one (calls_in c.args.log.now.entries.items)) p) (ap program_in was);
+      runs = again.by_log.program ∙ ap (handed_by_log c.args.log.now.entries.items) (ap program_in was);
       events = again.by_log.events;
       told = again.by_log.told;
       made = again.by_log.made;

@@ -1,11 +1,9 @@
 use Rattle.std.proofs.Common.{ap, ◌∙◌}
 use Rattle.std.proofs.lemmas.Result.{IfOk-from_err, IfOk-weaker}
-use Rattle.ivy_program.specs.stated.Programs.{Program}
-use Rattle.ivy_program.specs.Programs.{handed, one_by_one}
-use Rattle.ivy_logs.specs.Entries.{calls_in}
 use Rattle.ivy_site.specs.SiteView.{SiteView}
+use Rattle.ivy_join.specs.Calls.{handed_by_log}
 use Rattle.ivy_join.specs.ReplaySites.{program_in}
-use Rattle.ivy_join.proofs.Calls.{written-handed}
+use Rattle.ivy_join.proofs.Calls.{written-by-log}
 use Rattle.ivy_process.proofs.node.Node.restart_opened.Goals as goal
 
 pub opened-requires-clause-limits : goal.opened-requires-clause-limits
@@ -23,14 +21,14 @@ at_end-requires c = ap (λ (x : SiteView). x.events) c.in_ok-site.ensures.first
 pub returns : goal.returns
 returns c =
     let was = c.in_ok-site.ensures.first in
-    let calls = one_by_one (calls_in c.args.log.now.entries.items) in
+    let entries = c.args.log.now.entries.items in
     IfOk-weaker c.at_end.result _ _
     (λ node again. record {
       config = again.by_log.config ∙ ap (λ (x : SiteView). x.config) was;
       opened = again.by_log.opened ∙ ap (λ (x : SiteView). x.opened) was;
       number = again.by_log.me ∙ ap (λ (x : SiteView). x.me) was;
-      runs = again.by_log.program ∙ ap (λ (p : Program). handed calls p) (ap program_in was)
-          ∙ written-handed calls c.args.program c.instructions.ensures.sound;
+      runs = again.by_log.program ∙ ap (handed_by_log entries) (ap program_in was)
+          ∙ written-by-log entries c.args.program c.instructions.ensures.sound;
       events = again.by_log.events;
       made = again.by_log.made;
       whole = again.whole;
