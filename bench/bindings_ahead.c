@@ -3,7 +3,7 @@
  * of the same two processes, in one of which none is fetched. */
 #include "bindings_ahead.h"
 
-enum { N = 1024, ROW = N * sizeof(double), BLOCK = 32, SWEPT = 256, PAGES = 1 + N * ROW / PAGE, ROUNDS = 21, PRODUCTS = 7 };
+enum { N = 1024, ROW = N * sizeof(double), BLOCK = 32, RIGHT = 8, SWEPT = 256, PAGES = 1 + N * ROW / PAGE, ROUNDS = 21, PRODUCTS = 7 };
 enum { OFF, ON, WAITS = 0, COMPUTES };
 
 typedef struct { double took[2][ROUNDS]; ivy_counts counts[2]; } samples;
@@ -66,7 +66,9 @@ static void fill(ivy_process *ivy, int round) {
 
 /* One row of the product, by some rows of the right operand. */
 static void add_row(double *restrict to, const double *left, const double (*restrict right)[N]) {
-  for (uint32_t j = 0; j < N; j++) to[j] += left[0] * right[0][j] + left[1] * right[1][j] + left[2] * right[2][j] + left[3] * right[3][j];
+  const double a = left[0], b = left[1], c = left[2], d = left[3], e = left[4], f = left[5], g = left[6], h = left[7];
+  for (uint32_t j = 0; j < N; j++)
+    to[j] += a * right[0][j] + b * right[1][j] + c * right[2][j] + d * right[3][j] + e * right[4][j] + f * right[5][j] + g * right[6][j] + h * right[7][j];
 }
 
 /* A process's rows of the product, by blocks of rows of the right operand, of which the next one comes meanwhile. */
@@ -76,7 +78,7 @@ static void multiply(ivy_process *ivy) {
     ivy_get(ivy, place_of(from), block, sizeof block);
     for (uint32_t i = 0; i < N / NODES; i++) {
       if (i % BLOCK == 0 && from + BLOCK < N) ivy_prefetch(ivy, place_of(from + BLOCK), sizeof block);
-      for (uint32_t k = 0; k < BLOCK; k += 4) add_row(sums[i], &own[i][from + k], (const double(*)[N]) & block[k]);
+      for (uint32_t k = 0; k < BLOCK; k += RIGHT) add_row(sums[i], &own[i][from + k], (const double(*)[N]) & block[k]);
     }
   }
 }
@@ -97,11 +99,11 @@ static void multiply_both(int k, int round, samples *s) {
   ivy_counts before = ivy_counts_of(ivy);
   double begun = now_us();
   multiply(ivy);
-  meet(ivy, &meetings[k]);
   s->took[k][round] = now_us() - begun;
   s->counts[k] = ivy_counts_of(ivy);
   s->counts[k].sent -= before.sent;
   s->counts[k].misses -= before.misses;
+  meet(ivy, &meetings[k]);
   check(round);
 }
 
@@ -118,7 +120,7 @@ int main(int argc, char **argv) {
   if (me) {
     tell("a sweep of 256 pages, whose owner waits", &swept[WAITS], ROUNDS);
     tell("a sweep of 256 pages, whose owner computes", &swept[COMPUTES], ROUNDS);
-    tell("a product of 1,024 by blocks, of which one operand comes from the other process", &multiplied, PRODUCTS);
+    tell("a product of 1,024 by blocks, of which one operand comes from the other process, which computes too", &multiplied, PRODUCTS);
   }
   fflush(stdout);
   for (int i = 0; i < 2; i++) ivy_leave(form[i]);
