@@ -56,39 +56,49 @@ static void send_frames(ivy_process *p, int is_new) {
   }
 }
 
-void ivy_in_send_frames(ivy_process *p) { send_frames(p, 1); }
+void ivy_in_send_frames(ivy_process *p) {
+  if (!p->holds) send_frames(p, 1);
+}
 
-/* Short strings to one peer, each behind its length. */
-enum { MOST_TOGETHER = 512 };
-typedef struct { uint8_t bytes[MOST_TOGETHER]; size_t len; uint32_t to, many; } bundle;
+/* Strings to one peer, each behind its length, in the transport's room. */
+typedef struct { size_t len; uint32_t to, many; } bundle;
 
 /* One alone goes as any other. */
 static void send_bundle(ivy_process *p, bundle *b) {
-  size_t skipped = b->many == 1 ? LENGTH : 0;
-  if (!b->many) return;
-  memcpy(ivy_in_room(p) + HEAD, b->bytes + skipped, b->len - skipped);
-  ivy_in_send(p, p->room, b->many == 1 ? FRAME : FRAMES, b->to, HEAD + b->len - skipped);
+  uint8_t *at = p->room + HEAD;
+  if (b->many == 1) memmove(at, at + LENGTH, b->len -= LENGTH);
+  if (b->many) ivy_in_send(p, p->room, b->many == 1 ? FRAME : FRAMES, b->to, HEAD + b->len);
   b->len = b->many = 0;
 }
 
-/* What has no room here waits on, and goes alone. */
+/* A string stands behind those of a bundle, and joins them; or they go, and it is the first of the next ones. */
+static void join(ivy_process *p, bundle *b, size_t len, uint32_t to) {
+  uint8_t *at = p->room + HEAD + b->len, other[IVY_STRING_MOST];
+  count_sent(p, to);
+  ivy_in_put32(at, (uint32_t)len);
+  if (b->many && to != b->to) {
+    memcpy(other, at, LENGTH + len);
+    send_bundle(p, b);
+    memcpy(ivy_in_room(p) + HEAD, other, LENGTH + len);
+  }
+  b->to = to;
+  b->many++;
+  b->len += LENGTH + len;
+}
+
+/* What has no room among others waits on, and goes alone. */
 void ivy_in_send_together(ivy_process *p) {
-  bundle b;
-  uint8_t *at = b.bytes;
-  size_t len;
-  uint32_t to;
-  b.len = b.many = 0;
-  while (b.len + LENGTH < MOST_TOGETHER && ivy_next_frame(&p->node, at + LENGTH, MOST_TOGETHER - b.len - LENGTH, &len, &to) == IVY_DONE) {
-    ivy_in_put32(at, (uint32_t)len);
-    count_sent(p, to);
-    if (b.many && to != b.to) {
-      send_bundle(p, &b);
-      memmove(b.bytes, at, LENGTH + len);
-    }
-    b.to = to;
-    b.many++;
-    b.len += LENGTH + len;
-    at = b.bytes + b.len;
+  size_t len, most = p->together - HEAD - TAG - LENGTH;
+  uint32_t to, status;
+  bundle b = { 0, 0, 0 };
+  ivy_in_flush_log(p);
+  if (p->error == IVY_LOG_FULL) return;
+  for (;;) {
+    size_t left = b.len < most ? most - b.len : 0;
+    status = ivy_next_frame(&p->node, ivy_in_room(p) + HEAD + b.len + LENGTH, left, &len, &to);
+    if (status == IVY_DONE) join(p, &b, len, to);
+    else if (status == IVY_SHORT_BUFFER && b.many) send_bundle(p, &b);
+    else break;
   }
   send_bundle(p, &b);
   send_frames(p, 1);
@@ -139,13 +149,26 @@ void ivy_in_log_call(ivy_process *p, const call *c) {
   log_words(p->log, c);
 }
 
-void ivy_in_log_reply(ivy_process *p, const call *c, uint32_t status, const uint64_t *value) {
+/* The turns that the log lacks. */
+static void log_turns(ivy_process *p) {
   uint64_t turns;
+  if (ivy_turns(&p->node, &turns) != IVY_DONE || turns == p->turns) return;
+  fprintf(p->log, "turns %llu\n", (unsigned long long)(turns - p->turns));
+  p->turns = turns;
+}
+
+uint32_t ivy_in_fetch(ivy_process *p, uint32_t page, uint32_t to, uint32_t *begun) {
+  if (p->log) log_turns(p);
+  uint32_t status = ivy_fetch(&p->node, page, to, begun);
+  if (!p->log || status != IVY_DONE || !*begun) return status;
+  fprintf(p->log, "fetch %s %u\n", to == IVY_TO_READ ? "read" : "write", page); /* its line is its turn too */
+  p->turns++;
+  return status;
+}
+
+void ivy_in_log_reply(ivy_process *p, const call *c, uint32_t status, const uint64_t *value) {
   if (!p->log) return;
-  if (ivy_turns(&p->node, &turns) == IVY_DONE && turns != p->turns) {
-    fprintf(p->log, "turns %llu\n", (unsigned long long)(turns - p->turns));
-    p->turns = turns;
-  }
+  log_turns(p);
   if (status >= 256) return;
   if (status != IVY_DONE) fprintf(p->log, "refused %u ", status);
   else if (c->kind == IVY_STORE || c->kind == IVY_ADVANCE || c->kind == IVY_FREE) fputs("done ", p->log);

@@ -29,6 +29,9 @@ enum { REPEATS = 5 };
  * is kept, as a node does it. */
 enum { FRAME_HEAD = 24, SOURCE = 4, DESTINATION = 5, NUMBER = 8, MOST_AHEAD = 32, LENGTH = 4 };
 
+/* Strings of a node go together in one, short ones alone; over a transport that says so, also two pages. */
+enum { SHORT_MOST = 512, LONG_MOST = 2 * IVY_STRING_MOST };
+
 /* A node fetches no more pages at once. */
 enum { MOST_FETCHED = 7 };
 
@@ -55,6 +58,8 @@ struct ivy_process {
   ivy_config config;
   ivy_transport transport;
   uint8_t *room; /* of the transport, where it was given and nothing was sent from it yet */
+  size_t together; /* so many bytes at most of strings of the node go in one */
+  int holds;       /* strings of the node wait until several can go in one */
   ivy_progress progress;
   uint32_t me, all;
   uint32_t ahead;    /* so many pages at most are fetched ahead of need */
@@ -185,7 +190,7 @@ int ivy_in_is_needed(const ivy_process *p, uint32_t peer);
 int ivy_in_has_frame(ivy_process *p);
 /* Sends the strings that wait, once the log has what they follow from. */
 void ivy_in_send_frames(ivy_process *p);
-/* The same where pages were fetched, which no log has: those that are short and go to one peer go in one. */
+/* The same, those to one peer several in one, as many as it takes: where pages were fetched, or held are asked for. */
 void ivy_in_send_together(ivy_process *p);
 void ivy_in_hear_frame(ivy_process *p, const uint8_t *bytes, size_t len);
 /* Gives a string to the node: IVY_DONE, IVY_WANTED, or another status where it is none. */
@@ -204,6 +209,8 @@ void ivy_in_log_begin(ivy_process *p);
 void ivy_in_log_call(ivy_process *p, const call *c);
 /* The turns that the log lacks, and the reply, if it is one. */
 void ivy_in_log_reply(ivy_process *p, const call *c, uint32_t status, const uint64_t *value);
+/* Asks for a page ahead, as ivy_fetch does; where there is a log, it has a line for it. */
+uint32_t ivy_in_fetch(ivy_process *p, uint32_t page, uint32_t to, uint32_t *begun);
 const char *ivy_in_kind(uint32_t kind);
 
 /* ---- ivy_log.c: who writes a log ---------------------------------------------------------------------------------------- */
@@ -307,6 +314,11 @@ uint32_t ivy_in_map_row(ivy_process *p, uint32_t kind, uint64_t address, uint8_t
 uint32_t ivy_in_map_hint(ivy_process *p, uint32_t page);
 /* Nobody needs it any more; the lock is not held. */
 void ivy_in_map_end(ivy_process *p);
+
+/* ---- ivy_udp.c -------------------------------------------------------------------------------------------------------- */
+
+/* The `room` of a transport whose strings may have LONG_MOST bytes. */
+uint8_t *ivy_in_long_room(void *state);
 
 /* ---- ivy_key.c -------------------------------------------------------------------------------------------------------- */
 

@@ -9,10 +9,10 @@ typedef struct { uint32_t kind; uint64_t address; uint8_t *into; const uint8_t *
 static uint64_t page_at(const ivy_process *p, uint64_t address) { return address / p->config.page_size; }
 static uint64_t end_of(const ivy_process *p) { return (uint64_t)p->config.page_size * p->config.pages; }
 
-/* None is fetched for a row that is refused, nor where there is a log, which has no line for it. */
+/* None is fetched for a row that is refused. */
 static uint64_t last_ahead(const ivy_process *p, const row *r) {
   uint64_t end = end_of(p), at = r->address;
-  if (p->log || at % 8 || at < p->config.page_size || at >= end || r->len < 8) return 0;
+  if (at % 8 || at < p->config.page_size || at >= end || r->len < 8) return 0;
   return page_at(p, r->len < end - at ? at + r->len - 1 : end - 1);
 }
 
@@ -23,26 +23,26 @@ static void fetch_behind(ivy_process *p, row *r, uint64_t page) {
   uint32_t begun, to = r->kind == IVY_LOAD ? IVY_TO_READ : IVY_TO_WRITE;
   if (r->next <= page) r->next = page + 1;
   if (r->next > last || (last < r->last && last - r->next < p->ahead / 2)) return;
-  while (r->next <= last && ivy_fetch(&p->node, (uint32_t)r->next, to, &begun) == IVY_DONE) r->next++;
+  while (r->next <= last && ivy_in_fetch(p, (uint32_t)r->next, to, &begun) == IVY_DONE) r->next++;
   ivy_in_send_together(p);
 }
 
-/* The words that can be carried out at once. Where there is a log, none: it has a line for each call. */
+/* The words that can be carried out at once. */
 static void go_on_at_once(ivy_process *p, row *r) {
   size_t words = 0, left = r->len - r->done;
   uint64_t address = r->address + r->done;
-  if (p->log || !left) return;
+  if (!left) return;
   if (r->kind == IVY_LOAD) ivy_load_block(&p->node, address, r->into + r->done, left, &words);
   else ivy_store_block(&p->node, address, r->from + r->done, left, &words);
   r->done += 8 * words;
 }
 
-/* The words for whose page is waited, all at once. Where no word has to wait, or there is a log, none. */
+/* The words for whose page is waited, all at once. Where no word has to wait, none. */
 static void go_on_together(ivy_process *p, row *r) {
   size_t words = 0, left = r->len - r->done;
   uint64_t address = r->address + r->done;
   uint32_t status;
-  if (p->log || !left) return;
+  if (!left) return;
   if (r->kind == IVY_LOAD) status = ivy_begin_load_block(&p->node, address, r->into + r->done, left, &words);
   else status = ivy_begin_store_block(&p->node, address, r->from + r->done, left, &words);
   if (status != IVY_PENDING) return;
@@ -76,6 +76,14 @@ static void look_for_fetched(ivy_process *p, row *r) {
   for (int i = 0; i < MOST_FETCHED && r->done == before && !p->receiving && ivy_in_serve(p, 0, 1); i++) go_on_at_once(p, r);
 }
 
+/* Where there is a log, which has a line for each call, one word; and once one had to wait for its page, those behind it are fetched. */
+static uint32_t go_on_logging(ivy_process *p, row *r) {
+  uint64_t page = page_at(p, r->address + r->done), misses = p->counts.misses;
+  uint32_t status = go_on_by_call(p, r);
+  if (r->next || p->counts.misses != misses) fetch_behind(p, r, page);
+  return status;
+}
+
 /* What is here; or what a page is waited for, in one; or a word, and then, before others take its page again, what is with it.
  * Where a page is not here and was not fetched, those behind it are, and from then on one more for each page that is done: so
  * there is a place for each. */
@@ -100,7 +108,7 @@ static uint32_t carry_out(ivy_process *p, row r) {
   r.last = last_ahead(p, &r);
   while (status == IVY_DONE && r.done < r.len) {
     status = ivy_in_enter(p);
-    if (status == IVY_DONE) status = go_on(p, &r);
+    if (status == IVY_DONE) status = (p->log ? go_on_logging : go_on)(p, &r);
     ivy_in_leave(p);
   }
   return status;
@@ -122,13 +130,12 @@ uint32_t ivy_write(ivy_process *p, uint64_t address, const void *from, size_t le
 static uint32_t hint(ivy_process *p, uint32_t page) {
   uint32_t begun = 0;
   if (p->map) return ivy_in_map_hint(p, page);
-  ivy_fetch(&p->node, page, IVY_TO_READ, &begun);
+  ivy_in_fetch(p, page, IVY_TO_READ, &begun);
   return begun;
 }
 
 /* As many pages of a range as may be fetched now. */
 static void fetch_range(ivy_process *p, uint64_t first, uint64_t last) {
-  if (p->log) return;
   for (uint32_t many = 0; first <= last && many < p->ahead; first++) many += hint(p, (uint32_t)first);
   ivy_in_send_together(p);
 }

@@ -150,6 +150,7 @@ static uint32_t set_up(ivy_process *p, const ivy_start *start) {
   if (status != IVY_DONE) return status;
   p->config = start->config;
   p->transport = start->transport;
+  p->together = p->transport.room == ivy_in_long_room ? (size_t)LONG_MOST : (size_t)SHORT_MOST;
   p->me = start->me;
   p->progress = start->progress;
   if (p->progress == IVY_BY_THREAD && p->transport.close == ivy_in_for_one_thread) {

@@ -202,15 +202,16 @@ uint32_t ivy_wait_until(ivy_process *process, uint32_t width, uint64_t address, 
  * a failure. Where a log is written they go word by word, so that it has lines for each call.
  *
  * Where bytes lie on several pages, and one is not here, those behind it are fetched while it is waited for, IVY_AHEAD at most:
- * to be read by ivy_read, and by ivy_write to be written. A log has no line for that, so where there is one nothing is. */
+ * to be read by ivy_read, and by ivy_write to be written. A log has a line for each; where there is one they are fetched once the
+ * word that waited has its reply. */
 uint32_t ivy_read(ivy_process *process, uint64_t address, void *into, size_t len);
 uint32_t ivy_write(ivy_process *process, uint64_t address, const void *from, size_t len);
 
 /* A hint: so many bytes from an address on, of any alignment, will be read soon. The pages that they lie on come while the program
  * goes on, as many as are free: a node fetches seven at once, and IVY_AHEAD says how many are asked for here at most. It waits for
  * no page, nor for the call of another thread where ivy_use_threads was said. What becomes of it is seen only in how long later
- * calls take. Nothing is asked for where there is a log; nor, where memory is mapped, for pages that this process never asked for
- * before. IVY_DONE; IVY_RESERVED or IVY_OUT_OF_RANGE where not all of the bytes are of the heap, and nothing was done; or the
+ * calls take. A log has a line for each page. Nothing is asked for, where memory is mapped, for pages that this process never
+ * asked for before. IVY_DONE; IVY_RESERVED or IVY_OUT_OF_RANGE where not all of the bytes are of the heap, and nothing was done; or the
  * status of a failure. */
 uint32_t ivy_prefetch(ivy_process *process, uint64_t address, uint64_t bytes);
 
@@ -241,7 +242,8 @@ int ivy_is_here(ivy_process *process, uint64_t address);
 /* ---- Transports -------------------------------------------------------------------------------------------------------- */
 
 /* UDP: process i listens at port + i of 127.0.0.1, and looks only at what comes from these ports; of each hundred strings that
- * it sends it loses, sends twice and holds back so many, for tests. Where it cannot be opened, with a line on stderr, all in it
+ * it sends it loses, sends twice and holds back so many, for tests. Pages that are asked for together come two in one string, which
+ * is longer than other transports have to take. Where it cannot be opened, with a line on stderr, all in it
  * is null, and ivy_join fails. */
 ivy_transport ivy_udp(uint32_t me, uint32_t nodes, uint16_t port, unsigned lost, unsigned twice, unsigned late);
 /* The same with a status: IVY_DONE or IVY_NO_TRANSPORT. */

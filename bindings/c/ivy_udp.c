@@ -26,8 +26,8 @@ typedef struct {
   int is_drawn; /* what becomes of a string */
   uint64_t seed;
   place places[MOST_NODES];
-  uint8_t sent[IVY_STRING_MOST], came[IVY_STRING_MOST + 1];
-  uint8_t held[IVY_STRING_MOST]; /* the string that is held back */
+  uint8_t sent[LONG_MOST], came[LONG_MOST + 1];
+  uint8_t held[LONG_MOST]; /* the string that is held back */
   size_t held_len;
   uint32_t held_to;
 } udp;
@@ -47,7 +47,7 @@ static void put(udp *u, uint32_t to, const uint8_t *bytes, size_t len) {
   (void)sent; /* what is not sent is lost */
 }
 
-static uint8_t *udp_room(void *state) {
+uint8_t *ivy_in_long_room(void *state) {
   udp *u = (udp *)state;
   return u->sent;
 }
@@ -136,7 +136,7 @@ static uint32_t port_of(const place *it) {
 
 /* A transport between these places, which takes over `u`: it listens at its own, or at another one. */
 static uint32_t open_among(udp *u, uint32_t me, const place *own, ivy_transport *transport) {
-  const ivy_transport opened = { u, udp_room, udp_send, udp_receive, udp_close };
+  const ivy_transport opened = { u, ivy_in_long_room, udp_send, udp_receive, udp_close };
   u->seed = 88172645463325252ull + me * 2654435761ull;
   if (!open_socket(u, own)) {
     fprintf(stderr, "ivy: udp: port %u: %s\n", port_of(own), strerror(errno));

@@ -205,9 +205,16 @@ static void hear_frame(ivy_process *p, uint32_t from, const uint8_t *bytes, size
   ivy_in_hear_frame(p, bytes, len);
 }
 
+/* Several: where two pages go in one string, what each two ask for is sent together. */
 static void hear_frames(ivy_process *p, uint32_t from, const uint8_t *bytes, size_t len) {
-  for (size_t at = LENGTH, its; at < len && (its = ivy_in_get32(bytes + at - LENGTH)) <= len - at; at += its + LENGTH)
+  uint32_t many = 0;
+  p->holds = p->together == LONG_MOST;
+  for (size_t at = LENGTH, its; at < len && (its = ivy_in_get32(bytes + at - LENGTH)) <= len - at; at += its + LENGTH) {
     hear_frame(p, from, bytes + at, its);
+    if (p->holds && ++many % 2 == 0) ivy_in_send_together(p);
+  }
+  if (p->holds) ivy_in_send_together(p);
+  p->holds = 0;
 }
 
 /* A frame is looked at where it names the run and its sender, as a word is. */

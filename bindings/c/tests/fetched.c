@@ -1,7 +1,7 @@
 /* What is fetched ahead of need: by two nodes in threads, with so many pages ahead as are named, and with progress of both forms.
  * Blocks of one page fetch none; those of many each page behind the first once, of their own pages alone, and not too far; hints
- * fetch as many as are free, and say what is wrong with a range. Nothing waits where a log is written, or for a call of another
- * thread. Linked with --wrap=ivy_fetch --wrap=ivy_load_block --wrap=ivy_store_block. */
+ * fetch as many as are free, and say what is wrong with a range. Nothing waits for a call of another thread. Where a log is written
+ * it has each page that is asked for. Linked with --wrap=ivy_fetch --wrap=ivy_begin --wrap=ivy_load_block --wrap=ivy_store_block. */
 #define _POSIX_C_SOURCE 200809L
 #define CHANNEL_PAGES 32
 #include "channel.h"
@@ -10,22 +10,30 @@ enum { PAGE = CHANNEL_PAGE, PAGES = CHANNEL_PAGES, END = PAGES * PAGE, FIRST = 3
 enum { STRING_OF_MANY = 12 }; /* the kind of a string that has several of the node */
 
 uint32_t __real_ivy_fetch(ivy_node *node, uint32_t page, uint32_t to, uint32_t *begun);
+uint32_t __real_ivy_begin(ivy_node *node, uint32_t kind, uint32_t width, uint64_t place, uint64_t operand, uint64_t expected, uint64_t *value);
 uint32_t __real_ivy_load_block(ivy_node *node, uint64_t address, uint8_t *into, size_t len, size_t *words);
 uint32_t __real_ivy_store_block(ivy_node *node, uint64_t address, const uint8_t *from, size_t len, size_t *words);
 
-/* What the thread that is watched did: which pages it fetched for what, and of which page a block was tried last. */
+/* What the thread that is watched did: which pages it fetched for what, and of which page a word or a block was tried last. */
 static __thread int is_watched;
 static uint32_t tried, begun, pages[MOST], current, farthest;
 static uint32_t kinds; /* a bit for each lending */
+static uint32_t all_begun; /* so many pages were asked for in all, also by threads that are not watched */
 
 uint32_t __wrap_ivy_fetch(ivy_node *node, uint32_t page, uint32_t to, uint32_t *is_begun) {
   uint32_t status = __real_ivy_fetch(node, page, to, is_begun);
+  all_begun += status == IVY_DONE && *is_begun;
   if (!is_watched) return status;
   tried++;
   kinds |= 1u << to;
   if (page - current > farthest) farthest = page - current;
   if (status == IVY_DONE && *is_begun && begun < MOST) pages[begun++] = page;
   return status;
+}
+
+uint32_t __wrap_ivy_begin(ivy_node *node, uint32_t kind, uint32_t width, uint64_t place, uint64_t operand, uint64_t expected, uint64_t *value) {
+  if (is_watched && kind <= IVY_STORE) current = (uint32_t)(place / PAGE);
+  return __real_ivy_begin(node, kind, width, place, operand, expected, value);
 }
 
 uint32_t __wrap_ivy_load_block(ivy_node *node, uint64_t address, uint8_t *into, size_t len, size_t *words) {
@@ -39,7 +47,7 @@ uint32_t __wrap_ivy_store_block(ivy_node *node, uint64_t address, const uint8_t 
 }
 
 static uint32_t ahead;      /* so many at most, which the environment says */
-static int logs;            /* whether node 1 writes a log, and fetches none */
+static int logs;            /* whether node 1 writes a log */
 static uint64_t meetings[2]; /* of each node */
 static uint8_t bytes[END];
 
@@ -96,13 +104,13 @@ static uint32_t of_many(void) {
 }
 
 static void many_pages(ivy_process *ivy) {
-  uint32_t many = ahead && !logs ? MANY - 1 : 0, before = of_many();
+  uint32_t many = ahead ? MANY - 1 : 0, before = of_many();
   watch();
   should_be("a read of many pages", ivy_read(ivy, FIRST * PAGE + 8, bytes, MANY * PAGE - 16), IVY_DONE);
   were_fetched("what is fetched to be read", FIRST + 1, many, IVY_TO_READ);
   should_be("how often that was tried", tried, many);
   should_be("whether none is too far ahead", farthest <= ahead, 1);
-  should_be("whether some are asked for by one string", of_many() > before, ahead > 2 && !logs);
+  should_be("whether some are asked for by one string", of_many() > before, ahead > 2);
   watch();
   should_be("a write of many pages", ivy_write(ivy, FIRST * PAGE, bytes, MANY * PAGE), IVY_DONE);
   were_fetched("what is fetched to be written", FIRST + 1, many, IVY_TO_WRITE);
@@ -119,7 +127,7 @@ static void many_pages(ivy_process *ivy) {
 static void past_the_end(ivy_process *ivy) {
   watch();
   should_be("a read past the heap", ivy_read(ivy, END - 3 * PAGE, bytes, 5 * PAGE), IVY_OUT_OF_RANGE);
-  were_fetched("what is fetched for it", PAGES - 2, ahead && !logs ? 2 : 0, IVY_TO_READ);
+  were_fetched("what is fetched for it", PAGES - 2, ahead ? 2 : 0, IVY_TO_READ);
   should_be("the last page", (uint64_t)ivy_is_here(ivy, END - 8), 1);
 }
 
@@ -131,7 +139,7 @@ static void wait_for_page(ivy_process *ivy, uint32_t page) {
 }
 
 static void hint(ivy_process *ivy) {
-  uint32_t many = logs ? 0 : least(ahead, 3);
+  uint32_t many = least(ahead, 3);
   watch();
   should_be("a hint of an odd range", ivy_prefetch(ivy, FIRST * PAGE + 3, 2 * PAGE), IVY_DONE);
   were_fetched("what is fetched for it", FIRST, many, IVY_TO_READ);
@@ -147,11 +155,11 @@ static void hint(ivy_process *ivy) {
   were_fetched("what is fetched for these", 0, 0, IVY_TO_READ);
   watch();
   should_be("a hint of many pages", ivy_prefetch(ivy, 8 * PAGE - 1, 10 * PAGE), IVY_DONE);
-  were_fetched("what is fetched for it", 7, logs ? 0 : ahead, IVY_TO_READ);
-  for (uint32_t i = 0; i < ahead && !logs; i++) wait_for_page(ivy, 7 + i);
+  were_fetched("what is fetched for it", 7, ahead, IVY_TO_READ);
+  for (uint32_t i = 0; i < ahead; i++) wait_for_page(ivy, 7 + i);
   watch();
   should_be("a hint of the last byte", ivy_prefetch(ivy, END - 1, 1), IVY_DONE);
-  were_fetched("what is fetched for it", PAGES - 1, logs ? 0 : least(ahead, 1), IVY_TO_READ);
+  were_fetched("what is fetched for it", PAGES - 1, least(ahead, 1), IVY_TO_READ);
 }
 
 static void wrong_hints(ivy_process *ivy) {
@@ -221,6 +229,15 @@ static void look(ivy_process *ivy, uint32_t me) {
   meet(ivy, me);
 }
 
+/* So many lines of a log begin with a word. */
+static uint32_t lines_of(FILE *log, const char *word) {
+  char line[2 * 4096 + 256];
+  uint32_t many = 0;
+  rewind(log);
+  while (fgets(line, sizeof line, log)) many += !strncmp(line, word, strlen(word));
+  return many;
+}
+
 static void run(const char *said, int with_log) {
   for (int progress = IVY_IN_CALLS; progress <= IVY_BY_THREAD; progress++) {
     setenv("IVY_AHEAD", said, 1);
@@ -230,10 +247,15 @@ static void run(const char *said, int with_log) {
     memset(meetings, 0, sizeof meetings);
     keeps = 1;
     kept_many = 0;
-    channel_log = logs ? fopen("/dev/null", "w") : NULL;
+    channel_log = logs ? tmpfile() : NULL;
+    all_begun = 0;
     channel_run_two((ivy_progress)progress, 0, own_all, look);
-    if (channel_log) fclose(channel_log);
-    should_be("whether pages were asked for together", of_many() > 0, ahead > 1 && !logs);
+    if (channel_log) {
+      should_be("lines of pages to be read", lines_of(channel_log, "fetch read ") > MANY, 1);
+      should_be("lines of pages that were asked for", lines_of(channel_log, "fetch "), all_begun);
+      fclose(channel_log);
+    }
+    should_be("whether pages were asked for together", of_many() > 0, ahead > 1);
   }
 }
 

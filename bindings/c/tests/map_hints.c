@@ -3,14 +3,16 @@
  * by pointers, as others find what it writes. With IVY_AHEAD=0 none comes so. */
 #include "map_test.h"
 
-enum { PAGES = 24, HINTED = 5 };
+enum { PAGES = 24, HINTED = 5, REST_US = 2000 };
 
 typedef struct { uint64_t words[512]; } page;
 
 static uint64_t place_of(const void *at) { return (uint64_t)((const uint8_t *)at - (uint8_t *)ivy_map_base(ivy)); }
 static ivy_map_counts counts(void) { return ivy_map_counts_of(ivy); }
 
+/* What others took just now is not asked for, so it rests first for longer than a window. */
 static void hint(page *pages, uint64_t lap, int is_told) {
+  usleep(REST_US);
   uint64_t most = is_told && !getenv("IVY_AHEAD") ? HINTED : 0, asked = counts().asked;
   must("a hint", ivy_prefetch(ivy, place_of(pages) + 5, HINTED * sizeof *pages - 9), IVY_DONE);
   must("how many pages a hint asks for", counts().asked - asked, most);
