@@ -1,4 +1,4 @@
--- What a step leaves by which one node goes on, or has calls handed to it.
+-- What a step leaves by which one node goes on, or has something handed to it.
 use Rattle.std.proofs.Common.{◌≡◌, ◌≢◌, ◌⊎◌, inl, inr, ℕ, ◌+◌, ◌<◌, ◌≤◌, ◌==◌, Bool}
 use Rattle.std.proofs.Common.{true, false, true≢false, Option, Some, List, [], ◌∷◌, ◌++◌}
 use Rattle.std.proofs.Common.{length, set, slice_get, Contains, refl, sym, ap, ◌∙◌, subst, arith}
@@ -9,7 +9,6 @@ use Rattle.std.proofs.lemmas.Bool.{cases_eq, ne_eqb}
 use Rattle.std.proofs.lemmas.Option.{same_Some, slice_get_cases, slice_get_past}
 use Rattle.std.proofs.lemmas.List.Elements.{Contains-append_right}
 use Rattle.crossbeam_queue.proofs.Lists.{at_set, set_here, set_else}
-use Rattle.ivy_model.specs.declared.Call.{Call}
 use Rattle.ivy_model.specs.declared.Config.{Config}
 use Rattle.ivy_moves.specs.Carrying.{node_changed}
 use Rattle.ivy_moves.specs.stated.Cores.{Core}
@@ -20,6 +19,7 @@ use Rattle.ivy_moves.specs.stated.Worlds.{World}
 use Rattle.ivy_moves.proofs.Splitting.{can-more}
 use Rattle.ivy_ether.specs.Data.{Item}
 use Rattle.ivy_ether.specs.declared.item.Item.TheVariants.{Seat, Frame, Report}
+use Rattle.ivy_ether.specs.Handings.{Handing}
 use Rattle.ivy_ether.specs.Views.{Closing, View}
 use Rattle.ivy_ether.specs.Going.{IsListOf, ListGoesOn, Sends, AreFurther}
 use Rattle.ivy_ether.specs.Rule.{total, one_if, is_number, sits, Reported}
@@ -94,10 +94,10 @@ closed_here i v x contained same =
     let b : one_if (x.node == i) ≡ 1 = ap one_if (eq-eqb x.node i (sym same)) in omega arith
 
 -- what a pass knows after a step with a list
-abbrev pub gave : View → List (List Call) → List Mark → List (List ℕ) → List (List ℕ) → List Item → Bool
+abbrev pub gave : View → List Handing → List Mark → List (List ℕ) → List (List ℕ) → List Item → Bool
     → View
-gave v calls es took put items rep = record v {
-  handed = calls;
+gave v handings es took put items rep = record v {
+  handed = handings;
   events = es;
   took = took;
   put = put;
@@ -117,7 +117,7 @@ pub list_else : (parts : ℕ → List Mark) (i j : ℕ) (es : List Mark) → i �
 list_else parts i j es apart = ap (λ b. if b then es else parts j) (ne_eqb i j apart)
 
 module _ {C : Type 0} (rules : Core C) (c : Config) (opening : World C)
-    (hand : List (List Call) → C → C) where
+    (hand : List Handing → C → C) where
   pub item_stays : (end end' : World C) (views views' : List View)
       → ((s : List ℕ) → Contains end.sent s → Contains end'.sent s)
       → ((j : ℕ) (l : List Mark) → Reported views j l → Reported views' j l) → (x : Item)
@@ -126,11 +126,11 @@ module _ {C : Type 0} (rules : Core C) (c : Config) (opening : World C)
   item_stays end end' views views' more stays (Frame b) h = more b h
   item_stays end end' views views' more stays (Report i es) h = stays i es.marks h
 
-  -- a node to which the same calls were handed begins as the same
-  pub same_start : (calls calls' : ℕ → List (List Call)) (start start' : World C) (i : ℕ)
-      → IsStart rules c opening hand calls start → IsStart rules c opening hand calls' start'
-      → calls i ≡ calls' i → slice_get start.nodes i ≡ slice_get start'.nodes i
-  same_start calls calls' start start' i is is' same = elim (slice_get_cases opening.nodes i).1 [
+  -- a node to which the same was handed begins as the same
+  pub same_start : (handings handings' : ℕ → List Handing) (start start' : World C) (i : ℕ)
+      → IsStart rules c opening hand handings start → IsStart rules c opening hand handings' start'
+      → handings i ≡ handings' i → slice_get start.nodes i ≡ slice_get start'.nodes i
+  same_start handings handings' start start' i is is' same = elim (slice_get_cases opening.nodes i).1 [
     | inl x ↦
         is.there i x.0 x.2 ∙ ap (λ k. Some (node_changed (hand k) x.0)) same
         ∙ sym (is'.there i x.0 x.2)
@@ -149,33 +149,33 @@ module _ {C : Type 0} (rules : Core C) (c : Config) (opening : World C)
   list_over start start' i es e same l =
       record { node = l.node; there = sym same ∙ l.there; happen = l.happen }
 
-  -- a run in which node i alone went on, or had calls handed to it
-  pub record Goes (calls calls' : ℕ → List (List Call)) (parts parts' : ℕ → List Mark) (old : World C)
+  -- a run in which node i alone went on, or had something handed to it
+  pub record Goes (handings handings' : ℕ → List Handing) (parts parts' : ℕ → List Mark) (old : World C)
       (i : ℕ) : Type 0 where
     pub end : World C
-    pub run : AreRunParts rules c opening hand calls' parts' end
+    pub run : AreRunParts rules c opening hand handings' parts' end
     pub more : (s : List ℕ) → Contains old.sent s → Contains end.sent s
-    pub others : (j : ℕ) → i ≢ j → (parts' j ≡ parts j) × (calls' j ≡ calls j)
+    pub others : (j : ℕ) → i ≢ j → (parts' j ≡ parts j) × (handings' j ≡ handings j)
 
   -- what this leaves of all views, where pass p sits at the node and knows w now
-  pub record Advanced (views : List View) (starter : ℕ) (issued : List ℕ) (calls : ℕ → List (List Call))
+  pub record Advanced (views : List View) (starter : ℕ) (issued : List ℕ) (handings : ℕ → List Handing)
       (parts : ℕ → List Mark) (end : World C) (p : ℕ) (w : View) : Type 0 where
     pub seats : (j : ℕ) → total (sits j) (set views p w) ≡ total (sits j) views
-    pub fresh : (j : ℕ) → total (sits j) (set views p w) ≡ 0 → (parts j ≡ []) × (calls j ≡ [])
+    pub fresh : (j : ℕ) → total (sits j) (set views p w) ≡ 0 → (parts j ≡ []) × (handings j ≡ [])
     pub stays : (j : ℕ) (l : List Mark) → Reported views j l → Reported (set views p w) j l
     pub fits : (q : ℕ) (u : View) → get_elem? (set views p w) q ≡ some u
-        → FitsRun rules c opening hand starter issued calls parts end (set views p w) q u
+        → FitsRun rules c opening hand starter issued handings parts end (set views p w) q u
 
   pub advanced : (items : List Item) (views : List View) (starter : ℕ) (issued : List ℕ)
       (parts : ℕ → List Mark) (end : World C) (p : ℕ) (v : View) (i : ℕ)
-      (calls' : ℕ → List (List Call)) (parts' : ℕ → List Mark) (handed : List (List Call)) (es : List Mark)
+      (handings' : ℕ → List Handing) (parts' : ℕ → List Mark) (handed : List Handing) (es : List Mark)
       (took put : List (List ℕ)) (given : List Item) (rep : Bool)
       (k : RuleHolds rules c opening hand items views starter issued parts end)
       (at : get_elem? views p ≡ some v) → v.node ≡ Some i → v.reported ≡ false
-      → (on : Goes k.calls calls' parts parts' end i) → parts' i ≡ es → calls' i ≡ handed
+      → (on : Goes k.handings handings' parts parts' end i) → parts' i ≡ es → handings' i ≡ handed
       → ((s : List ℕ) → Contains took s → Contains on.end.sent s)
-      → Advanced views starter issued calls' parts' on.end p (gave v handed es took put given rep)
-  advanced items views starter issued parts end p v i calls' parts' handed es took put given rep k at
+      → Advanced views starter issued handings' parts' on.end p (gave v handed es took put given rep)
+  advanced items views starter issued parts end p v i handings' parts' handed es took put given rep k at
       sitting unreported on part own took_sent =
       record {
         seats = seats_;
@@ -184,7 +184,7 @@ module _ {C : Type 0} (rules : Core C) (c : Config) (opening : World C)
             let o = on.others j (apart_from j none) in (o.0 ∙ f.0, o.1 ∙ f.1);
         stays = stays_;
         fits = fits_set
-            (λ q u. FitsRun rules c opening hand starter issued calls' parts' on.end views' q u)
+            (λ q u. FitsRun rules c opening hand starter issued handings' parts' on.end views' q u)
             views p w
             (λ q u n e. let f = k.fits q u e in record {
               starts = f.starts;
@@ -196,7 +196,7 @@ module _ {C : Type 0} (rules : Core C) (c : Config) (opening : World C)
             })
             record {
               starts = mine.starts;
-              sitting = λ j node. subst (λ x. IsNode rules c opening hand calls' parts' x handed es)
+              sitting = λ j node. subst (λ x. IsNode rules c opening hand handings' parts' x handed es)
                   (same_Some i j (sym sitting ∙ node))
                   record { inside = sit.inside; part = part; handed = own };
               closed = λ x contained. keep x.node x.handed x.events (closed_own x contained)
@@ -212,15 +212,15 @@ module _ {C : Type 0} (rules : Core C) (c : Config) (opening : World C)
       views' : List View
       views' = set views p w
 
-      mine : FitsRun rules c opening hand starter issued k.calls parts end views p v
+      mine : FitsRun rules c opening hand starter issued k.handings parts end views p v
       mine = k.fits p v at
 
-      sit : IsNode rules c opening hand k.calls parts i v.handed v.events
+      sit : IsNode rules c opening hand k.handings parts i v.handed v.events
       sit = mine.sitting i sitting
 
-      keep : (j : ℕ) (h : List (List Call)) (l : List Mark) → i ≢ j
-          → IsNode rules c opening hand k.calls parts j h l
-          → IsNode rules c opening hand calls' parts' j h l
+      keep : (j : ℕ) (h : List Handing) (l : List Mark) → i ≢ j
+          → IsNode rules c opening hand k.handings parts j h l
+          → IsNode rules c opening hand handings' parts' j h l
       keep j h l apart old =
           let o = on.others j apart in
           record { inside = old.inside; part = o.0 ∙ old.part; handed = o.1 ∙ old.handed }
@@ -273,14 +273,14 @@ module _ {C : Type 0} (rules : Core C) (c : Config) (opening : World C)
           (λ _ yes _. absurd (true≢false (sym yes ∙ unreported)))
 
   -- what a step with a list leaves
-  pub record Stepped (views : List View) (starter : ℕ) (issued : List ℕ) (calls : ℕ → List (List Call))
+  pub record Stepped (views : List View) (starter : ℕ) (issued : List ℕ) (handings : ℕ → List Handing)
       (old : World C) (p : ℕ) (w : View) (i : ℕ) (at : World C) (es : List Mark) : Type 0 where
     pub parts : ℕ → List Mark
     pub end : World C
-    pub run : AreRunParts rules c opening hand calls parts end
+    pub run : AreRunParts rules c opening hand handings parts end
     pub more : (s : List ℕ) → Contains old.sent s → Contains end.sent s
     pub own : (s : List ℕ) → Sends rules c at i es s → Contains end.sent s
-    pub on : Advanced views starter issued calls parts end p w
+    pub on : Advanced views starter issued handings parts end p w
 
   pub advance : (items : List Item) (views : List View) (starter : ℕ) (issued : List ℕ)
       (parts : ℕ → List Mark) (end : World C) (p : ℕ) (v : View) (es : List Mark)
@@ -288,7 +288,7 @@ module _ {C : Type 0} (rules : Core C) (c : Config) (opening : World C)
       (k : RuleHolds rules c opening hand items views starter issued parts end)
       (at : get_elem? views p ≡ some v) (may : RuleAllows rules c opening hand v es)
       → ((s : List ℕ) → Contains took s → Contains end.sent s)
-      → Stepped views starter issued k.calls end p (gave v v.handed es took put given rep) may.node
+      → Stepped views starter issued k.handings end p (gave v v.handed es took put given rep) may.node
       k.run.start es
   advance items views starter issued parts end p v es took put given rep k at may took_sent =
       record {
@@ -298,7 +298,7 @@ module _ {C : Type 0} (rules : Core C) (c : Config) (opening : World C)
         more = law.1.before;
         own = λ s sends. law.1.sent i s
             (subst (λ l. Sends rules c k.run.start i l s) (sym (list_here parts i i es refl)) sends);
-        on = advanced items views starter issued parts end p v i k.calls parts_ v.handed es took put
+        on = advanced items views starter issued parts end p v i k.handings parts_ v.handed es took put
             given rep k at may.sits may.unreported goes_on (list_here parts i i es refl) sit.handed
             (λ s contained. law.1.before s (took_sent s contained));
       }
@@ -309,14 +309,14 @@ module _ {C : Type 0} (rules : Core C) (c : Config) (opening : World C)
       parts_ : ℕ → List Mark
       parts_ = with_list parts i es
 
-      mine : FitsRun rules c opening hand starter issued k.calls parts end views p v
+      mine : FitsRun rules c opening hand starter issued k.handings parts end views p v
       mine = k.fits p v at
 
-      sit : IsNode rules c opening hand k.calls parts i v.handed v.events
+      sit : IsNode rules c opening hand k.handings parts i v.handed v.events
       sit = mine.sitting i may.sits
 
       same : slice_get may.at.start.nodes i ≡ slice_get k.run.start.nodes i
-      same = same_start may.at.calls k.calls may.at.start k.run.start i may.at.starts k.run.starts
+      same = same_start may.at.handings k.handings may.at.start k.run.start i may.at.starts k.run.starts
           (may.at.own ∙ sym sit.handed)
 
       count : length may.at.start.nodes ≡ length k.run.start.nodes
@@ -346,7 +346,7 @@ module _ {C : Type 0} (rules : Core C) (c : Config) (opening : World C)
       law : (further : World C) × AreFurther rules c k.run.start end parts_ further
       law = lists_go_on rules c k.run.start end parts parts_ k.run.run each
 
-      goes_on : Goes k.calls k.calls parts parts_ end i
+      goes_on : Goes k.handings k.handings parts parts_ end i
       goes_on = record {
         end = law.0;
         run = record { start = k.run.start; starts = k.run.starts; run = law.1.run };

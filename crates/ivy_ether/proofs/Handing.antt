@@ -1,4 +1,4 @@
--- Calls are handed to a node, and the pass of a site is taken in: the rule is kept.
+-- Calls or pages are handed to a node, and the pass of a site is taken in: the rule is kept.
 use Rattle.std.proofs.Common.{◌≡◌, ◌≢◌, inl, inr, ℕ, ◌+◌, ◌<◌, ◌==◌, true, false, true≢false}
 use Rattle.std.proofs.Common.{Some, List, [], ◌∷◌, ◌++◌, length, set, slice_get, Contains, refl, sym}
 use Rattle.std.proofs.Common.{ap, ◌∙◌, subst, arith, if◌then◌else◌, eq-eqb, append-nil}
@@ -10,7 +10,6 @@ use Rattle.std.proofs.lemmas.List.Elements.{Contains-append_cases, Contains-push
 use Rattle.std.specs.Prelude.{unwrap_or}
 use Rattle.crossbeam_queue.specs.Fifo.{Forks, Merges}
 use Rattle.crossbeam_queue.proofs.Lists.{set_here, set_else, set_again}
-use Rattle.ivy_model.specs.declared.Call.{Call}
 use Rattle.ivy_model.specs.declared.Config.{Config}
 use Rattle.ivy_moves.specs.Carrying.{node_changed, IsChangedBy}
 use Rattle.ivy_moves.specs.stated.Cores.{Core}
@@ -20,7 +19,8 @@ use Rattle.ivy_moves.specs.stated.Worlds.{World}
 use Rattle.ivy_moves.proofs.Carried.{carry_over}
 use Rattle.ivy_moves.proofs.Places.{set-there, set-elsewhere}
 use Rattle.ivy_ether.specs.Data.{Item}
-use Rattle.ivy_ether.specs.Views.{Closing, View, newcomer, with_all_handed, closing_of, with_closed}
+use Rattle.ivy_ether.specs.Handings.{Handing}
+use Rattle.ivy_ether.specs.Views.{Closing, View, newcomer, with_handings, closing_of, with_closed}
 use Rattle.ivy_ether.specs.Rule.{total, one_if, is_number, sits, Reported, IsHanding, IsStart}
 use Rattle.ivy_ether.specs.Rule.{AreRunParts, IsNode, FitsRun, RuleKept}
 use Rattle.ivy_ether.proofs.Advancing.{fits_set, reported_set, item_stays, Goes, advanced}
@@ -34,20 +34,20 @@ pub seat_there : (o : Option ℕ) → IsSome o → (i : ℕ) × (o ≡ Some i)
 seat_there None there = absurd (true≢false (sym there))
 seat_there (Some i) there = (i, refl)
 
--- these rows of calls more for node i, and none for the others
-abbrev more_at : ℕ → List (List Call) → ℕ → List (List Call)
+-- these more for node i, and none for the others
+abbrev more_at : ℕ → List Handing → ℕ → List Handing
 more_at i more j = if i == j then more else []
 
-more_here : (i j : ℕ) (more : List (List Call)) → i ≡ j → more_at i more j ≡ more
+more_here : (i j : ℕ) (more : List Handing) → i ≡ j → more_at i more j ≡ more
 more_here i j more same = ap (λ b. if b then more else []) (eq-eqb i j same)
 
-more_else : (i j : ℕ) (more : List (List Call)) → i ≢ j → more_at i more j ≡ []
+more_else : (i j : ℕ) (more : List Handing) → i ≢ j → more_at i more j ≡ []
 more_else i j more apart = ap (λ b. if b then more else []) (ne_eqb i j apart)
 
 module _ {C : Type 0} (rules : Core C) (c : Config) (opening : World C)
-    (hand : List (List Call) → C → C) (law : IsHanding rules hand) where
-  -- the world in which calls were handed to one node more
-  changed_there : (start : World C) (i : ℕ) (more : List (List Call)) (n : Node C)
+    (hand : List Handing → C → C) (law : IsHanding rules hand) where
+  -- the world in which more was handed to one node
+  changed_there : (start : World C) (i : ℕ) (more : List Handing) (n : Node C)
       → slice_get start.nodes i ≡ Some n
       → IsChangedBy (λ j. hand (more_at i more j)) start
       (record start { nodes = set start.nodes i (node_changed (hand more) n) })
@@ -72,16 +72,16 @@ module _ {C : Type 0} (rules : Core C) (c : Config) (opening : World C)
         early = refl;
       }
 
-  -- it begins with the calls and then those
-  starts_on : (calls more : ℕ → List (List Call)) (start start' : World C)
-      → IsStart rules c opening hand calls start
+  -- it begins with these and then those
+  starts_on : (handings more : ℕ → List Handing) (start start' : World C)
+      → IsStart rules c opening hand handings start
       → IsChangedBy (λ j. hand (more j)) start start'
-      → IsStart rules c opening hand (λ j. calls j ++ more j) start'
-  starts_on calls more start start' is on = record {
+      → IsStart rules c opening hand (λ j. handings j ++ more j) start'
+  starts_on handings more start start' is on = record {
     there = λ j n at.
-        on.there j (node_changed (hand (calls j)) n) (is.there j n at)
+        on.there j (node_changed (hand (handings j)) n) (is.there j n at)
         ∙ ap (λ core. Some (record { core = core; link = n.link }))
-        (sym (law.more (calls j) (more j) n.core));
+        (sym (law.more (handings j) (more j) n.core));
     count = on.count ∙ is.count;
     sent = on.sent ∙ is.sent;
     early = on.early ∙ is.early;
@@ -94,11 +94,11 @@ module _ {C : Type 0} (rules : Core C) (c : Config) (opening : World C)
     | inr x ↦ absurd (let past = x.0 in omega (arith, inside, past))
   ]
 
-  -- the run goes on with the calls
-  grows : (calls : ℕ → List (List Call)) (parts : ℕ → List Mark) (end : World C) (i : ℕ) (more : List (List Call))
-      → AreRunParts rules c opening hand calls parts end → i < length opening.nodes
-      → Goes rules c opening hand calls (λ j. calls j ++ more_at i more j) parts parts end i
-  grows calls parts end i more run inside =
+  -- the run goes on with them
+  grows : (handings : ℕ → List Handing) (parts : ℕ → List Mark) (end : World C) (i : ℕ) (more : List Handing)
+      → AreRunParts rules c opening hand handings parts end → i < length opening.nodes
+      → Goes rules c opening hand handings (λ j. handings j ++ more_at i more j) parts parts end i
+  grows handings parts end i more run inside =
       let count = run.starts.count in
       let n = node_there run.start i (omega (arith, inside, count)) in
       let above = changed_there run.start i more n.0 n.1 in
@@ -109,26 +109,26 @@ module _ {C : Type 0} (rules : Core C) (c : Config) (opening : World C)
         end = carried.0;
         run = record {
           start = start';
-          starts = starts_on calls (more_at i more) run.start start' run.starts above;
+          starts = starts_on handings (more_at i more) run.start start' run.starts above;
           run = carried.1;
         };
         more = λ s contained. subst (λ l. Contains l s) (sym carried.2.sent) contained;
         others = λ j apart.
-            (refl, ap (λ l. calls j ++ l) (more_else i j more apart) ∙ append-nil (calls j));
+            (refl, ap (λ l. handings j ++ l) (more_else i j more apart) ∙ append-nil (handings j));
       }
 
-  -- calls are handed to the pass's node
-  handed : (p : ℕ) (v : View) (i : ℕ) (more : List (List Call)) (items : List Item) (views : List View)
+  -- they are handed to the pass's node
+  handed : (p : ℕ) (v : View) (i : ℕ) (more : List Handing) (items : List Item) (views : List View)
       → v.node ≡ Some i → v.reported ≡ false → RuleKept rules c opening hand items views
       → get_elem? views p ≡ some v
-      → RuleKept rules c opening hand items (set views p (with_all_handed v more))
+      → RuleKept rules c opening hand items (set views p (with_handings v more))
   handed p v i more items views sitting unreported k at =
       let kept = k.4 in
       let mine = kept.fits p v at in
       let own = mine.sitting i sitting in
-      let on = grows kept.calls k.2 k.3 i more kept.run own.inside in
-      let calls' : ℕ → List (List Call) = (λ j. kept.calls j ++ more_at i more j) in
-      let a = advanced rules c opening hand items views k.0 k.1 k.2 k.3 p v i calls' k.2
+      let on = grows kept.handings k.2 k.3 i more kept.run own.inside in
+      let handings' : ℕ → List Handing = (λ j. kept.handings j ++ more_at i more j) in
+      let a = advanced rules c opening hand items views k.0 k.1 k.2 k.3 p v i handings' k.2
       (v.handed ++ more) v.events v.took v.put v.items v.reported kept at sitting unreported on
       own.part
       (ap (λ l. l ++ more_at i more i) own.handed
@@ -139,22 +139,22 @@ module _ {C : Type 0} (rules : Core C) (c : Config) (opening : World C)
         k.2,
         on.end,
         record {
-          calls = calls';
+          handings = handings';
           run = on.run;
           seats = λ j. let x = a.seats j in let y = kept.seats j in omega arith;
           once = kept.once;
           fresh = a.fresh;
           fits = a.fits;
           holds = λ x contained. item_stays rules c opening hand k.3 on.end views
-              (set views p (with_all_handed v more)) on.more a.stays x (kept.holds x contained);
+              (set views p (with_handings v more)) on.more a.stays x (kept.holds x contained);
         },
       )
 
   -- and a newcomer comes beside it
-  pub hands : (p : ℕ) (v : View) (i : ℕ) (more : List (List Call)) → v.node ≡ Some i → v.reported ≡ false
-      → Forks (RuleKept rules c opening hand) p v (with_all_handed v more) newcomer
+  pub hands : (p : ℕ) (v : View) (i : ℕ) (more : List Handing) → v.node ≡ Some i → v.reported ≡ false
+      → Forks (RuleKept rules c opening hand) p v (with_handings v more) newcomer
   hands p v i more sitting unreported items views k at =
-      let w : View = with_all_handed v more in
+      let w : View = with_handings v more in
       let now : List View = set views p w in
       let here : get_elem? now p ≡ some w = set_here views p w (in_list views p v at) in
       subst (λ (l : List View). RuleKept rules c opening hand items (l ++ newcomer ∷ []))
@@ -190,15 +190,15 @@ module _ {C : Type 0} (rules : Core C) (c : Config) (opening : World C)
         k.2,
         k.3,
         record {
-          calls = kept.calls;
+          handings = kept.handings;
           run = kept.run;
           seats = λ j. let x = same j in let y = kept.seats j in omega arith;
           once = kept.once;
           fresh = λ j z. kept.fresh j (sym (same j) ∙ z);
           fits = fits_set
-              (λ r u. FitsRun rules c opening hand k.0 k.1 kept.calls k.2 k.3 views' r u) mid q newcomer
+              (λ r u. FitsRun rules c opening hand k.0 k.1 kept.handings k.2 k.3 views' r u) mid q newcomer
               (λ r u _ e. fits_set
-              (λ r u. FitsRun rules c opening hand k.0 k.1 kept.calls k.2 k.3 views' r u) views p both
+              (λ r u. FitsRun rules c opening hand k.0 k.1 kept.handings k.2 k.3 views' r u) views p both
               (λ r u n e. let f = kept.fits r u e in record {
                 starts = f.starts;
                 sitting = f.sitting;
@@ -216,17 +216,17 @@ module _ {C : Type 0} (rules : Core C) (c : Config) (opening : World C)
                         | inr other ↦ its.closed x other
                       ]
                       | inr is ↦ subst
-                          (λ (y : Closing). IsNode rules c opening hand kept.calls k.2 y.node y.handed y.events)
+                          (λ (y : Closing). IsNode rules c opening hand kept.handings k.2 y.node y.handed y.events)
                           is
                           (subst
-                          (λ (y : ℕ). IsNode rules c opening hand kept.calls k.2 y site.handed site.events)
+                          (λ (y : ℕ). IsNode rules c opening hand kept.handings k.2 y site.handed site.events)
                           (sym (ap (λ o. unwrap_or o 0) sitting)) (its.sitting i sitting))
                     ];
                 took = mine.took;
                 reports = λ j l contained. stays j l (mine.reports j l contained);
               }
               r u e)
-              (fits_newcomer rules c opening hand k.0 k.1 kept.calls k.2 k.3 views' q);
+              (fits_newcomer rules c opening hand k.0 k.1 kept.handings k.2 k.3 views' q);
           holds = λ y contained. item_stays rules c opening hand k.3 k.3 views views' (λ s h. h) stays y
               (kept.holds y contained);
         },

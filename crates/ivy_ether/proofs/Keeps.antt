@@ -9,7 +9,6 @@ use Rattle.std.proofs.lemmas.Option.{none-some, same_Some}
 use Rattle.std.proofs.lemmas.List.Elements.{Contains-append_cases, Contains-push_cases}
 use Rattle.crossbeam_queue.specs.Fifo.{Pushes, Pops, Forks, Learns}
 use Rattle.crossbeam_queue.proofs.Lists.{set_here, set_again, at_snoc, at_longer}
-use Rattle.ivy_model.specs.declared.Call.{Call}
 use Rattle.ivy_model.specs.declared.Config.{Config}
 use Rattle.ivy_moves.specs.stated.Cores.{Core}
 use Rattle.ivy_moves.specs.Marks.{Mark}
@@ -18,6 +17,7 @@ use Rattle.ivy_moves.specs.stated.Worlds.{World}
 use Rattle.ivy_moves.proofs.Splitting.{none-in}
 use Rattle.ivy_ether.specs.Data.{Item}
 use Rattle.ivy_ether.specs.declared.item.Item.TheVariants.{Seat, Frame, Report}
+use Rattle.ivy_ether.specs.Handings.{Handing}
 use Rattle.ivy_ether.specs.Views.{View, newcomer, beginner, with_put, with_taken, with_report}
 use Rattle.ivy_ether.specs.Views.{with_issued, with_seat, with_given, with_told, after_seat}
 use Rattle.ivy_ether.specs.Views.{view_after_told}
@@ -34,7 +34,7 @@ off : false ≡ true → ⊥
 off e = true≢false (sym e)
 
 module _ {C : Type 0} (rules : Core C) (c : Config) (opening : World C)
-    (hand : List (List Call) → C → C) where
+    (hand : List Handing → C → C) where
   -- what the events of the pass's node send, they send in the run
   sends_there : (items : List Item) (views : List View) (starter : ℕ) (issued : List ℕ)
       (parts : ℕ → List Mark) (end : World C) (p : ℕ) (v : View) (es : List Mark) (b : List ℕ)
@@ -43,7 +43,7 @@ module _ {C : Type 0} (rules : Core C) (c : Config) (opening : World C)
       → Sends rules c k.run.start s.node es b
   sends_there items views starter issued parts end p v es b k at s =
       let own = (k.fits p v at).sitting s.node s.sits in
-      let there = same_start rules c opening hand s.at.calls k.calls s.at.start k.run.start s.node
+      let there = same_start rules c opening hand s.at.handings k.handings s.at.start k.run.start s.node
       s.at.starts k.run.starts (s.at.own ∙ sym own.handed) in
       record {
         effect = s.sends.effect;
@@ -75,7 +75,7 @@ module _ {C : Type 0} (rules : Core C) (c : Config) (opening : World C)
           a.parts,
           a.end,
           record {
-            calls = kept.calls;
+            handings = kept.handings;
             run = a.run;
             seats = λ j. let x = a.on.seats j in let y = kept.seats j in
                 let z = total-append (seat_in j) items (Frame b ∷ []) in omega arith;
@@ -123,7 +123,7 @@ module _ {C : Type 0} (rules : Core C) (c : Config) (opening : World C)
           a.parts,
           a.end,
           record {
-            calls = kept.calls;
+            handings = kept.handings;
             run = a.run;
             seats = λ j. let e = a.on.seats j in let y = kept.seats j in omega arith;
             once = kept.once;
@@ -162,7 +162,7 @@ module _ {C : Type 0} (rules : Core C) (c : Config) (opening : World C)
           a.parts,
           a.end,
           record {
-            calls = kept.calls;
+            handings = kept.handings;
             run = a.run;
             seats = λ j. let x = a.on.seats j in let y = kept.seats j in
                 let z = total-append (seat_in j) items (Report i es ∷ []) in omega arith;
@@ -204,7 +204,7 @@ module _ {C : Type 0} (rules : Core C) (c : Config) (opening : World C)
           k.2,
           k.3,
           record {
-            calls = kept.calls;
+            handings = kept.handings;
             run = kept.run;
             seats = λ j. let x = same j in let y = kept.seats j in
                 let z = total-append (seat_in j) items (Seat i ∷ []) in let g = grows j in
@@ -216,7 +216,7 @@ module _ {C : Type 0} (rules : Core C) (c : Config) (opening : World C)
               | inr d ↦ let b : one_if (i == j) ≡ 0 = ap one_if (ne_eqb i j d) in omega arith
             ];
             fresh = λ j z. kept.fresh j (sym (same j) ∙ z);
-            fits = fits_set (λ q u. FitsRun rules c opening hand k.0 issued' kept.calls k.2 k.3 views' q u) views p w
+            fits = fits_set (λ q u. FitsRun rules c opening hand k.0 issued' kept.handings k.2 k.3 views' q u) views p w
                 (λ q u n e. let f = kept.fits q u e in record {
                   starts = λ s. absurd (n ((f.starts s).0 ∙ sym here.0));
                   sitting = f.sitting;
@@ -252,7 +252,7 @@ module _ {C : Type 0} (rules : Core C) (c : Config) (opening : World C)
         k.2,
         k.3,
         record {
-          calls = kept.calls;
+          handings = kept.handings;
           run = kept.run;
           seats = λ j. let y = kept.seats j in omega arith;
           once = kept.once;
@@ -289,12 +289,12 @@ module _ {C : Type 0} (rules : Core C) (c : Config) (opening : World C)
           k.2,
           k.3,
           record {
-            calls = kept.calls;
+            handings = kept.handings;
             run = kept.run;
             seats = λ j. let y = kept.seats j in let d = changed j in omega arith;
             once = kept.once;
             fresh = λ j z. let d = changed j in kept.fresh j (omega arith);
-            fits = fits_set (λ q u. FitsRun rules c opening hand k.0 k.1 kept.calls k.2 k.3 views' q u) views p w
+            fits = fits_set (λ q u. FitsRun rules c opening hand k.0 k.1 kept.handings k.2 k.3 views' q u) views p w
                 (λ q u n e. let f = kept.fits q u e in record {
                   starts = f.starts;
                   sitting = f.sitting;
@@ -305,7 +305,7 @@ module _ {C : Type 0} (rules : Core C) (c : Config) (opening : World C)
                 record {
                   starts = mine.starts;
                   sitting = λ j node. let same : i ≡ j = same_Some i j node in
-                      subst (λ (y : ℕ). IsNode rules c opening hand kept.calls k.2 y [] []) same
+                      subst (λ (y : ℕ). IsNode rules c opening hand kept.handings k.2 y [] []) same
                       (let f = kept.fresh i empty in
                       record { inside = within; part = f.0; handed = f.1 });
                   closed = mine.closed;
@@ -340,12 +340,12 @@ module _ {C : Type 0} (rules : Core C) (c : Config) (opening : World C)
           k.2,
           k.3,
           record {
-            calls = kept.calls;
+            handings = kept.handings;
             run = kept.run;
             seats = λ j. let x = same j in let y = kept.seats j in omega arith;
             once = kept.once;
             fresh = λ j z. kept.fresh j (sym (same j) ∙ z);
-            fits = fits_set (λ q u. FitsRun rules c opening hand k.0 k.1 kept.calls k.2 k.3 views' q u) views p w
+            fits = fits_set (λ q u. FitsRun rules c opening hand k.0 k.1 kept.handings k.2 k.3 views' q u) views p w
                 (λ q u n e. let f = kept.fits q u e in record {
                   starts = f.starts;
                   sitting = f.sitting;
@@ -391,12 +391,12 @@ module _ {C : Type 0} (rules : Core C) (c : Config) (opening : World C)
         k.2,
         k.3,
         record {
-          calls = kept.calls;
+          handings = kept.handings;
           run = kept.run;
           seats = λ j. let x = same j in let y = kept.seats j in omega arith;
           once = kept.once;
           fresh = λ j z. kept.fresh j (sym (same j) ∙ z);
-          fits = fits_set (λ q u. FitsRun rules c opening hand k.0 k.1 kept.calls k.2 k.3 views' q u) views p w
+          fits = fits_set (λ q u. FitsRun rules c opening hand k.0 k.1 kept.handings k.2 k.3 views' q u) views p w
               (λ q u n e. let f = kept.fits q u e in record {
                 starts = f.starts;
                 sitting = f.sitting;
@@ -422,7 +422,7 @@ module _ {C : Type 0} (rules : Core C) (c : Config) (opening : World C)
   learns_run p v items views k at =
       let kept = k.4 in
       let mine = kept.fits p v at in record {
-        calls = kept.calls;
+        handings = kept.handings;
         parts = k.2;
         end = k.3;
         run = kept.run;
@@ -437,7 +437,7 @@ module _ {C : Type 0} (rules : Core C) (c : Config) (opening : World C)
       let kept = k.4 in
       let mine = kept.fits p v at in
       record {
-        calls = kept.calls;
+        handings = kept.handings;
         parts = k.2;
         end = k.3;
         run = kept.run;
@@ -447,10 +447,10 @@ module _ {C : Type 0} (rules : Core C) (c : Config) (opening : World C)
         closed = mine.closed;
       }
 
-  pub fits_newcomer : (starter : ℕ) (issued : List ℕ) (calls : ℕ → List (List Call))
+  pub fits_newcomer : (starter : ℕ) (issued : List ℕ) (handings : ℕ → List Handing)
       (parts : ℕ → List Mark) (end : World C) (views : List View) (q : ℕ)
-      → FitsRun rules c opening hand starter issued calls parts end views q newcomer
-  fits_newcomer starter issued calls parts end views q = record {
+      → FitsRun rules c opening hand starter issued handings parts end views q newcomer
+  fits_newcomer starter issued handings parts end views q = record {
     starts = λ e. absurd (off e);
     sitting = λ i e. absurd (none-some i e);
     closed = λ x contained. absurd (none-in x contained);
@@ -473,7 +473,7 @@ module _ {C : Type 0} (rules : Core C) (c : Config) (opening : World C)
         a.parts,
         a.end,
         record {
-          calls = kept.calls;
+          handings = kept.handings;
           run = a.run;
           seats = λ j. let x = a.on.seats j in let y = kept.seats j in omega arith;
           once = kept.once;
@@ -508,7 +508,7 @@ module _ {C : Type 0} (rules : Core C) (c : Config) (opening : World C)
         k.2,
         k.3,
         record {
-          calls = kept.calls;
+          handings = kept.handings;
           run = kept.run;
           seats = λ j. let y = kept.seats j in let s = sums j in omega arith;
           once = kept.once;
@@ -521,8 +521,8 @@ module _ {C : Type 0} (rules : Core C) (c : Config) (opening : World C)
               took = f.took;
               reports = λ j l contained. stays j l (f.reports j l contained);
             }
-            | inr is ↦ subst (λ (x : View). FitsRun rules c opening hand k.0 k.1 kept.calls k.2 k.3 views' q x) is
-                (fits_newcomer k.0 k.1 kept.calls k.2 k.3 views' q)
+            | inr is ↦ subst (λ (x : View). FitsRun rules c opening hand k.0 k.1 kept.handings k.2 k.3 views' q x) is
+                (fits_newcomer k.0 k.1 kept.handings k.2 k.3 views' q)
           ];
           holds = λ x contained. item_stays rules c opening hand k.3 k.3 views views' (λ s h. h) stays x
               (kept.holds x contained);
@@ -583,7 +583,7 @@ module _ {C : Type 0} (rules : Core C) (c : Config) (opening : World C)
     (λ i. []),
     opening,
     record {
-      calls = λ i. [];
+      handings = λ i. [];
       run = record {
         start = opening;
         starts = first_start law;

@@ -1,4 +1,5 @@
 pub mod Data
+pub mod Handings
 pub mod Views
 pub mod Held
 pub mod Items

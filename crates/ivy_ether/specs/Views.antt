@@ -4,12 +4,13 @@ use Rattle.ivy_model.specs.declared.Call.{Call}
 use Rattle.ivy_moves.specs.Marks.{Mark}
 use Rattle.ivy_ether.specs.Data.{Item}
 use Rattle.ivy_ether.specs.declared.item.Item.TheVariants.{Seat, Frame, Report}
+use Rattle.ivy_ether.specs.Handings.{Handing, Calls, Page, rows_of}
 use Rattle.ivy_ether.specs.Items.{strings_in}
 
--- of a node whose pass is at its end: the rows of calls that were handed to it, and its event list
+-- of a node whose pass is at its end: what was handed to it, and its event list
 pub record Closing : Type 0 where
   pub node : ℕ
-  pub handed : List (List Call)
+  pub handed : List Handing
   pub events : List Mark
 
 -- what a pass knows
@@ -20,11 +21,10 @@ pub record View : Type 0 where
   pub issued : List ℕ
   pub reports : List (ℕ × List Mark)
   pub closed : List Closing
-  -- of a site's pass: the node whose seat it took, the rows of calls that were handed to that node
-  -- since, its event list, the strings that the pass took, those that it put, and whether it has
-  -- reported
+  -- of a site's pass: the node whose seat it took, what was handed to that node since, its event
+  -- list, the strings that the pass took, those that it put, and whether it has reported
   pub node : Option ℕ
-  pub handed : List (List Call)
+  pub handed : List Handing
   pub events : List Mark
   pub took : List (List ℕ)
   pub put : List (List ℕ)
@@ -66,13 +66,21 @@ abbrev pub with_seat : View → ℕ → View
 with_seat v i =
     record v { node = Some i; handed = []; events = []; took = []; put = []; reported = false }
 
--- a call is handed to the pass's node, alone in its row
+-- these are handed to the pass's node, one after another
+abbrev pub with_handings : View → List Handing → View
+with_handings v hs = record v { handed = v.handed ++ hs }
+
+-- a call is handed to it, alone in its row
 abbrev pub with_handed : View → Call → View
-with_handed v call = record v { handed = v.handed ++ (call ∷ []) ∷ [] }
+with_handed v call = record v { handed = v.handed ++ Calls (call ∷ []) ∷ [] }
 
 -- these rows of calls are handed to it, one after another
 abbrev pub with_all_handed : View → List (List Call) → View
-with_all_handed v rows = record v { handed = v.handed ++ rows }
+with_all_handed v rows = with_handings v (rows_of rows)
+
+-- a page is handed to it, to be fetched ahead
+abbrev pub with_page : View → ℕ → Bool → View
+with_page v page write = with_handings v (Page page write ∷ [])
 
 -- the pass gave its site's list, and did nothing else
 abbrev pub with_given : View → List Mark → View

@@ -6,7 +6,8 @@ ghost use Rattle.ivy_program.specs.stated.Programs.{Called};
 ghost use Rattle.ivy_program.specs.Programs.{one_by_one};
 ghost use Rattle.ivy_ether.specs.Programs.{MayGive, SendsFrom, Runs, Told};
 ghost use Rattle.ivy_ether.specs.Rule.{times};
-ghost use Rattle.ivy_ether.specs.Views.{with_put, with_refused, with_taken, with_empty, with_report, with_issued, with_seat, with_handed, with_all_handed, with_given, with_closed, with_told};
+ghost use Rattle.ivy_ether.specs.Views.{with_put, with_refused, with_taken, with_empty, with_report, with_issued, with_seat, with_handed, with_all_handed, with_handings, with_page, with_given, with_closed, with_told};
+ghost use Rattle.ivy_ether.specs.Handings.{Calls};
 ghost use Rattle.ivy_ether.specs.EtherViews.{MatchPut, AreFresh, room_of};
 
 use crate::item::{Item, View, Wired};
@@ -298,11 +299,11 @@ impl<S: Setup, A: Allocator + Copy> Ether<S, A> {
 
     fn hand_given<E: Handed>(&self, pass: &mut Pass<Wired<A>>, call: Call)
         requires pass { pass.old.ether ≡ self.now }
-        requires given { E.calls ≡ (call ∷ []) ∷ [] }
+        requires given { E.handings ≡ Calls (call ∷ []) ∷ [] }
         requires seated { IsSome pass.old.known.node }
         requires unreported { pass.old.known.reported ≡ false }
         ensures pass { pass.new.ether ≡ pass.old.ether }
-        ensures known { pass.new.known ≡ with_all_handed pass.old.known E.calls }
+        ensures known { pass.new.known ≡ with_handings pass.old.known E.handings }
     {
         // for the proof: the clauses name it.
         let _ = call;
@@ -333,7 +334,7 @@ impl<S: Setup, A: Allocator + Copy> Ether<S, A> {
         requires seated { IsSome pass.old.known.node }
         requires unreported { pass.old.known.reported ≡ false }
         ensures pass { pass.new.ether ≡ pass.old.ether }
-        ensures known { pass.new.known ≡ with_all_handed pass.old.known E.calls }
+        ensures known { pass.new.known ≡ with_handings pass.old.known E.handings }
     {
         // for the proof: the clauses name them.
         let _ = (kind, addr, words);
@@ -377,6 +378,30 @@ impl<S: Setup, A: Allocator + Copy> Ether<S, A> {
         ensures known { pass.new.known ≡ with_all_handed pass.old.known (calls_of (row kind 0 addr (numbers_in words bytes.now)) ∷ []) }
     {
         self.hand_words_given::<Brand>(pass, kind, addr, words, bytes)
+    }
+
+    fn hand_page_given<E: Handed>(&self, pass: &mut Pass<Wired<A>>, page: u32, write: bool)
+        requires pass { pass.old.ether ≡ self.now }
+        requires seated { IsSome pass.old.known.node }
+        requires unreported { pass.old.known.reported ≡ false }
+        ensures pass { pass.new.ether ≡ pass.old.ether }
+        ensures known { pass.new.known ≡ with_handings pass.old.known E.handings }
+    {
+        // for the proof: the clauses name them.
+        let _ = (page, write);
+        self.queue.another::<Hands<E>>(&mut pass.token);
+    }
+
+    /// A page is handed to the pass's node, to be fetched ahead, to read or to write, after all calls that were handed to it:
+    /// as [`Ether::hand`] hands a call.
+    pub fn hand_page(&self, pass: &mut Pass<Wired<A>>, page: u32, write: bool)
+        requires pass { pass.old.ether ≡ self.now }
+        requires seated { IsSome pass.old.known.node }
+        requires unreported { pass.old.known.reported ≡ false }
+        ensures pass { pass.new.ether ≡ pass.old.ether }
+        ensures known { pass.new.known ≡ with_page pass.old.known page write }
+    {
+        self.hand_page_given::<Brand>(pass, page, write)
     }
 
     fn give<E: Given>(&self, pass: &mut Pass<Wired<A>>, events: &Events<A>)

@@ -23,18 +23,18 @@ impl Given for Brand {
     ghost frame = { [] };
 }
 
-/// The calls that are handed to a node, in rows. Each step picks them.
+/// The calls and the pages that are handed to a node. Each step picks them.
 pub trait Handed {
     ghost use Rattle.std.specs.Prelude.{List};
-    ghost use Rattle.ivy_model.specs.declared.Call.{Call};
+    ghost use Rattle.ivy_ether.specs.Handings.{Handing};
 
-    ghost calls: { List (List Call) };
+    ghost handings: { List Handing };
 }
 
 impl Handed for Brand {
     ghost use Rattle.std.specs.Prelude.{[]};
 
-    ghost calls = { [] };
+    ghost handings = { [] };
 }
 
 /// A frame is put.
@@ -187,13 +187,13 @@ impl Split<View> for Beside {
     ghost right = { λ v. newcomer };
 }
 
-/// Calls are handed to the pass's node.
+/// Calls or pages are handed to the pass's node.
 pub struct Hands<E: Handed>(PhantomData<E>);
 
 impl<E: Handed> Split<View> for Hands<E> {
-    ghost use Rattle.ivy_ether.specs.Views.{newcomer, with_all_handed};
+    ghost use Rattle.ivy_ether.specs.Views.{newcomer, with_handings};
 
-    ghost left = { λ v. with_all_handed v E.calls };
+    ghost left = { λ v. with_handings v E.handings };
 
     ghost right = { λ v. newcomer };
 }

@@ -41,8 +41,8 @@ pub told_more : (c : Config) (opened : Opening) (programs : List Program) (v v' 
 told_more c opened programs v v' nodes nodes' n i last more tells told j m there =
     elim (get_push nodes n j m (subst (λ l. slice_get l j ≡ Some m) more there)) [
       | inl was ↦ let old = told j m was in record {
-        calls = old.calls;
-        closed = tells.0 (record { node = j; handed = old.calls; events = m.events }) old.closed;
+        handings = old.handings;
+        closed = tells.0 (record { node = j; handed = old.handings; events = m.events }) old.closed;
         done = old.done;
       }
       | inr new ↦
@@ -65,7 +65,7 @@ tells_of c opened programs v v' w es s i known node is done =
           (Contains-append_left (v.closed ++ w.closed) (its ∷ []) x
           (Contains-append_left v.closed w.closed x there)),
       record {
-        calls = w.handed;
+        handings = w.handed;
         closed = subst
             (λ (u : View). Contains u.closed (record { node = i; handed = w.handed; events = s.events }))
             (sym known)

@@ -6,7 +6,6 @@ use Rattle.std.proofs.lemmas.List.Elements.{Contains-append_right}
 use Rattle.atomic_table.specs.Seated.{TableId}
 use Rattle.ivy_model.specs.declared.Config.{Config}
 use Rattle.ivy_program.specs.stated.Programs.{Program}
-use Rattle.ivy_program.specs.Programs.{handed}
 use Rattle.ivy_moves.specs.Marks.{Mark}
 use Rattle.ivy_moves.specs.stated.Nodes.{Effect}
 use Rattle.ivy_moves.specs.Parts.{AllHappen, AllCanBeMade, AreParts}
@@ -16,9 +15,9 @@ use Rattle.ivy_moves.proofs.Splitting.{same-effect, can-more}
 use Rattle.ivy_host.specs.declared.opening.Opening.{Opening}
 use Rattle.ivy_host.specs.stated.Hosts.{Host, host_rules}
 use Rattle.ivy_host.specs.stated.Managers.{Managed, managed_ops}
-use Rattle.ivy_host.specs.Handing.{handing}
 use Rattle.ivy_ether.specs.Rule.{IsNode}
 use Rattle.ivy_ether.specs.Going.{IsListOf, ListGoesOn, AreFurther}
+use Rattle.ivy_ether.specs.Handings.{handing_all, with_all}
 use Rattle.ivy_ether.specs.Held.{Held}
 use Rattle.ivy_ether.specs.Programs.{beginning, all_handed, Runs}
 use Rattle.ivy_ether.proofs.Hosts.{handed-at, handed_count, from_start}
@@ -35,23 +34,23 @@ module _ (c : Config) (opened : Opening) (programs : List Program) (wire : Table
     (r : Runs c opened programs p.known)
   where
     abbrev start : World (Host Managed)
-    start = beginning c opened (all_handed r.calls programs)
+    start = beginning c opened (all_handed r.handings programs)
 
-    own : IsNode (host_rules managed_ops) c (beginning c opened programs) handing r.calls r.parts
+    own : IsNode (host_rules managed_ops) c (beginning c opened programs) handing_all r.handings r.parts
         s.me
         p.known.handed p.known.events
     own = r.own s.me h.node
 
     run : AreParts (host_rules managed_ops) c start r.parts r.end
-    run = from_start c opened programs r.calls r.parts r.end r.run
+    run = from_start c opened programs r.handings r.parts r.end r.run
 
     abbrev lists : ℕ → List Mark
     lists = with_list r.parts s.me s.events
 
     own_list : IsListOf (host_rules managed_ops) c start s.me s.events made.effect
-    own_list = its_list c opened (all_handed r.calls programs) s made h.config h.began
-        (handed-at r.calls programs s.me h.program.first h.program.there
-        ∙ ap (λ l. Some (handed l h.program.first)) own.handed ∙ ap Some (sym h.program.is))
+    own_list = its_list c opened (all_handed r.handings programs) s made h.config h.began
+        (handed-at r.handings programs s.me h.program.first h.program.there
+        ∙ ap (λ l. Some (with_all l h.program.first)) own.handed ∙ ap Some (sym h.program.is))
 
     goes : ListGoesOn (host_rules managed_ops) c start s.me (r.parts s.me) r.end.sent
         s.events
@@ -63,7 +62,7 @@ module _ (c : Config) (opened : Opening) (programs : List Program) (wire : Table
       can = can-more p.known.took r.end.sent (length start.nodes) s.me h.given.more
           r.took
           (subst (λ k. AllCanBeMade p.known.took k s.me h.given.more)
-          (sym (handed_count c opened r.calls programs)) h.given.can);
+          (sym (handed_count c opened r.handings programs)) h.given.can);
     }
 
     each : (j : ℕ)
@@ -98,7 +97,7 @@ module _ (c : Config) (opened : Opening) (programs : List Program) (wire : Table
 
     pub in_run : IsInRun c opened programs (place wire s p)
     in_run = record {
-      calls = r.calls;
+      handings = r.handings;
       handed = own.handed;
       parts = lists;
       end = went.0;

@@ -1,6 +1,6 @@
 -- A seated site stays seated, and may give its list.
 use Rattle.std.proofs.Common.{◌≡◌, ◌≢◌, ℕ, zero, suc, ◌+◌, ◌<◌, List, [], ◌∷◌, ◌++◌, length}
-use Rattle.std.proofs.Common.{slice_get, Contains, Option, Some, None, refl, sym, ap}
+use Rattle.std.proofs.Common.{slice_get, Bool, Contains, Option, Some, None, refl, sym, ap}
 use Rattle.std.proofs.Common.{subst, ◌∙◌, arith, append-nil, append_assoc}
 use Rattle.std.specs.Prelude.{MatchResult, MatchOption, Result, Ok, Err}
 use Rattle.ivy_model.specs.declared.Fault.{Fault}
@@ -15,7 +15,7 @@ use Rattle.atomic_table.specs.Seated.{TableId}
 use Rattle.ivy_model.specs.declared.Config.{Config}
 use Rattle.ivy_model.specs.stated.Config.{IsConfig}
 use Rattle.ivy_program.specs.stated.Programs.{Program}
-use Rattle.ivy_program.specs.Programs.{handed, one_by_one}
+use Rattle.ivy_program.specs.Programs.{one_by_one}
 use Rattle.ivy_model.specs.declared.Call.{Call}
 use Rattle.ivy_model.specs.declared.Record.{Record}
 use Rattle.ivy_model.specs.declared.Reply.{Reply}
@@ -34,18 +34,18 @@ use Rattle.ivy_host.specs.stated.Hosts.{Host, host_rules}
 use Rattle.ivy_host.specs.stated.Managers.{Managed, managed_ops}
 use Rattle.ivy_host.specs.stated.Openings.{first_node, first_nodes, managed_start}
 use Rattle.ivy_ether.specs.Going.{IsListOf}
+use Rattle.ivy_ether.specs.Handings.{Handing, Calls, Page, handing_all, rows_of, with_all}
 use Rattle.ivy_ether.specs.Held.{Held, held}
 use Rattle.ivy_ether.specs.Programs.{beginning, all_handed, MayGive, SendsFrom}
-use Rattle.ivy_ether.proofs.Hosts.{handed-at, handed_count, handed_more, starts_with}
-use Rattle.ivy_host.proofs.HandedHosts.{handed_none}
-use Rattle.ivy_ether.specs.Views.{View, with_put, with_refused, with_taken, with_empty, with_handed, with_all_handed}
+use Rattle.ivy_ether.proofs.Hosts.{handed-at, handed_count, starts_with, with_all-append}
+use Rattle.ivy_ether.specs.Views.{View, with_put, with_refused, with_taken, with_empty, with_handed, with_all_handed, with_handings, with_page}
 use Rattle.ivy_site.specs.declared.turn.Turn as turn
 use Rattle.ivy_site.specs.declared.turn.Turn.TheVariants.{Idle, Moved, Ended}
 use Rattle.ivy_site.specs.SiteView.{SiteView, after_hearing, after_delivery, after_pulse_to}
 use Rattle.ivy_site.specs.Sites.{IsMadeByEvents, IsSentBy, AfterTurn, AfterDelivery, SiteDelivers, without_ready, GoesOnOnce, FollowsDelivery}
 use Rattle.ivy_site.specs.Sites as sites
-use Rattle.ivy_site.specs.Calls.{AreAnswered, AreTaken, BeginsRow}
-use Rattle.ivy_site.specs.Handed.{site_handed}
+use Rattle.ivy_site.specs.Calls.{AreAnswered, AreTaken, BeginsFetch, BeginsRow}
+use Rattle.ivy_site.specs.Handed.{site_handed, site_fetching}
 use Rattle.ivy_host.proofs.Programs.{turned-program, posting-core, delivered-program}
 use Rattle.ivy_program.specs.InstructionSteps.{HasEnded}
 use Rattle.ivy_seating.specs.Places.{RunsProgram, IsSeated, IsFreshSeat}
@@ -53,6 +53,12 @@ use Rattle.ivy_seating.specs.Reports.{report_of, IsDone}
 
 abbrev program_in : SiteView → Program
 program_in s = s.node.core.process.program
+
+-- the site, where these were handed to it
+abbrev handed_all : List Handing → SiteView → SiteView
+handed_all hs s = record s {
+  node = record { core = handing_all hs s.node.core; link = s.node.link };
+}
 
 -- the first node of a program
 first_there : (opened : Opening) (c : Config) (me k : ℕ) (programs : List Program) (i : ℕ)
@@ -84,12 +90,12 @@ its_list c opened programs s made config began program = record {
       config made.happen);
 }
 
--- where these calls were handed to all nodes, as to its own, its program is the one that it runs
-pub runs_there : (programs : List Program) (s : SiteView) (calls : List (List Call))
-    → RunsProgram programs s calls
-    → slice_get (all_handed (λ _. calls) programs) s.me ≡ Some (program_in s)
-runs_there programs s calls r =
-    handed-at (λ _. calls) programs s.me r.first r.there ∙ ap Some (sym r.is)
+-- where these were handed to all nodes, as to its own, its program is the one that it runs
+pub runs_there : (programs : List Program) (s : SiteView) (hs : List Handing)
+    → RunsProgram programs s hs
+    → slice_get (all_handed (λ _. hs) programs) s.me ≡ Some (program_in s)
+runs_there programs s hs r =
+    handed-at (λ _. hs) programs s.me r.first r.there ∙ ap Some (sym r.is)
 
 module _ (c : Config) (opened : Opening) (programs : List Program) where
   -- so it may be given
@@ -369,7 +375,7 @@ module _ (c : Config) (opened : Opening) (programs : List Program) where
     program = record {
       first = h.program.first;
       there = h.program.there;
-      is = h.program.is ∙ ap (λ l. handed l h.program.first) (sym g.handed);
+      is = h.program.is ∙ ap (λ l. with_all l h.program.first) (sym g.handed);
     };
     given = record { more = []; is = sym (append-nil p'.known.events ∙ g.events); can = tt };
     took = can-more p.known.took p'.known.took (length programs) s.me s.events g.took h.took;
@@ -449,8 +455,7 @@ module _ (c : Config) (opened : Opening) (programs : List Program) where
     program = record {
       first = f.program;
       there = f.there;
-      is = ap program_in f.site ∙ sym (handed_none f.program)
-          ∙ ap (λ (v : View). handed v.handed f.program) (sym f.pass);
+      is = ap program_in f.site ∙ ap (λ (v : View). with_all v.handed f.program) (sym f.pass);
     };
     given = record {
       more = [];
@@ -515,14 +520,14 @@ module _ (c : Config) (opened : Opening) (programs : List Program) where
   take_seated wire (Some x) s p p' es is ether known h =
       taken_seated wire s p p' es x is ether known h
 
-  -- once calls were handed to its node
-  pub all_handed_seated : (wire : TableId) (s s' : SiteView) (p p' : Held) (calls : List (List Call))
-      → s' ≡ site_handed calls s → p'.ether ≡ p.ether
-      → p'.known ≡ with_all_handed p.known calls → IsSeated wire c opened programs s p
+  -- once calls or pages were handed to its node
+  pub all_handed_seated : (wire : TableId) (s s' : SiteView) (p p' : Held) (hs : List Handing)
+      → s' ≡ handed_all hs s → p'.ether ≡ p.ether
+      → p'.known ≡ with_handings p.known hs → IsSeated wire c opened programs s p
       → IsSeated wire c opened programs s' p'
-  all_handed_seated wire s s' p p' calls same ether known h =
+  all_handed_seated wire s s' p p' hs same ether known h =
       subst (λ x. IsSeated wire c opened programs x p') (sym same)
-      (subst (IsSeated wire c opened programs (site_handed calls s))
+      (subst (IsSeated wire c opened programs (handed_all hs s))
       (λ k. held (sym ether k) (sym known k)) (record {
         limits = h.limits;
         each = h.each;
@@ -534,20 +539,20 @@ module _ (c : Config) (opened : Opening) (programs : List Program) where
         program = record {
           first = h.program.first;
           there = h.program.there;
-          is = ap (handed calls) h.program.is
-              ∙ sym (handed_more p.known.handed calls h.program.first);
+          is = ap (with_all hs) h.program.is
+              ∙ sym (with_all-append p.known.handed hs h.program.first);
         };
         given = record { more = h.given.more; is = h.given.is; can = h.given.can };
         took = h.took;
       }))
 
-  -- and once one was
+  -- and once a call was
   pub hand_seated : (wire : TableId) (s s' : SiteView) (p p' : Held) (call : Call)
       → s' ≡ site_handed ((call ∷ []) ∷ []) s → p'.ether ≡ p.ether
       → p'.known ≡ with_handed p.known call → IsSeated wire c opened programs s p
       → IsSeated wire c opened programs s' p'
   hand_seated wire s s' p p' call same ether known h =
-      all_handed_seated wire s s' p p' ((call ∷ []) ∷ []) same ether known h
+      all_handed_seated wire s s' p p' (Calls (call ∷ []) ∷ []) same ether known h
 
   -- once calls were made one after another, each answered in its turn
   pub answered_seated : (wire : TableId) (rs : List Record) (s s' : SiteView) (p p' : Held)
@@ -569,7 +574,8 @@ module _ (c : Config) (opened : Opening) (programs : List Program) where
       answered_seated wire rs on.0 s' next p' on.2 ether
       (known
       ∙ ap (λ l. record p.known { handed = l })
-      (sym (append_assoc p.known.handed ((r.call ∷ []) ∷ []) (one_by_one (calls_of rs))))) mid
+      (sym (append_assoc p.known.handed (Calls (r.call ∷ []) ∷ [])
+      (rows_of (one_by_one (calls_of rs)))))) mid
 
   -- so it is of a row of words
   pub row_seated : (wire : TableId) (kind : Row) (addr : ℕ) (numbers : List ℕ) (s s' : SiteView)
@@ -589,9 +595,19 @@ module _ (c : Config) (opened : Opening) (programs : List Program) where
       → IsSeated wire c opened programs s p → IsSeated wire c opened programs s' p'
   begun_seated wire kind addr zero bytes s s' p p' some begins ether known h = absurd (some refl)
   begun_seated wire kind addr (suc n) bytes s s' p p' some begins ether known h =
-      let rows = calls_of (row kind 0 addr (numbers_in (suc n) bytes)) ∷ [] in
-      turn_seated wire Moved (site_handed rows s) s' p'
-      (all_handed_seated wire s (site_handed rows s) p p' rows refl ether known h) begins.turns
+      let calls = calls_of (row kind 0 addr (numbers_in (suc n) bytes)) in
+      turn_seated wire Moved (site_handed (calls ∷ []) s) s' p'
+      (all_handed_seated wire s (site_handed (calls ∷ []) s) p p' (Calls calls ∷ []) refl ether known h)
+      begins.turns
+
+  -- once a page was asked for ahead
+  pub fetched_seated : (wire : TableId) (page : ℕ) (write : Bool) (s s' : SiteView) (p p' : Held)
+      → BeginsFetch page write s s' → p'.ether ≡ p.ether → p'.known ≡ with_page p.known page write
+      → IsSeated wire c opened programs s p → IsSeated wire c opened programs s' p'
+  fetched_seated wire page write s s' p p' begins ether known h =
+      turn_seated wire Moved (site_fetching page write s) s' p'
+      (all_handed_seated wire s (site_fetching page write s) p p' (Page page write ∷ []) refl ether known h)
+      begins.turns
 
   -- and once the replies to calls were taken, each in a turn of its own
   pub replies_seated : (wire : TableId) (rs : List Record) (s s' : SiteView) (p : Held)

@@ -4,14 +4,13 @@ use Rattle.atomic_table.specs.Seated.{TableId}
 use Rattle.ivy_model.specs.declared.Config.{Config}
 use Rattle.ivy_model.specs.stated.Config.{IsConfig}
 use Rattle.ivy_program.specs.stated.Programs.{Program}
-use Rattle.ivy_program.specs.Programs.{handed}
-use Rattle.ivy_model.specs.declared.Call.{Call}
 use Rattle.ivy_moves.specs.Marks.{Mark}
 use Rattle.ivy_moves.specs.Parts.{AllCanBeMade, AreParts}
 use Rattle.ivy_moves.specs.stated.Worlds.{World}
 use Rattle.ivy_host.specs.declared.opening.Opening.{Opening}
 use Rattle.ivy_host.specs.stated.Hosts.{Host, host_rules}
 use Rattle.ivy_host.specs.stated.Managers.{Managed, managed_ops}
+use Rattle.ivy_ether.specs.Handings.{Handing, with_all}
 use Rattle.ivy_ether.specs.Programs.{beginning, all_handed}
 use Rattle.ivy_site.specs.SiteView.{SiteView}
 use Rattle.ivy_site.specs.Sites.{first_opened, IsMadeByEvents}
@@ -34,12 +33,12 @@ abbrev pub no_ether : TableId
 no_ether =
     record { words = 0; slots = 0; views_name = 0; atom = 0; block = 0; offset = 0; slot_names = [] }
 
--- the site runs its node's program, where these rows of calls were handed to it
-pub record RunsProgram (programs : List Program) (s : SiteView) (calls : List (List Call)) : Type 0
+-- the site runs its node's program, where these were handed to it
+pub record RunsProgram (programs : List Program) (s : SiteView) (handings : List Handing) : Type 0
   where
     pub first : Program
     pub there : slice_get programs s.me ≡ Some first
-    pub is : s.node.core.process.program ≡ handed calls first
+    pub is : s.node.core.process.program ≡ with_all handings first
 
 -- the pass is of this ether, sits at the site's node and has not reported, and took each string
 -- that was delivered to the site; the site runs the node's program
@@ -64,19 +63,19 @@ pub record KeepsSeat (c : Config) (opened : Opening) (programs : List Program)
     pub seated : IsSeated s.ether c opened programs s.site s.pass
     pub made : IsMadeByEvents s.site
 
--- what holds of it among all nodes: some run of the programs, where some calls were handed to each
--- node and to the site's those that its pass knows of, has exactly the site's events as its part,
--- and ends with this very node; in it each string that the pass took was sent, and each that waits
--- to be put
+-- what holds of it among all nodes: some run of the programs, where some calls, and pages to fetch
+-- ahead, were handed to each node and to the site's those that its pass knows of, has exactly the
+-- site's events as its part, and ends with this very node; in it each string that the pass took was
+-- sent, and each that waits to be put
 pub record IsInRun (c : Config) (opened : Opening) (programs : List Program)
     (s : SeatedState) : Type 0
   where
-    pub calls : ℕ → List (List Call)
+    pub handings : ℕ → List Handing
     pub parts : ℕ → List Mark
     pub end : World (Host Managed)
-    pub run : AreParts (host_rules managed_ops) c (beginning c opened (all_handed calls programs))
-        parts end
-    pub handed : calls s.site.me ≡ s.pass.known.handed
+    pub run : AreParts (host_rules managed_ops) c
+        (beginning c opened (all_handed handings programs)) parts end
+    pub handed : handings s.site.me ≡ s.pass.known.handed
     pub own : parts s.site.me ≡ s.site.events
     pub node : slice_get end.nodes s.site.me ≡ Some s.site.node
     pub took : (bytes : List ℕ) → Contains s.pass.known.took bytes → Contains end.sent bytes

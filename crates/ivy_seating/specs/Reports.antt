@@ -1,6 +1,5 @@
 -- What a finished session says of its report.
 use Rattle.std.specs.Prelude.{◌≡◌, ℕ, List, ◌++◌, length, slice_get, Some, All}
-use Rattle.ivy_model.specs.declared.Call.{Call}
 use Rattle.ivy_model.specs.declared.Config.{Config}
 use Rattle.ivy_model.specs.declared.Record.{Record}
 use Rattle.ivy_model.specs.stated.Explains.{part}
@@ -20,6 +19,7 @@ use Rattle.ivy_host.specs.stated.Hosts.{Host, host_rules, answered_by}
 use Rattle.ivy_host.specs.stated.Managers.{Managed, managed_ops}
 use Rattle.ivy_site.specs.SiteView.{SiteView}
 use Rattle.ivy_ether.specs.Going.{IsListOf}
+use Rattle.ivy_ether.specs.Handings.{Handing}
 use Rattle.ivy_ether.specs.Programs.{beginning, all_handed}
 
 -- of a node: what it was answered, what its program printed, and its event list; and which of these
@@ -90,8 +90,8 @@ module _ (c : Config) (opened : Opening) (programs : List Program) where
     pub exclusive : IsExclusive end
     pub no_breach : HasNoBreach end
 
--- such a report, of these programs where some calls were handed to each node; to those that are
--- written down nothing can be
+-- such a report, of these programs where some calls, and pages to fetch ahead, were handed to each
+-- node; to those that are written down nothing can be
 abbrev pub IsHandedReport : Config → Opening → List Program → List NodeReport → Type 0
 IsHandedReport c opened programs nodes =
-    (calls : ℕ → List (List Call)) × IsReport c opened (all_handed calls programs) nodes
+    (handings : ℕ → List Handing) × IsReport c opened (all_handed handings programs) nodes

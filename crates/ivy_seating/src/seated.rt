@@ -1,5 +1,5 @@
 //! A site that is seated at an ether, and its turns on the wire with the pulses that are due.
-ghost use Rattle.std.specs.Prelude.{◌≡◌, ◌≢◌, ◌↔◌, ◌*◌, ◌<◌, ◌≤◌, [], ◌∷◌, ◌++◌, Ok, Err, None, Contains, IsTrue, MatchBool, MatchOption, MatchResult, IfOk, IfErr, IfSome, IsSome, IsOkUnless, OnOk, OnErr, length};
+ghost use Rattle.std.specs.Prelude.{◌≡◌, ◌≢◌, ◌↔◌, ◌*◌, ◌<◌, ◌≤◌, [], ◌∷◌, ◌++◌, false, true, Ok, Err, None, Contains, IsTrue, MatchBool, MatchOption, MatchResult, IfOk, IfErr, IfSome, IsSome, IsOkUnless, OnOk, OnErr, length};
 ghost use Rattle.ivy_model.specs.Rows.{calls_of, numbers_in, row};
 ghost use Rattle.ivy_model.specs.Wants.{RanOut};
 ghost use Rattle.ivy_model.specs.stated.Legal.{HasWidth};
@@ -10,11 +10,11 @@ ghost use Rattle.ivy_program.specs.OwnCode.{IsFree};
 ghost use Rattle.ivy_program.specs.Programs.{one_by_one};
 ghost use Rattle.ivy_program.specs.InstructionSteps.{HasEnded};
 ghost use Rattle.ivy_moves.specs.stated.Nodes.{pulsing, verdict_of};
-ghost use Rattle.ivy_site.specs.Calls.{AreAnswered, AreTaken, BeginsCall, BeginsRow, MayCallInRow, MayCallTogether, RecordsReply, row_together};
-ghost use Rattle.ivy_site.specs.Handed.{site_handed};
+ghost use Rattle.ivy_site.specs.Calls.{AfterFetch, AreAnswered, AreTaken, BeginsCall, BeginsRow, MayCallInRow, MayCallTogether, RecordsReply, row_together};
+ghost use Rattle.ivy_site.specs.Handed.{site_fetching, site_handed};
 ghost use Rattle.ivy_site.specs.SiteView.{after_pulse_to};
 ghost use Rattle.ivy_site.specs.Sites.{AfterTurn, AfterDelivery, IsSpentTurn, IsSpentDelivery};
-ghost use Rattle.ivy_ether.specs.Views.{with_all_handed, with_handed};
+ghost use Rattle.ivy_ether.specs.Views.{with_all_handed, with_handed, with_page};
 ghost use Rattle.ivy_workers.specs.Stops.{IsStop};
 ghost use Rattle.ivy_seating.specs.Places.{place, IsSeated, IsFreshSeat, KeepsSeat, IsInRun};
 ghost use Rattle.ivy_seating.specs.Wire.{AfterWire, Drains, RefusesString, IsPutFor, IsNextOther, pass_after_putting, pass_after_refusing, pass_after_taking, pass_after_looking};
@@ -222,6 +222,23 @@ impl<'e, S: Setup, A: Allocator + Copy> Seated<'e, S, A> {
         if begun > 0 {
             self.ether
                 .hand_together(&mut self.pass, kind, addr, begun, bytes);
+        }
+        Ok(begun)
+    }
+
+    /// The node's owner has a page fetched ahead, to read or to write, in a turn: it is asked for, and comes while the program
+    /// goes on [1, 17]. It says whether it is asked for; else nothing is done. It is no call, and has no reply.
+    pub fn fetch(&mut self, page: u32, write: bool) -> Result<bool, Fault>
+        ensures ether { self.new.ether ≡ self.old.ether }
+        ensures done { MatchResult result (λ begun. AfterFetch begun page write self.old.site self.new.site) (λ _. self.new ≡ self.old) }
+        ensures pass { result ≡ Ok true → self.new.pass.known ≡ with_page self.old.pass.known page write }
+        ensures same { result ≡ Ok false → self.new ≡ self.old }
+        ensures spent { IfErr result (IsSpentTurn (site_fetching page write self.old.site)) }
+        ensures want { IfErr result RanOut }
+    {
+        let begun = self.site.fetch(page, write)?;
+        if begun {
+            self.ether.hand_page(&mut self.pass, page, write);
         }
         Ok(begun)
     }

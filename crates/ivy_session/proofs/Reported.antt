@@ -11,7 +11,7 @@ use Rattle.ivy_model.specs.declared.Record.{Record}
 use Rattle.ivy_model.specs.stated.Config.{IsConfig}
 use Rattle.ivy_model.specs.stated.Explains.{IsOwed, part}
 use Rattle.ivy_program.specs.stated.Programs.{Program, Written, Called}
-use Rattle.ivy_program.specs.Programs.{IsWritten, handed}
+use Rattle.ivy_program.specs.Programs.{IsWritten}
 use Rattle.ivy_program.specs.stated.ProgramRuns.{IsWholeRun}
 use Rattle.ivy_program.specs.stated.InstructionSteps.{Asks, Ends, step_of}
 use Rattle.ivy_program.specs.InstructionSteps.{HasEnded}
@@ -27,8 +27,8 @@ use Rattle.ivy_moves.proofs.Moments.{IsWhole, explained_whole, untorn_at}
 use Rattle.ivy_host.specs.declared.opening.Opening.{Opening}
 use Rattle.ivy_host.specs.stated.Hosts.{Host, host_rules, answered_by}
 use Rattle.ivy_host.specs.stated.Managers.{Managed, managed_ops}
-use Rattle.ivy_host.specs.Handing.{handing}
 use Rattle.ivy_memory.specs.stated.Memories.{in_progress}
+use Rattle.ivy_ether.specs.Handings.{Handing, Calls, Page, handing_all, with_all}
 use Rattle.ivy_ether.specs.Programs.{beginning, all_handed_from, all_handed, Told}
 use Rattle.ivy_ether.specs.Rule.{IsNode}
 use Rattle.ivy_ether.proofs.Advancing.{same_start, list_over}
@@ -180,22 +180,22 @@ module _ (c : Config) (opened : Opening) (programs : List Program) (limits : IsC
       no_breach = no_breach-led opened c programs limits each run.moves end run.leads;
     }
 
--- what is known of a node by the calls that were handed to it holds whatever the others were handed
+-- what is known of a node by what was handed to it holds whatever the others were handed
 done_over : (c : Config) (opened : Opening) (programs : List Program)
-    (calls calls' : ℕ → List (List Call)) (i : ℕ)
-    (n : NodeReport) → calls i ≡ calls' i → IsDone c opened (all_handed calls programs) i n
-    → IsDone c opened (all_handed calls' programs) i n
-done_over c opened programs calls calls' i n same d = record {
+    (handings handings' : ℕ → List Handing) (i : ℕ)
+    (n : NodeReport) → handings i ≡ handings' i → IsDone c opened (all_handed handings programs) i n
+    → IsDone c opened (all_handed handings' programs) i n
+done_over c opened programs handings handings' i n same d = record {
   of = record {
     effect = d.of.effect;
-    list = list_over (host_rules managed_ops) c (beginning c opened programs) handing
-        (beginning c opened (all_handed calls programs))
-        (beginning c opened (all_handed calls' programs)) i
+    list = list_over (host_rules managed_ops) c (beginning c opened programs) handing_all
+        (beginning c opened (all_handed handings programs))
+        (beginning c opened (all_handed handings' programs)) i
         n.events d.of.effect
-        (same_start (host_rules managed_ops) c (beginning c opened programs) handing calls calls'
-        (beginning c opened (all_handed calls programs))
-        (beginning c opened (all_handed calls' programs)) i
-        (handed_start c opened programs calls) (handed_start c opened programs calls') same)
+        (same_start (host_rules managed_ops) c (beginning c opened programs) handing_all handings handings'
+        (beginning c opened (all_handed handings programs))
+        (beginning c opened (all_handed handings' programs)) i
+        (handed_start c opened programs handings) (handed_start c opened programs handings') same)
         d.of.list;
     history = d.of.history;
     output = d.of.output;
@@ -211,32 +211,38 @@ pub reported : (c : Config) (opened : Opening) (programs : List Program) → IsC
     programs nodes
 reported c opened programs limits each nodes v count told t =
     let known : (i : ℕ) (n : NodeReport) (there : slice_get nodes i ≡ Some n)
-    → IsNode (host_rules managed_ops) c (beginning c opened programs) handing t.calls t.parts i
-    (told i n there).calls n.events =
-    (λ i n there. t.closed (record { node = i; handed = (told i n there).calls; events = n.events })
+    → IsNode (host_rules managed_ops) c (beginning c opened programs) handing_all t.handings t.parts i
+    (told i n there).handings n.events =
+    (λ i n there. t.closed (record { node = i; handed = (told i n there).handings; events = n.events })
     (told i n there).closed) in (
-      t.calls,
-      reported_as c opened (all_handed t.calls programs) limits
-          (length-all_handed t.calls programs ∙ each)
-          nodes (count ∙ sym (length-all_handed t.calls programs))
-          (λ i n there. done_over c opened programs (λ _. (told i n there).calls) t.calls i n
+      t.handings,
+      reported_as c opened (all_handed t.handings programs) limits
+          (length-all_handed t.handings programs ∙ each)
+          nodes (count ∙ sym (length-all_handed t.handings programs))
+          (λ i n there. done_over c opened programs (λ _. (told i n there).handings) t.handings i n
           (sym (known i n there).handed) (told i n there).done)
-          t.parts t.end (from_start c opened programs t.calls t.parts t.end t.run)
+          t.parts t.end (from_start c opened programs t.handings t.parts t.end t.run)
           (λ i n there. (known i n there).part),
     )
 
 -- nothing can be handed to programs that are written down
-handed_written : (calls : List (List Call)) (p : Program) → IsWritten p → handed calls p ≡ p
-handed_written calls (Written is) written = refl
-handed_written calls (Called rows fs) written = absurd written
+one_written : (h : Handing) (p : Program) → IsWritten p → with_all (h ∷ []) p ≡ p
+one_written (Calls row) (Written is) written = refl
+one_written (Page page write) (Written is) written = refl
+one_written h (Called rows fs) written = absurd written
 
-pub written_from : (calls : ℕ → List (List Call)) (k : ℕ) (ps : List Program) → All IsWritten ps
-    → all_handed_from k calls ps ≡ ps
-written_from calls k [] all = refl
-written_from calls k (p ∷ ps) all =
-    ap (λ q. q ∷ all_handed_from (k + 1) calls ps)
-    (handed_written (calls k) p (All-head IsWritten p ps all))
-    ∙ ap (λ qs. p ∷ qs) (written_from calls (k + 1) ps (All-tail IsWritten p ps all))
+handed_written : (hs : List Handing) (p : Program) → IsWritten p → with_all hs p ≡ p
+handed_written [] p written = refl
+handed_written (h ∷ hs) p written =
+    ap (with_all hs) (one_written h p written) ∙ handed_written hs p written
+
+pub written_from : (handings : ℕ → List Handing) (k : ℕ) (ps : List Program) → All IsWritten ps
+    → all_handed_from k handings ps ≡ ps
+written_from handings k [] all = refl
+written_from handings k (p ∷ ps) all =
+    ap (λ q. q ∷ all_handed_from (k + 1) handings ps)
+    (handed_written (handings k) p (All-head IsWritten p ps all))
+    ∙ ap (λ qs. p ∷ qs) (written_from handings (k + 1) ps (All-tail IsWritten p ps all))
 
 pub reported_written : (c : Config) (opened : Opening) (programs : List Program)
     (nodes : List NodeReport)

@@ -4,7 +4,6 @@ use Rattle.std.proofs.Common.{subst, ◌∙◌, arith, inl, inr}
 use Rattle.ivy_model.specs.stated.Explains.{Answered}
 use Rattle.std.specs.Prelude.{All}
 use Rattle.std.proofs.lemmas.Option.{same_Some, get_or_from_slice_get, slice_get_cases, slice_get_within}
-use Rattle.ivy_model.specs.declared.Call.{Call}
 use Rattle.ivy_model.specs.declared.Config.{Config}
 use Rattle.ivy_model.specs.stated.Config.{IsConfig}
 use Rattle.ivy_program.specs.stated.Programs.{Program}
@@ -16,9 +15,9 @@ use Rattle.ivy_moves.specs.stated.Worlds.{World}
 use Rattle.ivy_moves.proofs.Parts.{runs_are_their_parts}
 use Rattle.ivy_moves.proofs.Splitting.{same-effect}
 use Rattle.ivy_host.specs.declared.opening.Opening.{Opening}
-use Rattle.ivy_host.specs.Handing.{handing}
 use Rattle.ivy_host.specs.stated.Hosts.{Host, answered_by, host_rules}
 use Rattle.ivy_host.specs.stated.Managers.{Managed, managed_ops}
+use Rattle.ivy_ether.specs.Handings.{Handing, handing_all}
 use Rattle.ivy_ether.specs.Programs.{beginning, all_handed, Told}
 use Rattle.ivy_ether.specs.Rule.{IsNode}
 use Rattle.ivy_ether.specs.Views.{View}
@@ -73,21 +72,21 @@ module _ (c : Config) (opened : Opening) (programs : List Program) (limits : IsC
         explained = order.1;
       }
 
--- what is known of a node by the calls that were handed to it holds whatever the others were handed
+-- what is known of a node by what was handed to it holds whatever the others were handed
 so_far_over : (c : Config) (opened : Opening) (programs : List Program)
-    (calls calls' : ℕ → List (List Call)) (i : ℕ)
-    (n : NodeSoFar) → calls i ≡ calls' i → IsNodeSoFar c opened (all_handed calls programs) i n
-    → IsNodeSoFar c opened (all_handed calls' programs) i n
-so_far_over c opened programs calls calls' i n same came = record {
+    (handings handings' : ℕ → List Handing) (i : ℕ)
+    (n : NodeSoFar) → handings i ≡ handings' i → IsNodeSoFar c opened (all_handed handings programs) i n
+    → IsNodeSoFar c opened (all_handed handings' programs) i n
+so_far_over c opened programs handings handings' i n same came = record {
   effect = came.effect;
-  list = list_over (host_rules managed_ops) c (beginning c opened programs) handing
-      (beginning c opened (all_handed calls programs))
-      (beginning c opened (all_handed calls' programs)) i
+  list = list_over (host_rules managed_ops) c (beginning c opened programs) handing_all
+      (beginning c opened (all_handed handings programs))
+      (beginning c opened (all_handed handings' programs)) i
       n.events came.effect
-      (same_start (host_rules managed_ops) c (beginning c opened programs) handing calls calls'
-      (beginning c opened (all_handed calls programs))
-      (beginning c opened (all_handed calls' programs)) i
-      (handed_start c opened programs calls) (handed_start c opened programs calls') same)
+      (same_start (host_rules managed_ops) c (beginning c opened programs) handing_all handings handings'
+      (beginning c opened (all_handed handings programs))
+      (beginning c opened (all_handed handings' programs)) i
+      (handed_start c opened programs handings) (handed_start c opened programs handings') same)
       came.list;
   node = came.node;
 }
@@ -100,17 +99,17 @@ pub reported_so_far : (c : Config) (opened : Opening) (programs : List Program) 
     → IsHandedSoFar c opened programs nodes
 reported_so_far c opened programs limits each nodes v count told t =
     let known : (i : ℕ) (n : NodeSoFar) (there : slice_get nodes i ≡ Some n)
-    → IsNode (host_rules managed_ops) c (beginning c opened programs) handing t.calls t.parts i
-    (told i n there).calls n.events =
-    (λ i n there. t.closed (record { node = i; handed = (told i n there).calls; events = n.events })
+    → IsNode (host_rules managed_ops) c (beginning c opened programs) handing_all t.handings t.parts i
+    (told i n there).handings n.events =
+    (λ i n there. t.closed (record { node = i; handed = (told i n there).handings; events = n.events })
     (told i n there).closed) in (
-      t.calls,
-      so_far_as c opened (all_handed t.calls programs) limits
-          (length-all_handed t.calls programs ∙ each)
-          nodes (count ∙ sym (length-all_handed t.calls programs))
-          (λ i n there. so_far_over c opened programs (λ _. (told i n there).calls) t.calls i n
+      t.handings,
+      so_far_as c opened (all_handed t.handings programs) limits
+          (length-all_handed t.handings programs ∙ each)
+          nodes (count ∙ sym (length-all_handed t.handings programs))
+          (λ i n there. so_far_over c opened programs (λ _. (told i n there).handings) t.handings i n
           (sym (known i n there).handed) (told i n there).so_far)
-          t.parts t.end (from_start c opened programs t.calls t.parts t.end t.run)
+          t.parts t.end (from_start c opened programs t.handings t.parts t.end t.run)
           (λ i n there. (known i n there).part),
     )
 

@@ -1,6 +1,5 @@
 -- What a session says that may end before its programs.
 use Rattle.std.specs.Prelude.{◌≡◌, ◌≢◌, ℕ, List, length, map, slice_get, Some, All}
-use Rattle.ivy_model.specs.declared.Call.{Call}
 use Rattle.ivy_model.specs.declared.Config.{Config}
 use Rattle.ivy_model.specs.declared.Record.{Record}
 use Rattle.ivy_program.specs.stated.Programs.{Program}
@@ -15,6 +14,7 @@ use Rattle.ivy_host.specs.declared.opening.Opening.{Opening}
 use Rattle.ivy_host.specs.stated.Hosts.{Host, host_rules, answered_by}
 use Rattle.ivy_host.specs.stated.Managers.{Managed, managed_ops}
 use Rattle.ivy_ether.specs.Going.{IsListOf}
+use Rattle.ivy_ether.specs.Handings.{Handing}
 use Rattle.ivy_ether.specs.Programs.{beginning, all_handed}
 use Rattle.ivy_site.specs.SiteView.{SiteView}
 use Rattle.proof_worlds.specs.stated.RunState.{Run}
@@ -75,7 +75,8 @@ module _ (c : Config) (opened : Opening) (programs : List Program) where
     pub order : List Record
     pub explained : IsExplainedBy (host_rules managed_ops) c answered_by end order
 
--- such a report, of these programs where some calls were handed to each node
+-- such a report, of these programs where some calls, and pages to fetch ahead, were handed to each
+-- node
 abbrev pub IsHandedSoFar : Config → Opening → List Program → List NodeSoFar → Type 0
 IsHandedSoFar c opened programs nodes =
-    (calls : ℕ → List (List Call)) × IsReportSoFar c opened (all_handed calls programs) nodes
+    (handings : ℕ → List Handing) × IsReportSoFar c opened (all_handed handings programs) nodes

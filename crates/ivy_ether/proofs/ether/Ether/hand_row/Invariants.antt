@@ -1,7 +1,10 @@
 use Rattle.ivy_model.specs.Rows.{calls_of, numbers_in, row}
 use Rattle.ivy_program.specs.Programs.{one_by_one}
+use Rattle.ivy_ether.specs.Handings.{rows_of}
 use Rattle.ivy_ether.proofs.ether.Ether.hand_row.Given as goal
 
 abbrev pub ghosts-hand_words_given : goal.ghosts-hand_words_given
 ghosts-hand_words_given g a =
-    record { calls = one_by_one (calls_of (row a.kind 0 a.addr (numbers_in a.words a.bytes.now))) }
+    record {
+      handings = rows_of (one_by_one (calls_of (row a.kind 0 a.addr (numbers_in a.words a.bytes.now))));
+    }

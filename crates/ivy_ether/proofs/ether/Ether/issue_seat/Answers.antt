@@ -1,6 +1,6 @@
 use Rattle.std.proofs.Common.{sym, subst}
 use Rattle.crossbeam_queue.specs.Passes.{view}
-use Rattle.ivy_host.specs.Handing.{handing}
+use Rattle.ivy_ether.specs.Handings.{handing_all}
 use Rattle.ivy_host.specs.stated.Hosts.{host_rules}
 use Rattle.ivy_host.specs.stated.Managers.{managed_ops}
 use Rattle.ivy_host.specs.stated.Openings.{managed_start}
@@ -25,7 +25,7 @@ push_as-requires-clause-rule g c =
     let inside =
     subst (λ k. c.args.node < k) (sym (first_length (managed_start opened) config 0 programs))
     c.requires.node in (
-      issues (host_rules managed_ops) config (beginning config opened programs) handing _ _
+      issues (host_rules managed_ops) config (beginning config opened programs) handing_all _ _
           (view c.pass.inside.token) c.args.node starts inside new,
       λ _ _ _ _. tt,
     )

@@ -1,5 +1,5 @@
 use Rattle.crossbeam_queue.specs.Passes.{view}
-use Rattle.ivy_host.specs.Handing.{handing}
+use Rattle.ivy_ether.specs.Handings.{handing_all}
 use Rattle.ivy_host.specs.stated.Hosts.{host_rules}
 use Rattle.ivy_host.specs.stated.Managers.{managed_ops}
 use Rattle.ivy_ether.specs.Programs.{beginning}
@@ -11,5 +11,5 @@ learn_as-requires-clause-rule g c =
     let config = g.S.Setup.config in
     let opened = g.S.Setup.opened in
     let programs = g.S.Setup.programs in
-    learns (host_rules managed_ops) config (beginning config opened programs) handing _
+    learns (host_rules managed_ops) config (beginning config opened programs) handing_all _
     (view c.pass.inside.token)

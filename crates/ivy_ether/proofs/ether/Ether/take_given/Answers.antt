@@ -1,6 +1,6 @@
 use Rattle.std.proofs.Common.{sym, subst}
 use Rattle.crossbeam_queue.specs.Passes.{view}
-use Rattle.ivy_host.specs.Handing.{handing}
+use Rattle.ivy_ether.specs.Handings.{handing_all}
 use Rattle.ivy_host.specs.stated.Hosts.{host_rules}
 use Rattle.ivy_host.specs.stated.Managers.{managed_ops}
 use Rattle.ivy_ether.specs.Held.{Held}
@@ -15,7 +15,7 @@ pop_as-item-requires-clause-rule g c =
     let programs = g.S.Setup.programs in
     let may = subst (λ (h : Held). MayGive config opened programs h.known g.E.Given.events)
     (sym c.pass.view_is) c.requires.events in (
-      takes (host_rules managed_ops) config (beginning config opened programs) handing _
+      takes (host_rules managed_ops) config (beginning config opened programs) handing_all _
           (view c.pass.inside.token)
           g.E.Given.events may,
       λ _ _ _ _. tt,
@@ -26,6 +26,6 @@ another-requires-clause-rule g c =
     let config = g.S.Setup.config in
     let opened = g.S.Setup.opened in
     let programs = g.S.Setup.programs in
-    notes (host_rules managed_ops) config (beginning config opened programs) handing _
+    notes (host_rules managed_ops) config (beginning config opened programs) handing_all _
     (view c.pop_as-item.new.pass)
     _ _

@@ -1,7 +1,7 @@
 use Rattle.std.proofs.Common.{sym, subst, ◌≡◌, false}
 use Rattle.std.specs.Prelude.{IsSome}
 use Rattle.crossbeam_queue.specs.Passes.{view}
-use Rattle.ivy_host.specs.Handing.{handing}
+use Rattle.ivy_ether.specs.Handings.{handing_all}
 use Rattle.ivy_host.specs.stated.Hosts.{host_rules}
 use Rattle.ivy_host.specs.stated.Managers.{managed_ops}
 use Rattle.ivy_ether.specs.Held.{Held}
@@ -17,6 +17,6 @@ absorb-requires-clause-rule g c =
     let programs = g.S.Setup.programs in
     let node = seat_there (view c.pass.inside.token).node
     (subst (λ (h : Held). IsSome h.known.node) (sym c.pass.view_is) c.requires.seated) in
-    closes (host_rules managed_ops) config (beginning config opened programs) handing is_handing _
+    closes (host_rules managed_ops) config (beginning config opened programs) handing_all is_handing _
     (view c.starter.inside.token) _ (view c.pass.inside.token) node.0 node.1
     (subst (λ (h : Held). h.known.reported ≡ false) (sym c.pass.view_is) c.requires.unreported)

@@ -1,6 +1,6 @@
 use Rattle.std.proofs.Common.{sym, subst}
 use Rattle.crossbeam_queue.specs.Passes.{view}
-use Rattle.ivy_host.specs.Handing.{handing}
+use Rattle.ivy_ether.specs.Handings.{handing_all}
 use Rattle.ivy_host.specs.stated.Hosts.{host_rules}
 use Rattle.ivy_host.specs.stated.Managers.{managed_ops}
 use Rattle.ivy_ether.specs.Held.{Held}
@@ -15,7 +15,7 @@ pop_as-requires-clause-rule g c =
     let opened = g.S.Setup.opened in
     let programs = g.S.Setup.programs in
     let none = subst (λ (h : Held). h.known.node ≡ None) (sym c.pass.view_is) c.requires.none in (
-      seats (host_rules managed_ops) config (beginning config opened programs) handing _
+      seats (host_rules managed_ops) config (beginning config opened programs) handing_all _
           (view c.pass.inside.token)
           none,
       λ _ _ _ _. tt,
