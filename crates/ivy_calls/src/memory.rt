@@ -51,6 +51,17 @@ pub trait SharedMemory {
         0
     }
 
+    /// A hint that the page of this address is needed soon, to read, or to write too. Its node may ask for the page now, so
+    /// that it comes while the program goes on.
+    ///
+    /// It is no call: nothing is answered, and where the page is not asked for nothing is done. A memory may do nothing
+    /// ever, as this does.
+    fn fetch_ahead(&mut self, addr: u64, write: bool)
+        ensures { answers self.new ≡ answers self.old }
+    {
+        let _ = (addr, write);
+    }
+
     /// Lets others run: who waits for a word has looked at it so often, each time in vain.
     ///
     /// Nothing is asked. A memory whose node has a processor of its own may return at once, as this does.

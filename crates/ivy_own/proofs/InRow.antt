@@ -1,7 +1,9 @@
 -- Calls in a row of own code: made one after another, each answered in its first turn; or made
 -- together, so that their replies are taken later.
-use Rattle.std.proofs.Common.{◌≡◌, ℕ, ◌+◌, List, [], ◌∷◌, ◌++◌, append-nil, append_assoc, Some, refl, sym, ap, subst, ◌∙◌}
+use Rattle.std.proofs.Common.{◌≡◌, ℕ, ◌+◌, Bool, true, false, List, [], ◌∷◌, ◌++◌, append-nil, append_assoc, Some, refl, sym, ap, subst, ◌∙◌}
+use Rattle.std.specs.Prelude.{Result, Ok, Err, MatchResult}
 use Rattle.ivy_model.specs.declared.Call.{Call}
+use Rattle.ivy_model.specs.declared.Fault.{Fault}
 use Rattle.ivy_model.specs.declared.Record.{Record}
 use Rattle.ivy_model.specs.declared.Row.{Row}
 use Rattle.ivy_model.specs.declared.Row.TheVariants.{Loads, Stores}
@@ -11,8 +13,9 @@ use Rattle.ivy_calls.specs.Answers.{answer, answers}
 use Rattle.ivy_calls.specs.BlockAnswers.{in_row}
 use Rattle.ivy_own.specs.Known.{Listed}
 use Rattle.ivy_site.specs.SiteView.{SiteView}
-use Rattle.ivy_site.specs.Handed.{site_handed}
-use Rattle.ivy_site.specs.Calls.{AreAnswered, AreTaken, BeginsRow}
+use Rattle.ivy_seating.specs.Places.{SeatedState}
+use Rattle.ivy_site.specs.Handed.{site_fetching, site_handed}
+use Rattle.ivy_site.specs.Calls.{AfterFetch, AreAnswered, AreTaken, BeginsRow}
 use Rattle.ivy_own.specs.OwnSeats.{IsOwned, AnswersMore, grown_by}
 use Rattle.ivy_own.proofs.Owning.{call_made, more_owned, recorded_more, recorded_none}
 
@@ -79,6 +82,14 @@ taken_owned kind addr numbers old new half half' owned on grows =
     more_owned (in_row kind addr numbers) old new half half' owned
     (row_taken kind old.me addr numbers old new on) grows
 
+-- with no answer more the half is the node's still
+none_owned : (old new : SiteView) (half : Listed Answer) → IsOwned old half → AnswersMore [] old new
+    → IsOwned new half
+none_owned old new half owned m = record {
+  number = owned.number ∙ sym m.me;
+  list = owned.list ∙ sym (append-nil (answers old.node.core.history)) ∙ sym m.answers;
+}
+
 -- calls that begin together are answered later
 begun_more : (calls : List Call) (old new : SiteView) → BeginsRow calls old new
     → AnswersMore [] old new
@@ -88,11 +99,24 @@ begun_more (call ∷ more) old new b =
     recorded_none (site_handed ((call ∷ more) ∷ []) old) new b.turns b.recorded in
     record { me = r.me; answers = r.answers }
 
+-- nor is a page an answer that is asked for ahead
+fetched_more : (begun : Bool) (page : ℕ) (write : Bool) (old new : SiteView)
+    → AfterFetch begun page write old new → AnswersMore [] old new
+fetched_more false page write old new f = none_more old new f.same
+fetched_more true page write old new f =
+    let r : AnswersMore [] (site_fetching page write old) new =
+    recorded_none (site_fetching page write old) new f.turns f.recorded in
+    record { me = r.me; answers = r.answers }
+
+pub fetch_owned : (r : Result Bool Fault) (page : ℕ) (write : Bool) (old new : SeatedState)
+    (half : Listed Answer) → IsOwned old.site half
+    → MatchResult r (λ begun. AfterFetch begun page write old.site new.site) (λ _. new ≡ old)
+    → IsOwned new.site half
+fetch_owned (Ok begun) page write old new half owned f =
+    none_owned old.site new.site half owned (fetched_more begun page write old.site new.site f)
+fetch_owned (Err fault) page write old new half owned same =
+    subst (λ (s : SeatedState). IsOwned s.site half) (sym same) owned
+
 pub begun_owned : (calls : List Call) (old new : SiteView) (half : Listed Answer) → IsOwned old half
     → BeginsRow calls old new → IsOwned new half
-begun_owned calls old new half owned b =
-    let m = begun_more calls old new b in
-    record {
-      number = owned.number ∙ sym m.me;
-      list = owned.list ∙ sym (append-nil (answers old.node.core.history)) ∙ sym m.answers;
-    }
+begun_owned calls old new half owned b = none_owned old new half owned (begun_more calls old new b)

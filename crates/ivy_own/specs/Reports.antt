@@ -16,9 +16,9 @@ pub record OwnState (Out : Type 0) : Type 0 where
 abbrev pub all_open : Config → List Program
 all_open c = replicate c.nodes (Called [] [])
 
--- it is a report of own code at nodes that began so, where some calls were made at each node; and
--- in the order that explains its histories each node's work has done what it had to, with its part
--- of that order as what it was answered, and given this
+-- it is a report of own code at nodes that began so, where some calls were made, and some pages
+-- fetched ahead, at each node; and in the order that explains its histories each node's work has
+-- done what it had to, with its part of that order as what it was answered, and given this
 pub record IsOwnReport {Out : Type 0} (c : Config) (opened : Opening)
     (done : ℕ → List Answer → Out → Type 0) (nodes : List NodeReport) (outs : List Out) : Type 0
   where

@@ -208,6 +208,15 @@ where
         words
     }
 
+    /// The node has a turn, in which it asks for the page where it may.
+    fn fetch_ahead(&mut self, addr: u64, write: bool) {
+        let Some(mut seat) = self.worker.enter() else {
+            return;
+        };
+        seat.fetch_ahead(self.side.me(), addr, write);
+        self.worker.leave(seat, false);
+    }
+
     /// Who waits for a word rests until its node has served a frame, as one may change the word, or for a while.
     fn rest(&mut self, looks: u64) {
         if looks >= LOOKS {

@@ -19,6 +19,9 @@ use std::alloc::Allocator;
 use std::marker::{Model, PhantomData};
 use std::sync::Wait;
 
+/// How many pages behind the one that it waits for a block has fetched ahead, at most: a node fetches no more at once.
+const MOST_BEHIND: u64 = 7;
+
 /// A place whose program is own code, as the worker of the node has it, which has the other half of the list of the
 /// node's answers.
 pub trait OwnSeat<J: Naming, A: Allocator>: Seat {
@@ -46,8 +49,13 @@ pub trait OwnSeat<J: Naming, A: Allocator>: Seat {
         ensures fits { 8 * result ≤ length from.now };
 
     /// The worker of node `me` makes the calls of words of 8 bytes in a row together, from `addr` on, where the first has
-    /// to wait: as many as lie in its page. It says whether it did. Their replies are taken later.
+    /// to wait: as many as lie in its page. It says whether it did. Their replies are taken later. The pages behind that
+    /// one, as far as the bytes reach, are fetched ahead meanwhile.
     fn call_row(&mut self, me: u8, kind: Row, addr: u64, bytes: &[u8]) -> bool;
+
+    /// The worker of node `me` has the page of this address fetched ahead, to read, or to write too, where the node may ask
+    /// for it now.
+    fn fetch_ahead(&mut self, me: u8, addr: u64, write: bool);
 
     /// The worker of node `me` takes the replies to the loads in a row from `addr` on that are in progress: so many, which
     /// it says; none where they are not there.
@@ -217,8 +225,9 @@ fn store_row_at<S: Setup, J: Naming, A: Allocator + Copy>(
 }
 
 /// The owner of node `me` makes the calls of words of 8 bytes in a row together, from `addr` on, where the first has to
-/// wait, and the site keeps no list of its own past, so that their replies can be taken at once. It says whether it did.
-/// Where the site has no memory for them none was made, and a call tells that.
+/// wait, and the site keeps no list of its own past, so that their replies can be taken at once. It says whether it did,
+/// and has the pages behind the first one's fetched ahead then. Where the site has no memory for them none was made, and a
+/// call tells that.
 fn call_row_at<S: Setup, J: Naming, A: Allocator + Copy>(
     seated: &mut Seated<'_, S, A>,
     half: &Half<Answer, J>,
@@ -237,8 +246,71 @@ fn call_row_at<S: Setup, J: Naming, A: Allocator + Copy>(
         return false;
     }
     match seated.call_row(kind, addr, bytes.len() / 8, bytes) {
-        Ok(words) => words > 0,
-        Err(_) => false,
+        Ok(words) if words > 0 => {
+            fetch_behind(seated, half, kind, addr, bytes.len());
+            true
+        }
+        Ok(_) | Err(_) => false,
+    }
+}
+
+/// The owner of a site has a page fetched ahead, where the node may ask for it now. Nothing is done where there is no such
+/// page, or no memory for it: it is a hint.
+fn fetch_page<S: Setup, J: Naming, A: Allocator + Copy>(
+    seated: &mut Seated<'_, S, A>,
+    half: &Half<Answer, J>,
+    page: u64,
+    write: bool,
+)
+    requires owned { IsOwned seated.old.site half.now }
+    ensures ether { seated.new.ether ≡ seated.old.ether }
+    ensures owned { IsOwned seated.new.site half.now }
+{
+    // for the proof: the clauses name it.
+    let _ = half;
+    if let Ok(page) = u32::try_from(page) {
+        let _ = seated.fetch(page, write);
+    }
+}
+
+/// The owner of node `me` has the page of this address fetched ahead. Nothing is done where the site is of another node.
+fn fetch_at<S: Setup, J: Naming, A: Allocator + Copy>(
+    seated: &mut Seated<'_, S, A>,
+    half: &Half<Answer, J>,
+    me: u8,
+    addr: u64,
+    write: bool,
+)
+    requires owned { IsOwned seated.old.site half.now }
+    ensures ether { seated.new.ether ≡ seated.old.ether }
+    ensures owned { IsOwned seated.new.site half.now }
+{
+    if seated.site().me() != me {
+        return;
+    }
+    let page_size = u64::from(seated.site().config().page_size);
+    fetch_page(seated, half, addr / page_size, write);
+}
+
+/// The owner of a site has the pages behind that of `addr` fetched ahead, as far as so many bytes reach, to read them for
+/// loads, and to write them for stores.
+fn fetch_behind<S: Setup, J: Naming, A: Allocator + Copy>(
+    seated: &mut Seated<'_, S, A>,
+    half: &Half<Answer, J>,
+    kind: Row,
+    addr: u64,
+    bytes: usize,
+)
+    requires owned { IsOwned seated.old.site half.now }
+    ensures ether { seated.new.ether ≡ seated.old.ether }
+    ensures owned { IsOwned seated.new.site half.now }
+{
+    let page_size = u64::from(seated.site().config().page_size);
+    let first = addr / page_size;
+    let end = addr.saturating_add(bytes as u64).div_ceil(page_size);
+    let most = first.saturating_add(1 + MOST_BEHIND);
+    for page in first.saturating_add(1)..end.min(most) {
+        fetch_page(seated, half, page, kind == Row::Stores);
     }
 }
 
@@ -439,6 +511,10 @@ impl<'e, S: Setup, H: Home, J: Naming, A: Allocator + Copy> OwnSeat<J, A>
 
     fn call_row(&mut self, me: u8, kind: Row, addr: u64, bytes: &[u8]) -> bool {
         call_row_at(&mut self.seated, &self.half, me, kind, addr, bytes)
+    }
+
+    fn fetch_ahead(&mut self, me: u8, addr: u64, write: bool) {
+        fetch_at(&mut self.seated, &self.half, me, addr, write);
     }
 
     fn take_loads(&mut self, side: &mut Side<'_, J, A>, addr: u64, into: &mut [u8]) -> usize {

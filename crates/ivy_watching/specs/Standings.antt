@@ -32,10 +32,10 @@ abbrev pub AllStand : {Out : Type 0} → (ℕ → List Answer → Out → Type 0
 AllStand {Out} done nodes outs = (i : ℕ) (n : NodeSoFar) (out : Option Out)
     → slice_get nodes i ≡ Some n → slice_get outs i ≡ Some out → Stands done i n out
 
--- the nodes' events are the parts of one run of own code, whose nodes began so, and where some
--- calls were made at each node;
--- at its end nothing moves, and each call in progress is an await of a count that is too low; and the
--- work of each node has ended, or has a call in progress
+-- the nodes' events are the parts of one run of own code, whose nodes began so, and where some calls
+-- were made, and some pages fetched ahead, at each node; at its end nothing moves, and each call in
+-- progress is an await of a count that is too low; and the work of each node has ended, or has a call
+-- in progress
 pub record IsOwnStandstill {Out : Type 0} (c : Config) (opened : Opening)
     (done : ℕ → List Answer → Out → Type 0) (nodes : List NodeSoFar) (outs : List (Option Out))
     : Type 0 where

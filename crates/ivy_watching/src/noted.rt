@@ -166,6 +166,10 @@ where
         self.owned.call_row(me, kind, addr, bytes)
     }
 
+    fn fetch_ahead(&mut self, me: u8, addr: u64, write: bool) {
+        self.owned.fetch_ahead(me, addr, write);
+    }
+
     fn take_loads(&mut self, side: &mut Side<'_, J, A>, addr: u64, into: &mut [u8]) -> usize {
         self.owned.take_loads(side, addr, into)
     }
