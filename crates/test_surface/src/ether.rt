@@ -179,6 +179,11 @@ fn go_on<S: Setup, R: Wait>(rt: &R, site: &mut Seated<'_, S, Global>) -> Result<
     Ok(turn == Turn::Moved || is_busy(wire))
 }
 
+/// Has a page fetched ahead to read. Whether it was asked for.
+fn fetch<S: Setup>(site: &mut Seated<'_, S, Global>) -> Result<bool, Fault> {
+    site.fetch(1, false)
+}
+
 /// The events of a list. One of none is new.
 fn weight_of(events: &[Event<Bytes<Global>>]) -> u64 {
     match events.first() {

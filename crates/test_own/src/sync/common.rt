@@ -66,4 +66,8 @@ impl<M: SharedMemory, A: Allocator> SharedMemory for AsNode<M, A> {
         self.answers.push_reserved(Answer { call, reply });
         Ok(reply)
     }
+
+    fn fetch_ahead(&mut self, addr: u64, write: bool) {
+        self.memory.fetch_ahead(addr, write);
+    }
 }
