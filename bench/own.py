@@ -181,6 +181,7 @@ OWN = (
     Own("own-block", "page read", 1_000_000, words("blocks", 1), copied, 1.0),
     Own("own-heap", "block", 1_000, words("heap", 1), allowed(20_000), 1.0),
     Own("own-page", "hand-over", 10_000, words("page_blocks", 2), own("page_words", 2), 1.3),
+    Own("own-sweep", "page of 56", 200, words("sweep", 2), own("sweep_pages", 2), 1.0, units=56, other_units=56),
     Own(
         "own-matrices",
         "product of 512",

@@ -93,7 +93,9 @@ fn held(alloc: Global, node: Embedded) -> Option<Held>
     }
 }
 
-/// Drops a node that is on the heap.
+/// Drops a node that is on the heap. It stands apart, since it moves the whole node to the stack, and callers are made often.
+#[cold]
+#[inline(never)]
 fn end(node: Held) {
     drop(ManuallyDrop::into_inner(Box::into_inner(node)));
 }
