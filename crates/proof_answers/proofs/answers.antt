@@ -7,8 +7,15 @@ pub mod Later
 pub mod Apart
 pub mod Weights
 pub mod MessageWeights
+pub mod Accessing
 pub mod Turning
+pub mod MessageJoins
 pub mod Falling
+pub mod Coming
 pub mod Counts
 pub mod WorkMost
 pub mod Answering
+pub mod Unlocked
+pub mod Freeing
+pub mod ComeMost
+pub mod ComingRounds

@@ -1,5 +1,6 @@
 //! The laws of what reaches a node, of who is answered, and of sweeps of pulses.
 ghost use Rattle.proof_answers.specs.answers.Answered.{SomeAnswered, SomeAnsweredOrFetched, SomeAnsweredSoon};
+ghost use Rattle.proof_answers.specs.answers.Came.{SomeAnsweredOrCome};
 ghost use Rattle.proof_answers.specs.answers.Pulses.{PulsesDeliver, PulsesMoveOn};
 ghost use Rattle.proof_answers.specs.answers.Undropped.{NothingIsDropped};
 ghost use Rattle.proof_answers.specs.fairness.Fairness.{CallsAnswered, CallsAnsweredUnfetched, HeapCallsAnswered};
@@ -46,10 +47,13 @@ pub fn pulses_move_on()
 /// which it has a turn, and by whose end each message is delivered that a node had sent at its beginning. Then each
 /// configuration has a number so that as many rounds as that, whatever they are, make some node's history longer, or
 /// some node has used up a page that its program had it fetch ahead. So as many rounds, and as many for each page that
-/// is to be fetched yet, make some node's history longer: a call is passed over for ever only by others that are
-/// answered, or by pages that are fetched without end. It says nothing of a message that is never delivered, or of a
-/// node that has no turn; nor that this call is answered.
+/// is to be fetched yet, make some node's history longer. And each configuration has a greater number so that as many
+/// rounds as that, whatever they are, make some node's history longer, or a page comes in them that some node was
+/// fetching: a call is passed over for ever only by others that are answered, or by pages that are fetched and come
+/// without end. A fetch that asks for nothing passes nobody over. It says nothing of a message that is never delivered,
+/// or of a node that has no turn; nor that this call is answered.
 pub fn some_call_is_answered()
+    ensures came { SomeAnsweredOrCome }
     ensures either { SomeAnsweredOrFetched }
     ensures soon { SomeAnsweredSoon }
     ensures some { SomeAnswered }

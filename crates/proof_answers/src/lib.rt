@@ -2,8 +2,8 @@
 //!
 //! Nothing undelivered is ever dropped ([`nothing_is_dropped`]), and what a pulse achieves whose strings are delivered
 //! in order ([`pulses_deliver`]), and two of them ([`pulses_move_on`]). In rounds of a node whose call is due somebody
-//! is answered ([`some_call_is_answered`]), or uses up a page that its program has fetched ahead: each configuration has a
-//! number of rounds for that.
+//! is answered ([`some_call_is_answered`]), or a page comes that was fetched ahead: each configuration has a number of
+//! rounds for that.
 //!
 //! Who is answered: under managing nodes each node ([`calls_are_answered`]), and under either manager each one that
 //! allocates or frees ([`heap_calls_are_answered`]). Where a node fetches pages ahead, that of its call may have to come

@@ -83,10 +83,10 @@ no_change c n out called (records r is) asked same =
     omega (arith, a, b)
 no_change c n out called (goes idle none memory is weighs) asked same =
     none-some called (sym idle ∙ asked)
-no_change c n out called (takes used low) asked same =
+no_change c n out called (takes used low stays does) asked same =
     let a : out.after.used ≡ n.used = ap (λ (h : Host Managed). h.used) same in
     omega (arith, a, used)
-no_change c n out called (begins p inside is calls elsewhere puts less) asked same =
+no_change c n out called (begins p inside is calls elsewhere puts less lower) asked same =
     let a : host_weight out.after ≡ host_weight n = ap (λ (h : Host Managed). host_weight h) same in
     omega (arith, a, less)
 
@@ -157,7 +157,7 @@ module _ (opened : Opening) (c : Config) (limits : IsConfig c) (programs : List 
     here = core_of w.nodes i n there
 
     -- where nothing was delivered, nothing had been under way
-    nothing : (g : Follower end) → (order_of end g).delivered ≡ (order_of w f).delivered
+    pub nothing : (g : Follower end) → (order_of end g).delivered ≡ (order_of w f).delivered
         → HasNothingUnderWay w
     nothing g same x y a b apart at_x at_y =
         let found : (d : Node (Host Managed)) × (slice_get end.nodes y ≡ Some d) =
@@ -234,7 +234,7 @@ module _ (opened : Opening) (c : Config) (limits : IsConfig c) (programs : List 
           same_Some n.core at_v.0.core (sym now ∙ core_of v.nodes i at_v.0 at_v.1) in
           let sound = told.faithful.sound.sound i n.core here in
           no_change c n.core out.0 called
-          (turn_does managed_ops c limits i n.core sound out.0
+          (turn_does managed_ops c limits i n.core sound (told.servable i n.core here) out.0
           (turn_cases managed_ops c i n.core sound out.0 out.1) out.1) asked (sym (same ∙ at_v.2))
 
       progresses : Progress c (order_of w f) (order_of end rest.follows)

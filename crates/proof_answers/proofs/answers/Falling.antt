@@ -209,7 +209,7 @@ module _ (c : Config) where
 module _ (c : Config) (o u : FifoWorld (Host Managed)) (x : ℕ) (n m : Host Managed)
     (there : slice_get o.cores x ≡ Some n) (cores : u.cores ≡ slice_set o.cores x m)
     (count : length o.cores ≡ c.nodes) where
-  inside_x : x < c.nodes
+  pub inside_x : x < c.nodes
   inside_x = (let a = slice_get_within o.cores x n there in omega (arith, a, count))
 
   hosts_change : hosts c u + host_weight n ≤ hosts c o + host_weight m
@@ -222,13 +222,13 @@ module _ (c : Config) (o u : FifoWorld (Host Managed)) (x : ℕ) (n m : Host Man
       let d : weight_at c u x ≡ host_weight m = ap (weight_of c o) (core_here o u x n m x there cores refl) in
       omega (arith, a, b, d)
 
-  entries_other : (i p : ℕ) → i ≢ x → entries c u i p ≡ entries c o i p
+  pub entries_other : (i p : ℕ) → i ≢ x → entries c u i p ≡ entries c o i p
   entries_other i p ne = ap (λ z. entry_of z p) (core_elsewhere o u x n m i there cores ne)
 
-  entries_now : (p : ℕ) → entries c u x p ≡ entry_at m.memory.coherence.table p
+  pub entries_now : (p : ℕ) → entries c u x p ≡ entry_at m.memory.coherence.table p
   entries_now p = ap (λ z. entry_of z p) (core_here o u x n m x there cores refl)
 
-  entries_was : (p : ℕ) → entries c o x p ≡ entry_at n.memory.coherence.table p
+  pub entries_was : (p : ℕ) → entries c o x p ≡ entry_at n.memory.coherence.table p
   entries_was p = ap (λ z. entry_of z p) there
 
   hop_now : (p : ℕ) → hop_at c u p x ≡ managed_ops.next_hop m.memory.coherence.manager p
@@ -246,8 +246,7 @@ module _ (c : Config) (o u : FifoWorld (Host Managed)) (x : ℕ) (n m : Host Man
       (core_elsewhere o u x n m i there cores ne)
 
   -- where its memory is the same, and nothing was posted or delivered
-  module _ (same : m.memory ≡ n.memory) (idle : n.memory.asked ≡ None)
-      (weighs : host_weight m ≡ host_weight n) (posted : u.posted ≡ o.posted)
+  module _ (same : m.memory ≡ n.memory) (posted : u.posted ≡ o.posted)
       (delivered : u.delivered ≡ o.delivered) where
     entry_same : (i p : ℕ) → entries c u i p ≡ entries c o i p
     entry_same i p = elim (cases_eq i x) [
@@ -269,17 +268,17 @@ module _ (c : Config) (o u : FifoWorld (Host Managed)) (x : ℕ) (n m : Host Man
           ∙ sym (hop_was p))
     ]
 
-    entries_same : entries c u ≡ entries c o
+    pub entries_same : entries c u ≡ entries c o
     entries_same = λ k i p. entry_same i p k
 
-    hops_same : hop_at c u ≡ hop_at c o
+    pub hops_same : hop_at c u ≡ hop_at c o
     hops_same = λ k p i. hop_same p i k
 
-    under_same : under_way u ≡ under_way o
+    pub under_same : under_way u ≡ under_way o
     under_same = λ k i j. drop (delivered k i j) (posted k i j)
 
-    stays : Stood c o u
-    stays = record {
+    stays : n.memory.asked ≡ None → host_weight m ≡ host_weight n → Stood c o u
+    stays idle weighs = record {
       posted = posted;
       delivered = delivered;
       weight = (let a = same_work c o u entries_same hops_same under_same cost in
@@ -298,7 +297,7 @@ module _ (c : Config) (o u : FifoWorld (Host Managed)) (x : ℕ) (n m : Host Man
 module _ (opened : Opening) (c : Config) (limits : IsConfig c) (programs : List Program)
     (many : length programs ≡ c.nodes) (o : FifoWorld (Host Managed))
     (reached : IsReachedInOrder managed_ops (managed_start opened) c programs o) where
-  told : IsToldBy (managed_start opened).sends_on managed_ops c o
+  pub told : IsToldBy (managed_start opened).sends_on managed_ops c o
   told = reached_told managed_ops managed_laws (managed_start opened) c limits
       (managed_new opened c limits) programs many o reached
 
@@ -309,12 +308,12 @@ module _ (opened : Opening) (c : Config) (limits : IsConfig c) (programs : List 
         turn_cases managed_ops c x t.core (told.faithful.sound.sound x t.core t.there) t.outcome
         t.turned
 
-    turn_of_host : TurnDoes t.core t.outcome c
+    pub turn_of_host : TurnDoes t.core t.outcome c
     turn_of_host =
         turn_does managed_ops c limits x t.core (told.faithful.sound.sound x t.core t.there)
-        t.outcome turn_is t.turned
+        (told.servable x t.core t.there) t.outcome turn_is t.turned
 
-    now_under : (i j : ℕ) → under_way u i j ≡ under_way o i j ++ posted i j t.outcome.posted
+    pub now_under : (i j : ℕ) → under_way u i j ≡ under_way o i j ++ posted i j t.outcome.posted
     now_under i j =
         ap (λ g. drop (u.delivered i j) (g i j)) t.posted
         ∙ ap (λ g. drop (g i j) (extended o.posted t.outcome.posted i j)) t.delivered
@@ -364,7 +363,7 @@ module _ (opened : Opening) (c : Config) (limits : IsConfig c) (programs : List 
               told.faithful.sound.count q))
         ]
 
-    later_on : AreLater o u
+    pub later_on : AreLater o u
     later_on = step_later c o u told.faithful.sound.sound (turns x t)
 
     by_turn : TurnDoes t.core t.outcome c → After c o u
@@ -381,7 +380,7 @@ module _ (opened : Opening) (c : Config) (limits : IsConfig c) (programs : List 
             omega (arith, a));
       }));
     }
-    by_turn (takes used low) = record {
+    by_turn (takes used low same does) = record {
       later = later_on;
       comes = inl (grew (record {
         node = x;
@@ -395,12 +394,11 @@ module _ (opened : Opening) (c : Config) (limits : IsConfig c) (programs : List 
     by_turn (goes idle none same is weighs) = record {
       later = later_on;
       comes = inr
-          (stays c o u x t.core t.outcome.after t.there t.cores told.faithful.sound.count same idle
-          weighs
+          (stays c o u x t.core t.outcome.after t.there t.cores told.faithful.sound.count same
           (t.posted ∙ ap (extended o.posted) none ∙ (λ k i j. append-nil (o.posted i j) k))
-          t.delivered);
+          t.delivered idle weighs);
     }
-    by_turn (begins p inside is calls elsewhere puts less) = record {
+    by_turn (begins p inside is calls elsewhere puts less lower) = record {
       later = later_on;
       comes = inl (fell (begins_falls p inside elsewhere puts less));
     }
@@ -408,10 +406,10 @@ module _ (opened : Opening) (c : Config) (limits : IsConfig c) (programs : List 
   -- what a delivery does
   module _ (u : FifoWorld (Host Managed)) (source x : ℕ)
       (t : Delivers (host_rules managed_ops) o source x u) where
-    abbrev served : Host Managed
+    abbrev pub served : Host Managed
     served = (serving managed_ops t.core source t.message).after
 
-    what : (p : ℕ) × (p < c.pages)
+    pub what : (p : ℕ) × (p < c.pages)
         × Does managed_ops cost t.core.memory.coherence p t.message.origin t.message.call
         t.message.content (record {
           after = served.memory.coherence;
@@ -442,7 +440,7 @@ module _ (opened : Opening) (c : Config) (limits : IsConfig c) (programs : List 
     fetches_on : fetch_weight served ≤ fetch_weight t.core
     fetches_on = (eased c limits o u told source x t).fewer
 
-    weighs : host_weight served
+    pub weighs : host_weight served
         ≤ host_weight t.core + (bare cost (entry_at served.memory.coherence.table what.0)
         - bare cost (entry_at t.core.memory.coherence.table what.0))
     weighs = elim (cases_eq 0 what.0) [

@@ -2,8 +2,9 @@
 -- begins, or is tried again, or a page is fetched, and what is asked for weighs less than the node
 -- weighed before.
 use Rattle.std.proofs.Common.{◌≡◌, ◌≢◌, ◌≤◌, ◌<◌, ◌+◌, ◌*◌, ℕ, Bool, true, false, List, [], ◌∷◌, ◌++◌, length, Option, Some, None, if◌then◌else◌, refl, sym, ap, ◌∙◌, subst, arith, inl, inr, nat_lt, slice_get, Ok, Err}
-use Rattle.std.proofs.lemmas.Bool.{cases_eq}
+use Rattle.std.proofs.lemmas.Bool.{both_ways, cases_eq}
 use Rattle.std.proofs.lemmas.Option.{none-some, same_Some, slice_get_within}
+use Rattle.std.proofs.lemmas.List.{length-append}
 use Rattle.std.specs.List.{Contains}
 use Rattle.ivy_model.specs.declared.Config.{Config}
 use Rattle.ivy_model.specs.stated.Config.{IsConfig, count_len}
@@ -12,9 +13,6 @@ use Rattle.ivy_model.specs.declared.Call.TheVariants as call
 use Rattle.ivy_model.specs.declared.Record.{Record}
 use Rattle.ivy_model.specs.declared.Reply.{Reply}
 use Rattle.ivy_model.specs.declared.Fault.{Fault}
-use Rattle.ivy_wire.specs.declared.Content.TheVariants as content
-use Rattle.ivy_wire.specs.stated.Data.{Parcel}
-use Rattle.ivy_wire.specs.stated.Posts.{parcel_to}
 use Rattle.ivy_pagetable.specs.declared.Entry.{Entry}
 use Rattle.ivy_pagetable.specs.declared.Entry.TheVariants as entry
 use Rattle.ivy_pagetable.specs.declared.Word.{Word}
@@ -25,33 +23,37 @@ use Rattle.ivy_pagetable.specs.stated.Manager.{Ops}
 use Rattle.ivy_pagetable.specs.stated.States.{IdleState}
 use Rattle.ivy_pagetable.specs.stated.Tables.{entry_at, page_at, with_entry}
 use Rattle.ivy_pagetable.specs.declared.Out.{Out}
-use Rattle.ivy_pagetable.specs.stated.Words.{carried_out, needs_write}
+use Rattle.ivy_pagetable.specs.stated.Words.{carried_out, needs_write, fetch_word}
 use Rattle.ivy_moves.specs.stated.Cores.{Outcome}
 use Rattle.ivy_program.specs.stated.Programs.{HandedFetch, Program, Written, Called, fetches_of}
-use Rattle.ivy_host.proofs.Turns.{asks-turned}
+use Rattle.ivy_host.proofs.Turns.{asks-turned, either_fetch}
 use Rattle.ivy_host.specs.stated.Fetches.{if_reached, due_of}
 use Rattle.ivy_host.specs.stated.Hosts.{Host, turn_of, turned_at, turned_by, begins_as, asks_reply, or_fetches, due, fetch_of, fetched_with}
 use Rattle.ivy_host.specs.stated.Sound.{IsSoundHost}
 use Rattle.ivy_coherence.specs.stated.Coherent.{Coherent}
 use Rattle.ivy_coherence.specs.stated.Fetching.{suits, joined_by, without_page}
-use Rattle.ivy_coherence.specs.stated.PageFaults.{Begun, waiting_from, fault_entry, along, busy, hit, faulted, fault_posted, taken_up, waits_beside, accessed, begun_at, begun}
+use Rattle.ivy_coherence.specs.stated.PageFaults.{Begun, fault_entry, along, hit, faulted, fault_posted, taken_up, waits_beside, fetchable, fetched_as, fetch_begun, fetch}
 use Rattle.ivy_coherence.proofs.keeping.Fetched.{fewer_without}
-use Rattle.ivy_coherence.specs.stated.Serving.{invalidations}
 use Rattle.ivy_alloc.specs.declared.HeapCall.{HeapCall}
 use Rattle.ivy_alloc.specs.declared.HeapCall.TheVariants as heap_call
 use Rattle.ivy_alloc.specs.stated.HeapCalls.{request}
+use Rattle.ivy_memory.specs.declared.Asked.{Asked}
 use Rattle.ivy_memory.specs.declared.Asked.TheVariants as kinds
 use Rattle.ivy_memory.specs.stated.Asking.{asked_of, count_asked}
-use Rattle.ivy_memory.specs.stated.Memories.{answered, needed, again, again_unless, first_reply, in_progress, polled_as, reply_of, reply_at, reply_there, tried_as, without_call}
+use Rattle.ivy_memory.specs.stated.Memories.{MemoryFetch, memory_fetched, answered, needed, again, again_unless, in_progress, polled_as, reply_of, reply_at, reply_there, tried_as, without_call}
 use Rattle.ivy_memory.proofs.keeping.Polling.{polled_so as polls_as}
 use Rattle.ivy_memory.specs.stated.Beside.{nothing_beside}
 use Rattle.ivy_coherence.proofs.keeping.Changing.{entry_with}
+use Rattle.ivy_coherence.proofs.keeping.EventTable.{fetchable_is}
 use Rattle.proof_table.proofs.transitions.RowsJoined.{joined_still}
 use Rattle.proof_worlds.proofs.consistency.Beside.{along-kept}
 use Rattle.proof_worlds.proofs.refinement.HostTurns.{made_along, number_of, asks, along-net}
 use Rattle.proof_worlds.proofs.refinement.HostTurns.{HostTurn, answers, tries_again, goes_on, refuses, asks_for, serves_heap, asks_heap, carries_fetch}
-use Rattle.proof_worlds.proofs.progress.Works.{heavy_of, bare, work_posted, orders_most}
-use Rattle.proof_answers.proofs.answers.Weights.{cost, fault_most, reply_weight, try_weight, call_weight, fetch_weight, host_weight, call_few, call_waits, less_without}
+use Rattle.proof_worlds.proofs.progress.Asking.{IsServable}
+use Rattle.proof_worlds.proofs.progress.Stopped.{replied_turn, tries}
+use Rattle.proof_worlds.proofs.progress.Works.{heavy_of, bare, work_posted}
+use Rattle.proof_answers.proofs.answers.Accessing.{Access, is_busy, is_hit, is_fault, is_joined, is_beside, access, entry_to, entry_is, none_put, fault_open, fault_bare, fault_weight, none_there, joined_bare, joined_open, read_join, await_asks}
+use Rattle.proof_answers.proofs.answers.Weights.{cost, fault_most, reply_weight, try_weight, call_weight, fetch_weight, host_weight, call_few, call_waits, less_without, open_weight, lock_weight, join_weight, side_weight, join_waits, join_few}
 
 request_weight : (k : HeapCall) → heavy_of cost (request k) ≡ 2
 request_weight (heap_call.Alloc size) = refl
@@ -64,147 +66,30 @@ module _ {S : Type 0} (n : Host S) (out : Outcome (Host S)) where
   abbrev after_at : ℕ → Entry
   after_at q = entry_at out.after.memory.coherence.table q
 
+  -- less is left to be done where a page came counts: at the entry of this page, and beside it
+  abbrev IsLess : ℕ → Type 0
+  IsLess p = 2 * work_posted cost out.posted + (side_weight out.after + open_weight (after_at p))
+      < side_weight n + open_weight (before_at p)
+
+  -- a fetch comes to nothing, or a page is asked for
+  pub data FetchDoes (c : Config) : Type 0 where
+    for_nothing : out.posted ≡ [] → out.after.memory ≡ n.memory → FetchDoes c
+    for_page : (p : ℕ) → p < c.pages → ((q : ℕ) → q ≢ p → after_at q ≡ before_at q)
+        → put_offs (after_at p) ≡ put_offs (before_at p) → IsLess p → FetchDoes c
+
   -- What a turn of a node does.
   pub data TurnDoes (c : Config) : Type 0 where
     records : (r : Record) → out.after.history ≡ n.history ++ r ∷ [] → TurnDoes c
     goes : n.memory.asked ≡ None → out.posted ≡ [] → out.after.memory ≡ n.memory
         → out.after.history ≡ n.history → host_weight out.after ≡ host_weight n → TurnDoes c
-    takes : n.used < out.after.used → n.used < length (fetches_of n.process.program) → TurnDoes c
+    takes : n.used < out.after.used → n.used < length (fetches_of n.process.program)
+        → out.after.history ≡ n.history → FetchDoes c → TurnDoes c
     begins : (p : ℕ) → p < c.pages → out.after.history ≡ n.history
         → ((called : Call) → n.memory.asked ≡ Some called → out.after.memory.asked ≡ Some called)
         → ((q : ℕ) → q ≢ p → after_at q ≡ before_at q)
         → put_offs (after_at p) ≡ put_offs (before_at p)
-        → work_posted cost out.posted + host_weight out.after < host_weight n → TurnDoes c
-
--- an access of this node's program
-module _ {S : Type 0} (ops : Ops S) (k : Coherent S) (page : ℕ) (w : Word) (number : ℕ) where
-  data Access (b : Begun S) : Type 0 where
-    is_busy : b ≡ busy ops k → Access b
-    is_hit : b ≡ hit ops k page w → Access b
-    is_fault : (s : IdleState) → entry_at k.table page ≡ entry.Idle s
-        → suffices s.access w ≡ false → b ≡ faulted ops k page w number s → Access b
-    is_joined : (e : Entry) → entry_at k.table page ≡ e → is_locked e ≡ true
-        → b ≡ taken_up ops k page w e → Access b
-    is_beside : b ≡ waits_beside ops k → Access b
-
-  accessing : (s : IdleState) → entry_at k.table page ≡ entry.Idle s → (b : Bool)
-      → suffices s.access w ≡ b
-      → Access (if b then hit ops k page w else faulted ops k page w number s)
-  accessing s at true enough = is_hit refl
-  accessing s at false short = is_fault s at short refl
-
-  joining : (e : Entry) → entry_at k.table page ≡ e → is_locked e ≡ true → (b : Bool)
-      → Access (if b then taken_up ops k page w e else waits_beside ops k)
-  joining e at lock true = is_joined e at lock refl
-  joining e at lock false = is_beside refl
-
-  at_entry : (e : Entry) → entry_at k.table page ≡ e → Access (accessed ops k page w number e)
-  at_entry (entry.Idle s) at = accessing s at (suffices s.access w) refl
-  at_entry (entry.AwaitRead s) at =
-      joining (entry.AwaitRead s) at refl (suits (entry.AwaitRead s) (needs_write w))
-  at_entry (entry.AwaitWrite s) at =
-      joining (entry.AwaitWrite s) at refl (suits (entry.AwaitWrite s) (needs_write w))
-  at_entry (entry.AwaitAcks s) at =
-      joining (entry.AwaitAcks s) at refl (suits (entry.AwaitAcks s) (needs_write w))
-
-  at_lock : (l : Option ℕ) → Access (begun_at ops k page w number l)
-  at_lock None = at_entry (entry_at k.table page) refl
-  at_lock (Some p) = is_busy refl
-
-  access : Access (begun ops k page w number)
-  unfolding begun
-  access = at_lock k.locked
-
-  module _ (s : IdleState) where
-    -- the entry that it waits at, and what is posted, by whether it writes, and who owns the page
-    abbrev entry_to : Bool → Bool → Entry
-    entry_to true true =
-        entry.AwaitAcks (record { left = s.copies; waiting = waiting_from w number })
-    entry_to true false =
-        entry.AwaitWrite (record { had_copy = reads s.access; waiting = waiting_from w number })
-    entry_to false owner = entry.AwaitRead (waiting_from w number)
-
-    entry_is : (b o : Bool) → (if b then (if o
-        then entry.AwaitAcks (record { left = s.copies; waiting = waiting_from w number })
-        else entry.AwaitWrite (record {
-          had_copy = reads s.access;
-          waiting = waiting_from w number;
-        })) else entry.AwaitRead (waiting_from w number)) ≡ entry_to b o
-    entry_is true true = refl
-    entry_is true false = refl
-    entry_is false o = refl
-
-    abbrev posted_to : Bool → Bool → List Parcel
-    posted_to true true = invalidations k.me page number s.copies
-    posted_to true false =
-        parcel_to k.me (ops.next_hop k.manager page) k.me number (content.WriteReq page) ∷ []
-    posted_to false owner =
-        parcel_to k.me (ops.next_hop k.manager page) k.me number (content.ReadReq page) ∷ []
-
-    posted_is : (b o : Bool) → (if b then (if o then invalidations k.me page number s.copies
-        else parcel_to k.me (ops.next_hop k.manager page) k.me number (content.WriteReq page) ∷ [])
-        else parcel_to k.me (ops.next_hop k.manager page) k.me number (content.ReadReq page) ∷ [])
-        ≡ posted_to b o
-    posted_is true true = refl
-    posted_is true false = refl
-    posted_is false o = refl
-
-    none_put : put_offs (fault_entry w number s) ≡ []
-    none_put = ap put_offs (entry_is (needs_write w) s.owner) ∙ either (needs_write w) s.owner
-      where
-        either : (b o : Bool) → put_offs (entry_to b o) ≡ []
-        either true true = refl
-        either true false = refl
-        either false o = refl
-
-    fault_bare : bare cost (fault_entry w number s) ≡ 0
-    fault_bare =
-        ap (bare cost) (entry_is (needs_write w) s.owner) ∙ either (needs_write w) s.owner
-      where
-        either : (b o : Bool) → bare cost (entry_to b o) ≡ 0
-        either true true = refl
-        either true false = refl
-        either false o = refl
-
-    fault_weight : work_posted cost (fault_posted ops k page w number s)
-        ≤ fault_most
-    fault_weight =
-        (let a = either (needs_write w) s.owner in
-        let b : work_posted cost (fault_posted ops k page w number s)
-        ≡ work_posted cost (posted_to (needs_write w) s.owner) =
-        ap (work_posted cost) (posted_is (needs_write w) s.owner) in
-        omega (arith, a, b))
-      where
-        either : (b o : Bool) → work_posted cost (posted_to b o)
-            ≤ fault_most
-        either true true =
-            (let a = orders_most cost k.me page number s.copies in omega (arith, a))
-        either true false = omega arith
-        either false o = omega arith
-
-none_there : (a b : Option Reply) → first_reply a b ≡ None → b ≡ None
-none_there None b is = is
-none_there (Some r) b is = absurd (none-some r (sym is))
-
--- a word that joins a fetch leaves what a lost copy costs
-joined_bare : (e : Entry) (w : Word) → bare cost (joined_by e w) ≡ bare cost e
-joined_bare (entry.Idle s) w = refl
-joined_bare (entry.AwaitRead s) w = refl
-joined_bare (entry.AwaitWrite s) w = refl
-joined_bare (entry.AwaitAcks s) w = refl
-
--- what an await asks for
-count_is : (b : Bool) (v : Word) (fault : Fault) (page : ℕ) (w : Word)
-    → count_asked (if b then Ok v else Err fault) ≡ kinds.Word page w → (page ≡ 0) × (w ≡ v)
-count_is true v fault page w is =
-    (let f : kinds.Word 0 v ≡ kinds.Word page w = is in (cc, cc))
-count_is false v fault page w is = absurd cc
-
-await_asks : (c : Config) (k least page : ℕ) (w : Word)
-    → asked_of c (call.Await k least) ≡ kinds.Word page w
-    → (page ≡ 0) × (w ≡ word.Await (8 * k) least)
-await_asks c k least page w is =
-    count_is (nat_lt k (count_len c)) (word.Await (8 * k) least) _ page w is
+        → work_posted cost out.posted + host_weight out.after < host_weight n → IsLess p
+        → TurnDoes c
 
 -- a fetch that is due is the next one
 handed_if : (b : Bool) (next fetch : HandedFetch)
@@ -257,8 +142,14 @@ module _ {S : Type 0} (ops : Ops S) (n : Host S) (called : Call)
   unfolding turn_of
   polls is = by_due (due n) refl is
 
+-- an await asks for no call of the heap
+no_heap : (b : Bool) (v : Word) (fault : Fault) (h : HeapCall)
+    → count_asked (if b then Ok v else Err fault) ≡ kinds.Heap h → ⊥
+no_heap true v fault h is = absurd cc
+no_heap false v fault h is = absurd cc
+
 module _ {S : Type 0} (ops : Ops S) (c : Config) (limits : IsConfig c) (x : ℕ) (n : Host S)
-    (good : IsSoundHost ops c x n) (out : Outcome (Host S)) where
+    (good : IsSoundHost ops c x n) (served : IsServable c n) (out : Outcome (Host S)) where
   abbrev k : Coherent S
   k = n.memory.coherence
 
@@ -309,7 +200,11 @@ module _ {S : Type 0} (ops : Ops S) (c : Config) (limits : IsConfig c) (x : ℕ)
         (begins page inside refl (λ other at. absurd (no_call other at)) (λ q ne. refl) refl
         (let a = call_few called (entry_at k.table 0) k.locked k.done in
         let b = full_weight in
-        omega (arith, a, b)))
+        omega (arith, a, b))
+        (let a = call_few called (entry_at k.table 0) k.locked k.done in
+        let b = full_weight in
+        let d = join_few (Some called) k.locked (entry_at k.table 0) in
+        omega (arith, a, b, d)))
 
     fault_begins : (s : IdleState) → entry_at k.table page ≡ entry.Idle s
         → comes_of (faulted ops k page w (number_of n) s) ≡ Some out → TurnDoes n out c
@@ -325,7 +220,26 @@ module _ {S : Type 0} (ops : Ops S) (c : Config) (limits : IsConfig c) (x : ℕ)
         let d = fault_weight ops k page w (number_of n) s in
         let e : length (along words kept).fetched ≡ length k.fetched =
         ap length (along-net words kept).fetched in
-        omega (arith, a, b, d, e)))
+        omega (arith, a, b, d, e))
+        (let a = call_few called (entry_at (along words kept).table 0) (along words kept).locked
+        (along words kept).done in
+        let b = full_weight in
+        let d = fault_weight ops k page w (number_of n) s in
+        let e : length (along words kept).fetched ≡ length k.fetched =
+        ap length (along-net words kept).fetched in
+        let f : lock_weight (along words kept).locked ≡ 2 * fault_most + 3 =
+        ap lock_weight (along-net words kept).locked in
+        let g : join_weight (Some called) (along words kept).locked
+        (entry_at (along words kept).table 0) ≡ 0 =
+        ap (λ l. join_weight (Some called) l (entry_at (along words kept).table 0))
+        (along-net words kept).locked
+        ∙ join_waits (Some called) page (entry_at (along words kept).table 0) in
+        let h : open_weight (entry_at (along words kept).table page) ≡ 0 =
+        ap open_weight
+        (same_at page ∙ written_here page inside (fault_entry w (number_of n) s))
+        ∙ fault_open ops k page w (number_of n) s in
+        let i : open_weight (entry_at k.table page) ≡ 2 * fault_most + 3 = ap open_weight at in
+        omega (arith, a, b, d, e, f, g, h, i)))
       where
         -- the words that wait along leave the table as it is
         words : List Word
@@ -352,7 +266,25 @@ module _ {S : Type 0} (ops : Ops S) (c : Config) (limits : IsConfig c) (x : ℕ)
         let d : length (along words kept).fetched ≡ length (without_page page k.fetched) =
         ap length (along-net words kept).fetched in
         let f = fewer_without page k.fetched in
-        omega (arith, a, b, d, f)))
+        omega (arith, a, b, d, f))
+        (let a = call_few called (entry_at (along words kept).table 0) (along words kept).locked
+        (along words kept).done in
+        let b = full_weight in
+        let d : length (along words kept).fetched ≡ length (without_page page k.fetched) =
+        ap length (along-net words kept).fetched in
+        let f = fewer_without page k.fetched in
+        let g : lock_weight (along words kept).locked ≡ 2 * fault_most + 3 =
+        ap lock_weight (along-net words kept).locked in
+        let h : join_weight (Some called) (along words kept).locked
+        (entry_at (along words kept).table 0) ≡ 0 =
+        ap (λ l. join_weight (Some called) l (entry_at (along words kept).table 0))
+        (along-net words kept).locked
+        ∙ join_waits (Some called) page (entry_at (along words kept).table 0) in
+        let i : open_weight (entry_at (along words kept).table page)
+        ≡ open_weight (entry_at k.table page) =
+        ap open_weight (same_at page ∙ written_here page inside (joined_by e w))
+        ∙ joined_open e w ∙ sym (ap open_weight at) in
+        omega (arith, a, b, d, f, g, h, i)))
       where
         words : List Word
         words = (made_along n page w).words
@@ -370,7 +302,11 @@ module _ {S : Type 0} (ops : Ops S) (c : Config) (limits : IsConfig c) (x : ℕ)
         (begins page inside refl (λ other at. absurd (no_call other at)) (λ q ne. refl) refl
         (let a = call_few called (entry_at k.table 0) k.locked k.done in
         let b = full_weight in
-        omega (arith, a, b)))
+        omega (arith, a, b))
+        (let a = call_few called (entry_at k.table 0) k.locked k.done in
+        let b = full_weight in
+        let d = join_few (Some called) k.locked (entry_at k.table 0) in
+        omega (arith, a, b, d)))
 
     access_begins : (b : Begun S) → Access ops k page w (number_of n) b → comes_of b ≡ Some out
         → TurnDoes n out c
@@ -381,7 +317,8 @@ module _ {S : Type 0} (ops : Ops S) (c : Config) (limits : IsConfig c) (x : ℕ)
         (sym (ap comes_of same) ∙ is)
     access_begins b (is_fault s at short same) is =
         fault_begins s at (sym (ap comes_of same) ∙ is)
-    access_begins b (is_joined e at lock same) is = joined_begins e at (sym (ap comes_of same) ∙ is)
+    access_begins b (is_joined e at lock fits same) is =
+        joined_begins e at (sym (ap comes_of same) ∙ is)
     access_begins b (is_beside same) is = beside_begins (sym (ap comes_of same) ∙ is)
 
   -- where an entry is written at which no lost copy costs anything, page 0 costs no more
@@ -396,14 +333,178 @@ module _ {S : Type 0} (ops : Ops S) (c : Config) (limits : IsConfig c) (x : ℕ)
     | inr ne ↦ (let a = ap (bare cost) (written_there page inside e 0 ne) in omega (arith, a))
   ]
 
+  -- In a turn that carries out a fetch no await is tried that may not read page 0: it asks for a
+  -- copy first.
+  module _ (turned : turn_of ops n ≡ Some out) (uses : out.after.used ≡ n.used + 1) where
+    not_used : (o : Outcome (Host S)) → turn_of ops n ≡ Some o → o.after.used ≡ n.used → ⊥
+    not_used o is same =
+        let a : o.after.used ≡ out.after.used =
+        ap (λ (z : Outcome (Host S)). z.after.used) (same_Some o out (sym is ∙ turned)) in
+        omega (arith, a, same, uses)
+
+    unreplied : (called : Call) → n.memory.asked ≡ Some called → (r : Option Reply)
+        → reply_at n.memory ≡ r → reply_at n.memory ≡ None
+    unreplied called asked None is = is
+    unreplied called asked (Some r) is =
+        absurd (not_used _ (replied_turn ops n called asked r is) refl)
+
+    await_reads : (j least : ℕ) → n.memory.asked ≡ Some (call.Await j least) → k.locked ≡ None
+        → (s : IdleState) → entry_at k.table 0 ≡ entry.Idle s → (b : Bool) → reads s.access ≡ b
+        → b ≡ true
+    await_reads j least asked free s at true is = refl
+    await_reads j least asked free s at false is =
+        absurd (by_kind (asked_of c (call.Await j least)) refl)
+      where
+        by_kind : (a : Asked) → asked_of c (call.Await j least) ≡ a → ⊥
+        by_kind (kinds.Refused code) of = served (call.Await j least) code asked of
+        by_kind (kinds.Heap h) of =
+            no_heap (nat_lt j (count_len c)) (word.Await (8 * j) least) _ h of
+        by_kind (kinds.Word page w) of =
+            let first = await_asks c j least page w of in
+            not_used _
+            (tries ops n (call.Await j least) asked c good.config
+            (unreplied (call.Await j least) asked (reply_at n.memory) refl) free page w of s false
+            (ap (entry_at k.table) first.0 ∙ at) (ap (suffices s.access) first.1 ∙ is) _ refl)
+            refl
+
   -- a page is fetched, or is not
-  fetch_does : (fetch : HandedFetch) → slice_get (fetches_of n.process.program) n.used ≡ Some fetch
+  module _ (fetch : HandedFetch) (turned : turn_of ops n ≡ Some out)
+      (uses : out.after.used ≡ n.used + 1) where
+    abbrev FetchedSo : MemoryFetch S → Type 0
+    FetchedSo f = FetchDoes n (fetched_with n f) c
+
+    abbrev number : ℕ
+    number = length n.history + 1
+
+    module _ (inside : fetch.page < n.memory.coherence.config.pages) (s : IdleState)
+        (at : entry_at k.table fetch.page ≡ entry.Idle s)
+        (short : suffices s.access (fetch_word fetch.write) ≡ false) where
+      abbrev fetched_entry : Entry
+      fetched_entry = fault_entry (fetch_word fetch.write) number s
+
+      -- the entry of page 0 then
+      abbrev new : Entry
+      new = entry_at (with_entry k.table fetch.page fetched_entry) 0
+
+      within : fetch.page < c.pages
+      within =
+          (let a = ap (λ (d : Config). d.pages) good.config in omega (arith, a, inside))
+
+      asks_page : FetchedSo (record {
+        begun = true;
+        after =
+            record n.memory { coherence = (fetch_begun ops k fetch.page fetch.write number s).after };
+        posted = (fetch_begun ops k fetch.page fetch.write number s).posted;
+      })
+      asks_page =
+          for_page fetch.page within (written_there fetch.page within fetched_entry)
+          (ap put_offs (written_here fetch.page within fetched_entry)
+          ∙ none_put ops k fetch.page (fetch_word fetch.write) number s ∙ sym (ap put_offs at))
+          (let a = fault_weight ops k fetch.page (fetch_word fetch.write) number s in
+          let b : length (k.fetched ++ fetch.page ∷ []) ≡ length k.fetched + 1 =
+          length-append k.fetched (fetch.page ∷ []) in
+          let d : open_weight (entry_at (with_entry k.table fetch.page fetched_entry) fetch.page)
+          ≡ 0 =
+          ap open_weight (written_here fetch.page within fetched_entry)
+          ∙ fault_open ops k fetch.page (fetch_word fetch.write) number s in
+          let e : open_weight (entry_at k.table fetch.page) ≡ 2 * fault_most + 3 =
+          ap open_weight at in
+          let f = same_call n.memory.asked in
+          let g = same_join in
+          omega (arith, a, b, d, e, f, g))
+        where
+          bares : bare cost (entry_at (with_entry k.table fetch.page fetched_entry) 0)
+              ≤ bare cost (entry_at k.table 0)
+          bares =
+              bare_written fetch.page within fetched_entry
+              (let a = fault_bare ops k fetch.page (fetch_word fetch.write) number s in
+              omega (arith, a))
+
+          same_call : (a : Option Call)
+              → call_weight a new k.locked k.done
+              ≤ call_weight a (entry_at k.table 0) k.locked k.done
+          same_call None = omega arith
+          same_call (Some (call.Await j least)) = bares
+          same_call (Some other) = omega arith
+
+          -- an entry that is to be written suits no await
+          writes_none : (j least : ℕ) (b o : Bool) → b ≡ true
+              → join_weight (Some (call.Await j least)) None
+              (entry_to ops k fetch.page (fetch_word fetch.write) number s b o) ≡ 0
+          writes_none j least true true is = refl
+          writes_none j least true false is = refl
+          writes_none j least false o is = absurd (both_ways false refl is)
+
+          by_kind : (j least : ℕ) → n.memory.asked ≡ Some (call.Await j least) → k.locked ≡ None
+              → fetch.page ≡ 0 → (b : Bool) → fetch.write ≡ b
+              → join_weight (Some (call.Await j least)) None fetched_entry ≡ 0
+          by_kind j least asked free first true is =
+              ap (join_weight (Some (call.Await j least)) None)
+              (entry_is ops k fetch.page (fetch_word fetch.write) number s
+              (needs_write (fetch_word fetch.write)) s.owner)
+              ∙ writes_none j least (needs_write (fetch_word fetch.write)) s.owner
+              (ap (λ b. needs_write (fetch_word b)) is)
+          by_kind j least asked free first false is =
+              absurd (both_ways (reads s.access)
+              (sym (ap (λ b. suffices s.access (fetch_word b)) is) ∙ short)
+              (await_reads turned uses j least asked free s
+              (ap (entry_at k.table) (sym first) ∙ at) (reads s.access) refl))
+
+          joins : (a : Option Call) → n.memory.asked ≡ a → (l : Option ℕ) → k.locked ≡ l
+              → join_weight a l new ≤ join_weight a l (entry_at k.table 0)
+          joins None is l free = omega arith
+          joins (Some (call.Await j least)) is (Some p) free = omega arith
+          joins (Some (call.Await j least)) is None free = elim (cases_eq 0 fetch.page) [
+            | inr ne ↦
+                (let a = ap (join_weight (Some (call.Await j least)) None)
+                (written_there fetch.page within fetched_entry 0 ne) in
+                omega (arith, a))
+            | inl first ↦
+                (let a : new ≡ fetched_entry =
+                subst (λ p. entry_at (with_entry k.table fetch.page fetched_entry) p ≡ fetched_entry)
+                (sym first) (written_here fetch.page within fetched_entry) in
+                let b = ap (join_weight (Some (call.Await j least)) None) a in
+                let d = by_kind j least is free (sym first) fetch.write refl in
+                omega (arith, b, d))
+          ]
+          joins (Some other) is l free = omega arith
+
+          same_join : join_weight n.memory.asked k.locked new
+              ≤ join_weight n.memory.asked k.locked (entry_at k.table 0)
+          same_join = joins n.memory.asked refl k.locked refl
+
+    by_room : fetch.page < n.memory.coherence.config.pages → (o : Option IdleState)
+        → fetchable k fetch.page fetch.write ≡ o
+        → FetchedSo (record {
+          begun = (fetched_as ops k fetch.page fetch.write number o).begun;
+          after =
+              record n.memory { coherence = (fetched_as ops k fetch.page fetch.write number o).after };
+          posted = (fetched_as ops k fetch.page fetch.write number o).posted;
+        })
+    by_room inside None is = for_nothing refl refl
+    by_room inside (Some s) is =
+        let may = fetchable_is k fetch.page fetch.write s is in
+        asks_page inside s may.is may.short
+
+    where_may : fetch.page < n.memory.coherence.config.pages
+        → FetchedSo (memory_fetched ops n.memory fetch.page fetch.write number)
+    unfolding fetch
+    where_may inside = by_room inside (fetchable k fetch.page fetch.write) refl
+
+    fetched_does : FetchedSo (fetch_of ops n fetch)
+    fetched_does =
+        either_fetch ops FetchedSo n fetch (for_nothing refl refl)
+        (λ inside below. where_may inside)
+
+  fetch_does : turn_of ops n ≡ Some out → (fetch : HandedFetch)
+      → slice_get (fetches_of n.process.program) n.used ≡ Some fetch
       → out ≡ fetched_with n (fetch_of ops n fetch) → TurnDoes n out c
-  fetch_does fetch next is =
+  fetch_does turned fetch next is =
       let low = slice_get_within (fetches_of n.process.program) n.used fetch next in
       let used : out.after.used ≡ n.used + 1 =
       ap (λ (z : Outcome (Host S)). z.after.used) is in
-      takes (omega (arith, used)) low
+      takes (omega (arith, used)) low (ap (λ (z : Outcome (Host S)). z.after.history) is)
+      (subst (λ z. FetchDoes n z c) (sym is) (fetched_does fetch turned used))
 
   -- a call that is tried again
   module _ (called : Call) (page : ℕ) (w : Word) (asked : n.memory.asked ≡ Some called)
@@ -476,12 +577,24 @@ module _ {S : Type 0} (ops : Ops S) (c : Config) (limits : IsConfig c) (x : ℕ)
           ∙ sym (ap put_offs at))
           (let a = lighter called of None in
           let b = before in
-          omega (arith, a, b)))
+          omega (arith, a, b))
+          (let a = lighter called of None in
+          let b = before in
+          let d : lock_weight k.locked ≡ 0 = ap lock_weight free in
+          let f : join_weight (Some called) (Some page) (entry_at (with_entry k.table page e) 0)
+          ≡ 0 =
+          join_waits (Some called) page (entry_at (with_entry k.table page e) 0) in
+          let g : open_weight (entry_at (with_entry k.table page e) page) ≡ 0 =
+          ap open_weight (written_here page inside e)
+          ∙ fault_open ops (without_call n.memory).coherence page w n.memory.number s in
+          let h : open_weight (entry_at k.table page) ≡ 2 * fault_most + 3 = ap open_weight at in
+          omega (arith, a, b, d, f, g, h)))
 
     joined_again : (z : Entry) → entry_at k.table page ≡ z → is_locked z ≡ true
+        → suits z (needs_write w) ≡ true
         → tried (taken_up ops (without_call n.memory).coherence page w z) ≡ Some out
         → TurnDoes n out c
-    joined_again z at lock is =
+    joined_again z at lock fits is =
         subst (λ y. TurnDoes n y c) (same_Some _ out is)
         (begins page inside refl still_asked
         (written_there page inside (joined_by z w))
@@ -493,8 +606,48 @@ module _ {S : Type 0} (ops : Ops S) (c : Config) (limits : IsConfig c) (x : ℕ)
         (let j = joined_bare z w in let l = ap (bare cost) at in omega (arith, j, l))) in
         let b = before in
         let d = less_without page k.fetched among in
-        omega (arith, a, b, d)))
+        omega (arith, a, b, d))
+        (let a = joins_less called of in
+        let b = before in
+        let d = less_without page k.fetched among in
+        let f : lock_weight k.locked ≡ 0 = ap lock_weight free in
+        let g : join_weight (Some called) (Some page)
+        (entry_at (with_entry k.table page (joined_by z w)) 0) ≡ 0 =
+        join_waits (Some called) page (entry_at (with_entry k.table page (joined_by z w)) 0) in
+        let h : open_weight (entry_at (with_entry k.table page (joined_by z w)) page)
+        ≡ open_weight (entry_at k.table page) =
+        ap open_weight (written_here page inside (joined_by z w))
+        ∙ joined_open z w ∙ sym (ap open_weight at) in
+        let i : join_weight n.memory.asked k.locked (entry_at k.table 0)
+        ≡ join_weight (Some called) None (entry_at k.table 0) =
+        ap (λ x. join_weight x k.locked (entry_at k.table 0)) asked
+        ∙ ap (λ l. join_weight (Some called) l (entry_at k.table 0)) free in
+        omega (arith, a, b, d, f, g, h, i)))
       where
+        -- the call pays for the entry
+        joins_less : (a : Call) → asked_of c a ≡ kinds.Word page w
+            → 2 * call_weight (Some a) (entry_at (with_entry k.table page (joined_by z w)) 0)
+            (Some page) None + (2 * fault_most + 2)
+            ≤ 2 * call_weight (Some a) (entry_at k.table 0) k.locked k.done
+            + join_weight (Some a) None (entry_at k.table 0)
+        joins_less (call.Await j least) of_await =
+            let is = await_asks c j least page w of_await in
+            let first : entry_at k.table 0 ≡ z =
+            subst (λ p. entry_at k.table p ≡ z) is.0 at in
+            let suited : suits z false ≡ true =
+            sym (ap (λ v. suits z (needs_write v)) is.1) ∙ fits in
+            let x : join_weight (Some (call.Await j least)) None (entry_at k.table 0)
+            ≡ 2 * fault_most + 2 =
+            ap (join_weight (Some (call.Await j least)) None) first ∙ read_join z j least suited in
+            let y = bare_written page inside (joined_by z w)
+            (let m = joined_bare z w in let l = ap (bare cost) at in omega (arith, m, l)) in
+            omega (arith, x, y)
+        joins_less a of_other =
+            let was : try_weight k.locked k.done ≡ fault_most + 1 =
+            ap (λ l. try_weight l k.done) free
+            ∙ ap reply_weight (none_there _ (reply_there k.done) none) in
+            omega (arith, was)
+
         among : Contains k.fetched page
         among = elim (good.memory.coherent.others page (ap is_locked at ∙ lock)) [
           | inl waits ↦ absurd (none-some page (sym free ∙ waits))
@@ -509,14 +662,15 @@ module _ {S : Type 0} (ops : Ops S) (c : Config) (limits : IsConfig c) (x : ℕ)
         hit_again (reply_of (carried_out w (page_at k.table page)).out) (sym (ap tried same) ∙ is)
     by_access b (is_fault s at short same) is =
         fault_again s at short (sym (ap tried same) ∙ is)
-    by_access b (is_joined z at lock same) is = joined_again z at lock (sym (ap tried same) ∙ is)
+    by_access b (is_joined z at lock fits same) is =
+        joined_again z at lock fits (sym (ap tried same) ∙ is)
     by_access b (is_beside same) is = absurd (none-some out (sym (ap tried same) ∙ is))
 
     try_again : turn_of ops n ≡ Some out → TurnDoes n out c
     try_again turned = by_polls (polls ops n called asked out turned)
       where
         by_polls : Polls ops n called asked out → TurnDoes n out c
-        by_polls (fetched_so fetch next is) = fetch_does fetch next is
+        by_polls (fetched_so fetch next is) = fetch_does turned fetch next is
         by_polls (polled_so is) =
             by_access _
             (access ops (without_call n.memory).coherence page w n.memory.number)
@@ -550,5 +704,11 @@ module _ {S : Type 0} (ops : Ops S) (c : Config) (limits : IsConfig c) (x : ℕ)
       let b : host_weight n ≡ 2 * fault_most + 2 * cost + 3 + fetch_weight n =
       ap (λ z. call_weight z (entry_at k.table 0) k.locked k.done + fetch_weight n) idle in
       let d = request_weight h in
-      omega (arith, a, b, d)))
-  turn_does (carries_fetch fetch next is) turned = fetch_does fetch next is
+      omega (arith, a, b, d))
+      (let a = call_few called (entry_at k.table 0) k.locked k.done in
+      let b : host_weight n ≡ 2 * fault_most + 2 * cost + 3 + fetch_weight n =
+      ap (λ z. call_weight z (entry_at k.table 0) k.locked k.done + fetch_weight n) idle in
+      let d = request_weight h in
+      let f = join_few (Some called) k.locked (entry_at k.table 0) in
+      omega (arith, a, b, d, f)))
+  turn_does (carries_fetch fetch next is) turned = fetch_does turned fetch next is

@@ -9,6 +9,7 @@ use Rattle.ivy_model.specs.stated.Limits.{most_nodes}
 use Rattle.ivy_pagetable.specs.declared.Entry.{Entry}
 use Rattle.ivy_pagetable.specs.declared.Entry.TheVariants as entry
 use Rattle.ivy_pagetable.specs.declared.Out.{Out}
+use Rattle.ivy_pagetable.specs.stated.Entries.{is_locked}
 use Rattle.ivy_pagetable.specs.stated.Tables.{entry_at}
 use Rattle.ivy_coherence.specs.stated.Fetching.{without_page}
 use Rattle.ivy_coherence.proofs.keeping.Fetched.{fewer_without}
@@ -105,3 +106,51 @@ less_without page (q ∷ qs) (suc k, lt, is) =
       | true ↦ omega (arith, rest)
       | false ↦ omega (arith, rest)
     ]
+
+-- What a node weighs besides where a page that came counts. An entry that is not locked: a page may
+-- be fetched there. A word that waits: its entry may be free again. And an await that might join.
+abbrev pub open_weight : Entry → ℕ
+open_weight (entry.Idle s) = 2 * fault_most + 3
+open_weight e = 0
+
+abbrev pub lock_weight : Option ℕ → ℕ
+lock_weight None = 0
+lock_weight (Some page) = 2 * fault_most + 3
+
+abbrev pub join_weight : Option Call → Option ℕ → Entry → ℕ
+join_weight (Some (call.Await k least)) None (entry.AwaitRead s) = 2 * fault_most + 2
+join_weight a lock e = 0
+
+abbrev pub side_weight : {S : Type 0} → Host S → ℕ
+side_weight n =
+    2 * host_weight n
+    + (lock_weight n.memory.coherence.locked
+    + join_weight n.memory.asked n.memory.coherence.locked (entry_at n.memory.coherence.table 0))
+
+pub join_none : (lock : Option ℕ) (e : Entry) → join_weight None lock e ≡ 0
+join_none lock e = refl
+
+pub join_waits : (a : Option Call) (page : ℕ) (e : Entry) → join_weight a (Some page) e ≡ 0
+join_waits None page e = refl
+join_waits (Some (call.Await k least)) page e = refl
+join_waits (Some called) page e = refl
+
+await_few : (lock : Option ℕ) (e : Entry) (k least : ℕ)
+    → join_weight (Some (call.Await k least)) lock e ≤ 2 * fault_most + 2
+await_few (Some page) e k least = omega arith
+await_few None (entry.AwaitRead s) k least = omega arith
+await_few None (entry.Idle s) k least = omega arith
+await_few None (entry.AwaitWrite s) k least = omega arith
+await_few None (entry.AwaitAcks s) k least = omega arith
+
+pub join_few : (a : Option Call) (lock : Option ℕ) (e : Entry)
+    → join_weight a lock e ≤ 2 * fault_most + 2
+join_few None lock e = omega arith
+join_few (Some (call.Await k least)) lock e = await_few lock e k least
+join_few (Some called) lock e = omega arith
+
+pub locked_open : (e : Entry) → is_locked e ≡ true → open_weight e ≡ 0
+locked_open (entry.Idle s) lock = absurd cc
+locked_open (entry.AwaitRead s) lock = refl
+locked_open (entry.AwaitWrite s) lock = refl
+locked_open (entry.AwaitAcks s) lock = refl

@@ -68,7 +68,7 @@ sum_few f few (x ∷ xs) =
     let sum : sum_by f (x ∷ xs) ≡ f x + sum_by f xs = sum_by-cons f x xs in
     omega (arith, rest, first, sum)
 
-sum_most : (n b : ℕ) (f : ℕ → ℕ) → ((i : ℕ) → i < n → f i ≤ b) → sum_below n f ≤ n * b
+pub sum_most : (n b : ℕ) (f : ℕ → ℕ) → ((i : ℕ) → i < n → f i ≤ b) → sum_below n f ≤ n * b
 sum_most zero b f few = omega arith
 sum_most (suc n) b f few =
     let rest = sum_most n b f (λ i low. few i (omega (arith, low))) in
