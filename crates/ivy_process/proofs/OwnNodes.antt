@@ -1,7 +1,8 @@
 -- A node with own code goes on by events, calls, pages fetched ahead and answers, whose lines it notes and writes.
-use Rattle.std.proofs.Common.{◌≡◌, ℕ, ◌+◌, ◌<◌, ◌≤◌, Bool, List, [], ◌∷◌, ◌++◌, length, take, Option, Some, None, false, Result, Ok, Err, IfOk, map, refl, sym, ap, subst, ◌∙◌, append-nil, append_assoc, arith}
+use Rattle.std.proofs.Common.{◌≡◌, ℕ, ◌+◌, ◌<◌, ◌≤◌, Bool, List, [], ◌∷◌, ◌++◌, length, take, Option, Some, None, false, true, Result, Ok, Err, IfOk, map, refl, sym, ap, subst, ◌∙◌, append-nil, append_assoc, arith}
 use mathlib.Core.Bool.{true≢false}
 use Rattle.std.specs.Option.{is_some}
+use Rattle.std.specs.Prelude.{MatchBool, OnOk}
 use Rattle.std.specs.Io.KnownBytes.{Appends}
 use Rattle.std.proofs.KnownBytes.{Appends-nil, Appends-trans}
 use Rattle.std.proofs.lemmas.List.{length-append, take_all}
@@ -29,7 +30,7 @@ use Rattle.ivy_join.proofs.EventSteps.{turn-listed}
 use Rattle.ivy_process.specs.declared.failure.NodeFailure.{NodeFailure}
 use Rattle.ivy_process.specs.declared.past.Recalled.{Recalled}
 use Rattle.ivy_process.specs.declared.past.Recalled.TheVariants.{Known, Open, New}
-use Rattle.ivy_process.specs.NodeLogs.{Served, lines_of, AddsEvents, StreamsPart, StreamsWhole}
+use Rattle.ivy_process.specs.NodeLogs.{Served, lines_of, AddsEvents, IsLogged, StreamsPart, StreamsWhole}
 use Rattle.ivy_process.specs.OwnNodes.{Begun, begun, HasResumed, HasWorked, IsRecalled, NotesAnswer, NotesCall, NotesFetch, OwnStreams, Replies, RepliesFrom, Resumes, ResumesUnless}
 use Rattle.ivy_process.proofs.Logged.{streams-begin}
 
@@ -92,6 +93,33 @@ fetched-own past page write b d log n = record {
   all = n.noted ∙ ap (λ l. b.unlogged ++ l) (sym (append-nil (entry_line (Fetched page write))));
 }
 
+-- nothing
+pub none-own : (b : Served) (log : Option (List ℕ)) → OwnStreams (begun [] b log) b log []
+none-own b log = record {
+  entries = [];
+  answers = refl;
+  handed = refl;
+  answered = adds-none b.site.node.core.history b.site.node.core.history refl;
+  listed = sym (append-nil b.site.events);
+  part = [];
+  written = Appends-nil log;
+  all = sym (append-nil b.unlogged);
+}
+
+-- what the log lacked is written there
+pub logged-own : (b d : Served) (log log' : Option (List ℕ)) → IsLogged b d log log'
+    → OwnStreams (begun [] b log) d log' []
+logged-own b d log log' y = record {
+  entries = [];
+  answers = refl;
+  handed = y.kept.program;
+  answered = y.kept.answered;
+  listed = y.listed ∙ sym (append-nil b.site.events);
+  part = b.unlogged;
+  written = y.written;
+  all = ap (λ l. b.unlogged ++ l) y.whole;
+}
+
 -- an answer
 pub answered-own : (past : List LogEntry) (count : ℕ) (call : Call) (reply : Reply) (b d : Served)
     (log : Option (List ℕ)) → NotesAnswer count call reply b d
@@ -132,6 +160,29 @@ own-further from past b d log log' told more x y = record {
       ∙ append_assoc from.unlogged (entry_lines x.entries) (entry_lines y.entries)
       ∙ ap (λ l. from.unlogged ++ l) (sym (flat_map-append entry_line x.entries y.entries));
 }
+
+-- a page that is fetched ahead, of which the node then speaks
+pub spoken-own : (page : ℕ) (write : Bool) (b m d : Served) (log log' : Option (List ℕ))
+    → NotesFetch page write b m → IsLogged m d log log' → OwnStreams (begun [] b log) d log' []
+spoken-own page write b m d log log' n y =
+    own-further (begun [] b log) [] m d log log' [] [] (fetched-own [] page write b m log n)
+    (logged-own m d log log' y)
+
+-- a page that was not asked for changes nothing
+pub unfetched-own : (asks : Bool) (page : ℕ) (write : Bool) (b d : Served) (log : Option (List ℕ))
+    → MatchBool asks (NotesFetch page write b d) (d ≡ b) → asks ≡ false → OwnStreams (begun [] b log) d log []
+unfetched-own asks page write b d log either not_asked =
+    let same : d ≡ b = subst (λ x. MatchBool x (NotesFetch page write b d) (d ≡ b)) not_asked either in
+    subst (λ s. OwnStreams (begun [] b log) s log []) (sym same) (none-own b log)
+
+-- one that was asked for is noted, and is spoken of where the log takes that
+pub fetched-if : {E : Type 0} (r : Result (Unit {0}) E) (asks : Bool) (page : ℕ) (write : Bool) (b m d : Served)
+    (log log' : Option (List ℕ)) → MatchBool asks (NotesFetch page write b m) (m ≡ b) → asks ≡ true
+    → OnOk r (IsLogged m d log log') → OnOk r (OwnStreams (begun [] b log) d log' [])
+fetched-if (Ok x) asks page write b m d log log' either asked logged =
+    spoken-own page write b m d log log'
+    (subst (λ a. MatchBool a (NotesFetch page write b m) (m ≡ b)) asked either) logged
+fetched-if (Err e) asks page write b m d log log' either asked logged = tt
 
 streams-of : (b d : Served) (log log' : Option (List ℕ)) → StreamsWhole b d log log'
     → StreamsPart b d log log'
@@ -273,26 +324,35 @@ pub none-of : {X : Type 0} (o : Option X) → false ≡ is_some o → o ≡ None
 none-of None is = refl
 none-of (Some x) is = absurd (true≢false (sym is))
 
--- no call failed, and the node goes on while its work rests
-pub resumes-on : (failure : Option NodeFailure) (from : Begun) (place count count' : ℕ) (b d : Served)
+-- no call failed, and the node goes on by what has no answer
+pub resumes-by : (failure : Option NodeFailure) (from : Begun) (place count count' : ℕ) (b d : Served)
     (log log' : Option (List ℕ)) (told : List Answer) → failure ≡ None
-    → ResumesUnless failure from place count b log told → StreamsPart b d log log' → count' ≡ count
-    → ResumesUnless failure from place count' d log' told
-resumes-on failure from place count count' b d log log' told ok is went same =
+    → ResumesUnless failure from place count b log told → OwnStreams (begun [] b log) d log' []
+    → count' ≡ count → ResumesUnless failure from place count' d log' told
+resumes-by failure from place count count' b d log log' told ok is went same =
     let x : Resumes from place count b log told = subst (λ f. ResumesUnless f from place count b log told) ok is in
     let after : Resumes from place count d log' told = record {
       within = x.within;
       fresh = x.fresh;
       streams = subst (OwnStreams from d log') (append-nil x.fresh)
-          (own-further from [] b d log log' x.fresh [] x.streams (streams-own [] b d log log' went));
+          (own-further from [] b d log log' x.fresh [] x.streams went);
       are = x.are;
       again = x.again;
       many = x.many;
       first = λ said. first-longer (answers_in from.past ++ x.fresh) b.site.node.core.history
-          d.site.node.core.history (x.first said) went.kept.answered;
+          d.site.node.core.history (x.first said) went.answered;
     } in
     subst (λ f. ResumesUnless f from place count' d log' told) (sym ok)
     (subst (λ n. Resumes from place n d log' told) (sym same) after)
+
+-- so it does while its work rests
+pub resumes-on : (failure : Option NodeFailure) (from : Begun) (place count count' : ℕ) (b d : Served)
+    (log log' : Option (List ℕ)) (told : List Answer) → failure ≡ None
+    → ResumesUnless failure from place count b log told → StreamsPart b d log log' → count' ≡ count
+    → ResumesUnless failure from place count' d log' told
+resumes-on failure from place count count' b d log log' told ok is went same =
+    resumes-by failure from place count count' b d log log' told ok is
+    (streams-own [] b d log log' went) same
 
 -- what follows of three facts of a result
 pub all-ok : {T E : Type 0} (r : Result T E) (P Q R S : T → Type 0)

@@ -1,5 +1,5 @@
 //! A node that notes each event that it makes in lines for its log.
-ghost use Rattle.std.specs.Prelude.{◌≡◌, ◌↔◌, ◌++◌, ◌<◌, [], length, IfOk, IsTrue, MatchBool, None, OnOk};
+ghost use Rattle.std.specs.Prelude.{IfSome, ◌≡◌, ◌↔◌, ◌++◌, ◌<◌, [], length, IfOk, IsTrue, MatchBool, None, OnOk};
 ghost use Rattle.std.specs.Io.KnownBytes.{Appends};
 ghost use Rattle.ivy_model.specs.stated.Config.{IsConfig};
 ghost use Rattle.ivy_model.specs.stated.Legal.{HasWidth};
@@ -585,6 +585,17 @@ impl Node {
         }
         self.site.hand(call)?;
         self.note(LogEntry::Asked(call))
+    }
+
+    /// The page of an address, where there is one.
+    pub(crate) fn page_at(&self, addr: u64) -> Option<u32>
+        ensures { IfSome result (λ page. page < self.now.site.config.pages) }
+    {
+        let config = self.site.config();
+        match u32::try_from(addr / u64::from(config.page_size)) {
+            Ok(page) if page < config.pages => Some(page),
+            _ => None,
+        }
     }
 
     /// Its code has a page fetched ahead, to read or to write, in one of its turns, which is noted. It says whether the

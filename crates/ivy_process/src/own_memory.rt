@@ -3,7 +3,7 @@ ghost use Rattle.std.specs.Prelude.{◌≡◌, ◌+◌, ◌≤◌, [], IfOk, Non
 ghost use Rattle.ivy_logs.specs.Entries.{answers_in};
 ghost use Rattle.ivy_model.specs.stated.Legal.{HasWidth};
 ghost use Rattle.ivy_process.specs.NodeLogs.{StreamsPart, StreamsWhole};
-ghost use Rattle.ivy_process.specs.OwnNodes.{begun, HasResumed, HasWorked, Replies, RepliesFrom, Resumes};
+ghost use Rattle.ivy_process.specs.OwnNodes.{begun, HasResumed, HasWorked, OwnStreams, Replies, RepliesFrom, Resumes};
 
 use crate::failure::{NODE_FAILED, NodeFailure, line_of};
 use crate::mail::Inbox;
@@ -200,6 +200,37 @@ fn serve_rest<R: Wait, C: Clockwork, I: Inbox, L: Write, O: Write, E: Write>(
     }
 }
 
+/// Has the page of an address fetched ahead, and speaks of it. Nothing is done where there is no such page, or the node may not
+/// ask for it now.
+fn fetch_at<I, L: Write, O: Write, E: Write>(
+    node: &mut Node,
+    streams: &mut Streams<'_, I, L, O, E>,
+    addr: u64,
+    write: bool,
+) -> Result<(), NodeFailure>
+    ensures { OnOk result (OwnStreams (begun [] node.old (L.contents streams.old.log)) node.new (L.contents streams.new.log) []) }
+{
+    let Some(page) = node.page_at(addr) else {
+        return Ok(());
+    };
+    if !node.fetch(page, write)? {
+        return Ok(());
+    }
+    node.speak(&mut streams.log, &mut streams.out, &mut streams.err)
+}
+
+/// The same of a node that serves its own code.
+fn fetch_page<I, L: Write, O: Write, E: Write>(
+    served: &mut ServedNode<'_, I, L, O, E>,
+    addr: u64,
+    write: bool,
+) -> Result<(), NodeFailure>
+    ensures went { OnOk result (OwnStreams (begun [] served.old.node (L.contents served.old.streams.log)) served.new.node (L.contents served.new.streams.log) []) }
+    ensures none { OnOk result (served.new.answered ≡ served.old.answered) }
+{
+    fetch_at(&mut served.node, &mut served.streams, addr, write)
+}
+
 impl<'a, S, R, C, I, L, O, E> SharedMemory for OwnMemory<'a, S, R, C, I, L, O, E>
 where
     S: Beginning,
@@ -239,6 +270,16 @@ where
                 self.failure = Some(failure);
                 Err(NODE_FAILED)
             }
+        }
+    }
+
+    /// The log has a line for the page, where the node asks for it. What the log says is not asked for again.
+    fn fetch_ahead(&mut self, addr: u64, write: bool) {
+        if self.failure.is_some() || self.place < self.past.entries.len() {
+            return;
+        }
+        if let Err(failure) = fetch_page(&mut self.served, addr, write) {
+            self.failure = Some(failure);
         }
     }
 

@@ -4,9 +4,10 @@ use crate::processes::common::{expect_same, expect_text};
 use crate::processes::joins::{Seen, seen_in};
 use crate::processes::serves::Stopped;
 use example_programs::AddsUp;
+use ivy_calls::{SharedMemory, Work};
 use ivy_join::{Unjoined, join_own};
 use ivy_logs::{LogKind, parse_log};
-use ivy_model::{Config, Kind};
+use ivy_model::{Config, Fault, Kind};
 use ivy_process::{Mail, Node, NodeFailure, NodeLimits, Streams, serve_work};
 use ivy_sync::{Barrier, Lock};
 use std::alloc::Global;
@@ -60,6 +61,42 @@ fn worked<R: Abort + Wait>(
     };
     let worked = serve_work(rt, &Stopped, &past, node, work, streams)?;
     Ok((worked.gave, worked.log))
+}
+
+/// Hints at page 1 twice, and at a page that there is none of.
+struct Hints;
+
+impl Work for Hints {
+    type Out = ();
+
+    ghost done = { λ _ _ _ _. Unit {0} };
+
+    fn work<M: SharedMemory>(&self, _me: u8, memory: &mut M) -> Result<(), Fault> {
+        memory.fetch_ahead(300, false);
+        memory.fetch_ahead(511, true);
+        memory.fetch_ahead(1024, false);
+        Ok(())
+    }
+}
+
+#[test]
+fn a_page_that_is_hinted_at_is_asked_for_once(rt: HostRuntime) {
+    let alloc = rt.alloc();
+    let past = parse_log(alloc, LogKind::OfOwnCode, IDLE).expect(&rt, "a log");
+    past.head.config.check_wide().expect(&rt, "a configuration");
+    assert!(rt; past.head.me < past.head.config.nodes);
+    let inbox = Mail::new(alloc);
+    inbox.end(&rt);
+    let node = Node::open(alloc, &past, LIMITS).expect(&rt, "a node");
+    let streams = Streams {
+        inbox: &inbox,
+        log: Vec::new(alloc),
+        out: Vec::new(alloc),
+        err: Vec::new(alloc),
+    };
+    let worked = serve_work(&rt, &Stopped, &past, node, &Hints, streams).expect(&rt, "done");
+    // The request is not acknowledged when the input has ended, so a pulse makes it again.
+    expect_text(&rt, alloc, &worked.log, "fetch read 1\npulse 0\n");
 }
 
 /// The log of node 0, which adds up alone. It has all pages at first, so each call is answered in its first turn.
