@@ -21,7 +21,8 @@ void ivy_in_send(ivy_process *p, uint8_t *bytes, uint8_t kind, uint32_t to, size
 }
 
 void ivy_in_flush_log(ivy_process *p) {
-  if (!p->log || p->error == IVY_LOG_FULL || (!fflush(p->log) && !ferror(p->log))) return;
+  if (!p->log || p->is_full || (!fflush(p->log) && !ferror(p->log))) return;
+  p->is_full = 1;
   fprintf(stderr, "ivy: node %u: its log takes no more\n", p->me);
   ivy_in_say(p, DEAD, 1u << p->me);
   ivy_in_fail(p, IVY_LOG_FULL);
@@ -48,7 +49,7 @@ static void send_frames(ivy_process *p, int is_new) {
   uint32_t to;
   while (ivy_next_frame(&p->node, ivy_in_room(p) + HEAD, IVY_STRING_MOST - HEAD - TAG, &len, &to) == IVY_DONE) {
     if (p->log) ivy_in_flush_log(p);
-    if (p->error == IVY_LOG_FULL) return;
+    if (p->is_full) return;
     if (to >= p->config.nodes) continue;
     if (is_new) count_sent(p, to);
     else p->counts.again++;
@@ -92,7 +93,7 @@ void ivy_in_send_together(ivy_process *p) {
   uint32_t to, status;
   bundle b = { 0, 0, 0 };
   ivy_in_flush_log(p);
-  if (p->error == IVY_LOG_FULL) return;
+  if (p->is_full) return;
   for (;;) {
     size_t left = b.len < most ? most - b.len : 0;
     status = ivy_next_frame(&p->node, ivy_in_room(p) + HEAD + b.len + LENGTH, left, &len, &to);

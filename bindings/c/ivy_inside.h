@@ -77,14 +77,15 @@ struct ivy_process {
   uint32_t done, known_done; /* who is done; who said that all are */
   int is_done, ending;
   peer peers[MOST_NODES];
-  long death_us;
+  int64_t death_us;
   int64_t now, ticked, spoke; /* the clock, as it was read last; when the runtime looked after its peers, and spoke */
   int64_t active;             /* when a frame was sent or heard last */
   int is_fresh;               /* one was sent since the clock was read last */
 
   FILE *log;
   int owns_log;
-  int has_file;              /* the log is a regular file, which no other node writes */
+  int is_full;               /* it takes no more */
+  int has_file;              /* it is a regular file, which no other node writes */
   ivy_process *next_logging; /* another one in this program of which that is so */
   uint64_t turns;                       /* so many the log has */
   uint64_t delivered[MOST_NODES];       /* where there is a log, so many messages of each node */
@@ -223,6 +224,10 @@ void ivy_in_give_log(ivy_process *p);
 /* ---- ivy_progress.c: time, and who receives --------------------------------------------------------------------------- */
 
 int64_t ivy_in_now(void);
+/* So long after a time, or the last time that there is. */
+static inline int64_t ivy_in_after(int64_t time, int64_t us) { return us > INT64_MAX - time ? INT64_MAX : time + us; }
+/* Microseconds of so many milliseconds, or the most that there are. */
+static inline int64_t ivy_in_us_of(long ms) { return ms > INT64_MAX / 1000 ? INT64_MAX : (int64_t)ms * 1000; }
 /* Hears what came, so many strings at most, waiting so long for the first one; the lock is held, but not while it waits. */
 int ivy_in_serve(ivy_process *p, long wait_us, int most);
 /* Waits until something was heard: one string, since it may be what is waited for. */
@@ -244,6 +249,8 @@ enum { EACH = 64 };
 /* The thread waits for the lock with a string, which a program that makes calls in a row would keep from it. */
 void ivy_in_let_in(ivy_process *p);
 /* Waits for the calls of other threads, and serves where it is time. The first failure, or IVY_DONE. */
+uint32_t ivy_in_wait_for_calls(ivy_process *p);
+/* The same before a call, which counts if it is made. */
 uint32_t ivy_in_enter_slowly(ivy_process *p);
 /* Frees the lock, and tells the program of a failure: it may end here. */
 void ivy_in_leave_failed(ivy_process *p);
@@ -251,7 +258,7 @@ void ivy_in_leave_failed(ivy_process *p);
 static inline uint32_t ivy_in_enter(ivy_process *p) {
   if (__atomic_load_n(&p->knocks, __ATOMIC_RELAXED)) ivy_in_let_in(p);
   ivy_in_lock(p);
-  if (p->in_call || p->error || ++p->counts.calls % EACH == 0) return ivy_in_enter_slowly(p);
+  if (++p->counts.calls % EACH == 0 || p->in_call || p->error) return ivy_in_enter_slowly(p);
   return IVY_DONE;
 }
 /* The only thread of a program may make calls without the lock, until it is time to serve, where nothing else is to be done. */
@@ -280,7 +287,7 @@ uint32_t ivy_in_call(ivy_process *p, const call *c, uint64_t *value);
 /* A call that waited is over. */
 void ivy_in_end_call(ivy_process *p);
 /* Whether the run is over, and calls in progress get no reply. */
-static inline int ivy_in_is_over(const ivy_process *p) { return p->dead || p->error == IVY_LOG_FULL; }
+static inline int ivy_in_is_over(const ivy_process *p) { return p->dead || p->is_full; }
 
 /* ---- ivy_start.c -------------------------------------------------------------------------------------------------------- */
 
@@ -317,8 +324,8 @@ void ivy_in_map_end(ivy_process *p);
 
 /* ---- ivy_udp.c -------------------------------------------------------------------------------------------------------- */
 
-/* The `room` of a transport whose strings may have LONG_MOST bytes. */
-uint8_t *ivy_in_long_room(void *state);
+/* Whether its strings may have LONG_MOST bytes: not those of a transport that hands them on to this one. */
+int ivy_in_takes_two(const ivy_transport *transport);
 
 /* ---- ivy_key.c -------------------------------------------------------------------------------------------------------- */
 

@@ -496,7 +496,7 @@ static void ask(ivy_process *p, uint32_t page, uint32_t to, int brings, uint32_t
     if (is_gone) return;
     if (!p->shared && (map->pages[page].shown || !map->room)) show(p, page, to); /* nobody can look before it is here */
     ivy_in_wait(p);
-    if (p->in_call) ivy_in_enter_slowly(p); /* the call of another thread */
+    if (p->in_call) ivy_in_wait_for_calls(p); /* of another thread */
   }
 }
 

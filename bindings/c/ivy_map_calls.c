@@ -193,6 +193,7 @@ static void *allocate(ivy_process *p, size_t bytes, size_t alignment) {
 void *ivy_map_malloc(ivy_process *p, size_t bytes) { return allocate(p, bytes ? bytes : 1, 16); }
 
 void *ivy_map_malloc_pages(ivy_process *p, size_t bytes) {
+  if (bytes > SIZE_MAX - MAP_PAGE) return NULL;
   return allocate(p, (bytes ? (bytes + MAP_PAGE - 1) / MAP_PAGE : 1) * MAP_PAGE, MAP_PAGE);
 }
 

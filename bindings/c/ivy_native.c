@@ -70,9 +70,10 @@ uint64_t ivy_calloc(ivy_process *process, uint64_t bytes) {
   return address;
 }
 
-/* Where the block begins stands before the address. */
+/* Where the block begins stands before the address. For what no number says there is no room either. */
 uint64_t ivy_alloc_aligned(ivy_process *process, uint64_t bytes, uint64_t alignment) {
-  uint64_t block = ivy_alloc(process, bytes + alignment + WORD);
+  uint64_t more = alignment + WORD;
+  uint64_t block = ivy_alloc(process, bytes > UINT64_MAX - more ? UINT64_MAX : bytes + more);
   if (!block) return 0;
   uint64_t address = (block + WORD + alignment - 1) & ~(alignment - 1);
   ivy_store(process, WORD, address - WORD, block);

@@ -242,10 +242,16 @@ void ivy_in_let_in(ivy_process *p) {
   for (int i = 0; i < LETS && __atomic_load_n(&p->knocks, __ATOMIC_RELAXED); i++) sched_yield();
 }
 
-uint32_t ivy_in_enter_slowly(ivy_process *p) {
+uint32_t ivy_in_wait_for_calls(ivy_process *p) {
   while (p->in_call && !p->error) sleep_on(p, 0);
   if (p->error) return p->error;
   p->served++;
   if (!p->receiving && ivy_in_now() - p->now >= BETWEEN_US) serve(p, 0, MANY, 0);
   return p->error;
+}
+
+uint32_t ivy_in_enter_slowly(ivy_process *p) {
+  uint32_t status = ivy_in_wait_for_calls(p);
+  p->counts.calls -= status != IVY_DONE;
+  return status;
 }

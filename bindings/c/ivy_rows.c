@@ -96,6 +96,7 @@ static uint32_t go_on(ivy_process *p, row *r) {
   if (r->done == before) {
     if (r->next <= page) fetch_behind(p, r, page);
     go_on_together(p, r);
+    if (r->done == before && ivy_in_is_over(p)) return p->error;
     if (r->done == before && (status = go_on_by_call(p, r)) == IVY_DONE) go_on_at_once(p, r);
   }
   if (r->next) fetch_behind(p, r, page);

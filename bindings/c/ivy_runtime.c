@@ -109,7 +109,7 @@ ivy_counts ivy_counts_of(ivy_process *p) {
 
 /* Waits until all others are in one run with this process, and know it. */
 static uint32_t meet(ivy_process *p, long start_ms) {
-  int64_t last = ivy_in_now() + start_ms * 1000;
+  int64_t last = ivy_in_after(ivy_in_now(), ivy_in_us_of(start_ms));
   while ((p->known_here != p->all || p->here != p->all) && !p->differs && !p->is_refused && !p->error && p->now <= last)
     ivy_in_serve(p, LISTEN_US, MANY);
   for (int i = 0; i < REPEATS && !p->is_refused; i++) ivy_in_speak(p);
@@ -150,7 +150,7 @@ static uint32_t set_up(ivy_process *p, const ivy_start *start) {
   if (status != IVY_DONE) return status;
   p->config = start->config;
   p->transport = start->transport;
-  p->together = p->transport.room == ivy_in_long_room ? (size_t)LONG_MOST : (size_t)SHORT_MOST;
+  p->together = ivy_in_takes_two(&p->transport) ? (size_t)LONG_MOST : (size_t)SHORT_MOST;
   p->me = start->me;
   p->progress = start->progress;
   if (p->progress == IVY_BY_THREAD && p->transport.close == ivy_in_for_one_thread) {
@@ -159,7 +159,7 @@ static uint32_t set_up(ivy_process *p, const ivy_start *start) {
   }
   p->all = start->alone ? 1u << p->me : nodes == 32 ? 0xffffffffu : (1u << nodes) - 1u;
   p->here = p->known_here = p->done = p->known_done = 1u << p->me;
-  p->death_us = start->death_ms * 1000;
+  p->death_us = ivy_in_us_of(start->death_ms);
   ivy_in_log_begin(p);
   return ivy_in_draw(p) ? IVY_DONE : IVY_MEMORY;
 }
@@ -332,7 +332,7 @@ uint32_t ivy_call(ivy_process *p, uint32_t kind, uint32_t width, uint64_t place,
 
 uint32_t ivy_progress_now(ivy_process *p) {
   uint32_t status = ivy_in_enter(p);
-  p->counts.calls--;
+  p->counts.calls -= status == IVY_DONE;
   if (status == IVY_DONE && !p->receiving) ivy_in_serve(p, 0, MANY);
   status = p->error;
   ivy_in_leave(p);
@@ -369,7 +369,7 @@ static void rest(ivy_process *p, uint32_t changes, int64_t until) {
 /* Looks by a call, with rests, until its value compares so, or a time is over. */
 static uint32_t look_until(ivy_process *p, const call *c, ivy_comparison comparison, uint64_t number, long wait_us,
                            uint64_t *value) {
-  int64_t until = ivy_in_now() + wait_us;
+  int64_t until = ivy_in_after(ivy_in_now(), wait_us);
   for (;;) {
     uint32_t changes = changes_of(p);
     uint32_t status = ivy_call(p, c->kind, c->width, c->place, 0, 0, value);

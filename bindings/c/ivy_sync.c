@@ -26,7 +26,7 @@ int ivy_lock_try(ivy_process *process, ivy_lock lock) {
 }
 
 /* When a time is over; 0 where it has no end. */
-static int64_t end_of(long wait_us) { return wait_us < 0 ? 0 : ivy_in_now() + wait_us; }
+static int64_t end_of(long wait_us) { return wait_us < 0 ? 0 : ivy_in_after(ivy_in_now(), wait_us); }
 
 /* What is left of it. */
 static long left_until(int64_t end) {

@@ -47,7 +47,7 @@ static void put(udp *u, uint32_t to, const uint8_t *bytes, size_t len) {
   (void)sent; /* what is not sent is lost */
 }
 
-uint8_t *ivy_in_long_room(void *state) {
+static uint8_t *udp_room(void *state) {
   udp *u = (udp *)state;
   return u->sent;
 }
@@ -134,9 +134,11 @@ static uint32_t port_of(const place *it) {
   return ntohs(it->any.sa_family == AF_INET6 ? it->v6.sin6_port : it->v4.sin_port);
 }
 
+int ivy_in_takes_two(const ivy_transport *transport) { return transport->room == udp_room && transport->send == udp_send; }
+
 /* A transport between these places, which takes over `u`: it listens at its own, or at another one. */
 static uint32_t open_among(udp *u, uint32_t me, const place *own, ivy_transport *transport) {
-  const ivy_transport opened = { u, ivy_in_long_room, udp_send, udp_receive, udp_close };
+  const ivy_transport opened = { u, udp_room, udp_send, udp_receive, udp_close };
   u->seed = 88172645463325252ull + me * 2654435761ull;
   if (!open_socket(u, own)) {
     fprintf(stderr, "ivy: udp: port %u: %s\n", port_of(own), strerror(errno));

@@ -55,6 +55,9 @@ static void be_refused(ivy_process *ivy, uint32_t me) {
   should_be("a call after that", ivy_call(ivy, IVY_LOAD, 8, PAGE, 0, 0, &value), IVY_MISALIGNED);
   should_be("a read after that", ivy_read(ivy, PAGE, &value, 8), IVY_MISALIGNED);
   should_be("an await after that", ivy_await(ivy, 0, 1000), 0);
+  for (int i = 0; i < 1000; i++) ivy_progress_now(ivy);
+  const ivy_counts counts = ivy_counts_of(ivy);
+  should_be("whether more calls hit than were made", counts.hits > counts.calls, 0);
   should_be("what is forgotten", ivy_forget(ivy), IVY_MISALIGNED);
   should_be("a load then", ivy_load(ivy, 8, PAGE + 8 * me), 5);
   should_be("what an alloc without room gives", ivy_alloc(ivy, 1 << 20), 0);
@@ -85,13 +88,40 @@ static void outlive(ivy_process *ivy, uint32_t me) {
   should_be("who died", who_died, 1);
 }
 
+static void serve_for(ivy_process *ivy, int milliseconds) {
+  const struct timespec one = { 0, 1000000 };
+  for (int i = 0; i < milliseconds; i++) {
+    nanosleep(&one, NULL);
+    ivy_progress_now(ivy);
+  }
+}
+
+/* It has the page, and hears nobody any more. */
+static void die_later(ivy_process *ivy, uint32_t me) {
+  ivy_fetch_add(ivy, 8, PAGE, 1);
+  ivy_advance(ivy, 4);
+  serve_for(ivy, DEATH_MS / 3);
+  channel_cut(me);
+  ivy_await(ivy, 5, 1);
+}
+
+static int writes;
+static void wait_in_row(ivy_process *ivy, uint32_t me) {
+  uint8_t bytes[64] = { 0 };
+  (void)me;
+  ivy_await(ivy, 4, 1);
+  serve_for(ivy, 2 * DEATH_MS / 3);
+  if (writes) should_be("a write where its page is with who is dead", ivy_write(ivy, PAGE, bytes, sizeof bytes), IVY_PEER_DEAD);
+  else should_be("a read where its page is with who is dead", ivy_read(ivy, PAGE, bytes, sizeof bytes), IVY_PEER_DEAD);
+}
+
 /* One node of two dies. */
-static void lose_one(ivy_progress progress) {
+static void lose_one(ivy_progress progress, void (*lives)(ivy_process *, uint32_t), void (*dies)(ivy_process *, uint32_t)) {
   channel_node nodes[2];
   memset(nodes, 0, sizeof nodes);
   deaths = 0;
   for (uint32_t i = 0; i < 2; i++) {
-    const channel_node it = { i, 2, progress, DEATH_MS, i ? die : outlive, IVY_PEER_DEAD, nodes[i].thread, channel_open(i) };
+    const channel_node it = { i, 2, progress, DEATH_MS, i ? dies : lives, IVY_PEER_DEAD, nodes[i].thread, channel_open(i) };
     nodes[i] = it;
   }
   for (int i = 0; i < 2; i++) pthread_create(&nodes[i].thread, NULL, channel_run, &nodes[i]);
@@ -102,7 +132,8 @@ int main(int argc, char **argv) {
   fail_to_start(argc > 1 ? (uint32_t)atoi(argv[1]) : 9000);
   for (int progress = IVY_IN_CALLS; progress <= IVY_BY_THREAD; progress++) {
     channel_run_two((ivy_progress)progress, 2000, be_refused, be_refused);
-    lose_one((ivy_progress)progress);
+    lose_one((ivy_progress)progress, outlive, die);
+    for (writes = 0; writes < 2; writes++) lose_one((ivy_progress)progress, wait_in_row, die_later);
   }
   puts("done");
   return 0;

@@ -21,6 +21,7 @@ static void words(volatile uint8_t *area) {
     must("compare and swap", ivy_compare_and_swap(ivy, 4, at + 4, 0x05060708u, 0x11223344u), 0x05060708u);
     must("compare and swap of another", ivy_compare_and_swap(ivy, 4, at + 4, 0x05060708u, 9), 0x11223344u);
     must("fetch and add", ivy_fetch_add(ivy, 1, at + 3, 0xff), 4);
+    must("pages for which there is no number", ivy_map_malloc_pages(ivy, SIZE_MAX - 1) == NULL, 1);
     must("a misaligned word", ivy_call(ivy, IVY_LOAD, 4, at + 2, 0, 0, &seen), IVY_MISALIGNED);
     must("a width of 3", ivy_call(ivy, IVY_LOAD, 3, at, 0, 0, &seen), IVY_BAD_ARGUMENT);
   }

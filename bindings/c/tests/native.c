@@ -89,6 +89,10 @@ static void allocate(example *e) {
   uint64_t page = ivy_alloc_aligned(e->ivy, PAGE, PAGE);
   expect(e, "a block of a page", page % PAGE, 0);
   ivy_free_aligned(e->ivy, page);
+  ivy_exit_on_error(e->ivy, 0);
+  expect(e, "a block for which there is no number", ivy_alloc_aligned(e->ivy, UINT64_MAX - PAGE + 1, PAGE), 0);
+  expect(e, "what is forgotten", ivy_forget(e->ivy), IVY_NO_ROOM);
+  ivy_exit_on_error(e->ivy, 1);
   ivy_free(e->ivy, again);
   ivy_counts counts = ivy_counts_of(e->ivy);
   expect(e, "whether calls waited", counts.waits > 0 && counts.calls >= counts.waits && counts.sent && counts.heard, 1);

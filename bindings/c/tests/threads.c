@@ -1,5 +1,6 @@
-/* Threads of a program that share a process: each adds, one awaits what another one advances, and waits for a time. */
+/* Threads of a program that share a process: each adds, one awaits what another one advances, and waits for a time; all calls count. */
 #include "channel.h"
+#include <limits.h>
 
 enum { PAGE = CHANNEL_PAGE, THREADS = 4, EACH = 200, ROUNDS = 50, SHORT_US = 2000 };
 enum { MET = 0, THERE = 1, BACK = 2, NEVER = 3 };
@@ -24,7 +25,8 @@ static void exchange(ivy_process *ivy) {
   pthread_create(&other, NULL, answer, ivy);
   for (uint64_t i = 1; i <= ROUNDS; i++) {
     ivy_advance(ivy, THERE);
-    should_be("what is waited for", ivy_await(ivy, BACK, i) >= i, 1);
+    if (i % 2) should_be("an await for the longest time", ivy_await_for(ivy, BACK, i, LONG_MAX, &found), IVY_DONE);
+    else should_be("what is waited for", ivy_await(ivy, BACK, i) >= i, 1);
   }
   pthread_join(other, NULL);
   should_be("an await for a time", ivy_await_for(ivy, NEVER, 1, SHORT_US, &found), IVY_TIMEOUT);
@@ -39,6 +41,7 @@ static void work(ivy_process *ivy, uint32_t me) {
   for (int i = 0; i < THREADS; i++) pthread_create(&threads[i], NULL, add, ivy);
   if (me == 0) exchange(ivy);
   for (int i = 0; i < THREADS; i++) pthread_join(threads[i], NULL);
+  should_be("whether all calls were counted", ivy_counts_of(ivy).calls >= THREADS * EACH, 1);
   ivy_advance(ivy, MET);
   ivy_await(ivy, MET, 2);
   should_be("the sum", ivy_load(ivy, 8, PAGE), 2 * THREADS * EACH);
@@ -47,7 +50,7 @@ static void work(ivy_process *ivy, uint32_t me) {
 
 int main(void) {
   for (int progress = IVY_IN_CALLS; progress <= IVY_BY_THREAD; progress++)
-    channel_run_two((ivy_progress)progress, 10000, work, work);
+    channel_run_two((ivy_progress)progress, LONG_MAX, work, work);
   puts("done");
   return 0;
 }
