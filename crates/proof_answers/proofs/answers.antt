@@ -4,6 +4,8 @@ pub mod Acknowledged
 pub mod Pulsed
 pub mod Unhanded
 pub mod Later
+pub mod Descents
+pub mod Measures
 pub mod Apart
 pub mod Weights
 pub mod MessageWeights
@@ -14,6 +16,7 @@ pub mod Falling
 pub mod Coming
 pub mod Counts
 pub mod WorkMost
+pub mod Rounds
 pub mod Answering
 pub mod Unlocked
 pub mod Freeing

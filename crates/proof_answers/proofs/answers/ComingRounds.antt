@@ -1,13 +1,11 @@
 -- In so many rounds of a node whose call is due some history grows, or a page comes that was
 -- fetched.
-use Rattle.std.proofs.Common.{◌≡◌, ◌≤◌, ◌<◌, ◌+◌, ◌*◌, ◌⊎◌, ℕ, zero, suc, List, [], ◌∷◌, ◌++◌, length, slice_get, Option, Some, None, refl, sym, ap, ◌∙◌, subst, arith, inl, inr, mul-le-mul_left}
+use Rattle.std.proofs.Common.{◌≡◌, ◌⊎◌, ℕ, List, [], ◌∷◌, ◌++◌, length, slice_get, Some, refl, sym, ap, ◌∙◌, subst, arith, inl, inr}
 use Rattle.std.specs.List.{Contains}
 use Rattle.std.proofs.lemmas.Bool.{both_ways}
-use Rattle.std.proofs.lemmas.List.{length-append}
 use Rattle.std.proofs.lemmas.Option.{same_Some}
 use Rattle.ivy_model.specs.declared.Config.{Config}
 use Rattle.ivy_model.specs.stated.Config.{IsConfig}
-use Rattle.ivy_model.specs.declared.Call.{Call}
 use Rattle.ivy_model.specs.declared.Record.{Record}
 use Rattle.ivy_wire.specs.stated.Data.{Message, Parcel}
 use Rattle.ivy_pagetable.specs.stated.Entries.{is_locked}
@@ -35,48 +33,43 @@ use Rattle.ivy_host.specs.stated.Sound.{IsSoundHost}
 use Rattle.proof_worlds.specs.progress.Answering.{AreAllDelivered}
 use Rattle.proof_worlds.specs.stated.FifoRuns.{FollowsInOrder}
 use Rattle.proof_worlds.specs.stated.Nets.{entry_of}
-use Rattle.proof_worlds.specs.stated.Still.{HasNothingUnderWay}
 use Rattle.proof_worlds.specs.stated.Unblocked.{Stands, waits, replied, reached, tried, AreUnblocked}
 use Rattle.proof_worlds.proofs.consistency.Faithful.{map-places}
-use Rattle.proof_worlds.proofs.progress.Ending.{way_most}
-use Rattle.proof_worlds.proofs.progress.Lowering.{work, way}
-use Rattle.proof_worlds.proofs.progress.Reached.{IsToldBy, reached_told}
-use Rattle.proof_worlds.proofs.progress.StillWorlds.{none_under_way, either_unblocked}
+use Rattle.proof_worlds.proofs.progress.Reached.{IsToldBy}
+use Rattle.proof_worlds.proofs.progress.StillWorlds.{either_unblocked}
 use Rattle.proof_worlds.proofs.refinement.FifoRuns.{led_in_order}
 use Rattle.proof_worlds.proofs.refinement.HostTurns.{turn_cases}
-use Rattle.proof_answers.specs.answers.Answered.{IsDue, IsSomeAnswered}
+use Rattle.proof_answers.specs.answers.Answered.{IsDue}
 use Rattle.proof_answers.specs.answers.Came.{IsSomeCome, IsComeAmong, HasCome, come_work, come_rounds, SomeAnsweredOrCome}
 use Rattle.proof_answers.specs.answers.NodeRounds.{IsRound, AreRounds}
-use Rattle.proof_answers.proofs.answers.Answering.{nothing}
 use Rattle.proof_answers.proofs.answers.Apart.{turn_leads}
 use Rattle.proof_answers.proofs.answers.ComeMost.{total_few}
-use Rattle.proof_answers.proofs.answers.Coming.{total, HasLonger, longer_later, longer_on, Sinks, MovesOn, lengthened, sank, Rested, Next, next_none, next_then, moves_then, then_moves, next_step}
-use Rattle.proof_answers.proofs.answers.Coming.{HasCome as HasComeInOrder}
+use Rattle.proof_answers.proofs.answers.Coming.{HasCome as HasComeInOrder, IsAlike, coming, next_step}
 use Rattle.proof_answers.proofs.answers.Counts.{due_later, no_answer_due}
 use Rattle.proof_answers.proofs.answers.Freeing.{AreFreed, freed_none, freed_then, come_then, then_come, delivery_frees, move_frees}
-use Rattle.proof_answers.proofs.answers.Later.{AreLater, all_later, all_then, IsLaterAt}
+use Rattle.proof_answers.proofs.answers.Later.{AreLater}
+use Rattle.proof_answers.proofs.answers.Measures.{record_longer, Progress, Stood, After, after_none, after_then, three_progress}
+use Rattle.proof_answers.proofs.answers.Rounds.{Rounded, Grown, IsDueAt, answers_some, delivered_before, rounds_do}
 use Rattle.proof_answers.proofs.answers.Turning.{TurnDoes, records, goes, takes, begins, for_nothing, for_page, turn_does}
 use Rattle.proof_answers.proofs.answers.Unlocked.{either_unlocked}
-use Rattle.proof_answers.proofs.answers.Weights.{cost, open_weight, side_weight}
+use Rattle.proof_answers.proofs.answers.Weights.{open_weight, side_weight}
+use Rattle.proof_answers.proofs.fairness.Leading.{told_of}
 
 -- A turn that leaves the node's memory and history posts nothing.
-still_turn : (c : Config) (n : Host Managed) (out : Outcome (Host Managed)) (called : Call)
-    → TurnDoes n out c → n.memory.asked ≡ Some called → out.after.memory ≡ n.memory
-    → out.after.history ≡ n.history → out.posted ≡ []
-still_turn c n out called (records r is) asked same history =
-    absurd (let a : length out.after.history ≡ length n.history + 1 =
-    ap length is ∙ length-append n.history (r ∷ []) in
+still_turn : (c : Config) (n : Host Managed) (out : Outcome (Host Managed)) → TurnDoes n out c
+    → out.after.memory ≡ n.memory → out.after.history ≡ n.history → out.posted ≡ []
+still_turn c n out (records r is) same history =
+    absurd (let a = record_longer n out.after r is in
     let b = ap length history in
     omega (arith, a, b))
-still_turn c n out called (goes idle none memory is weight) asked same history = none
-still_turn c n out called (takes used low stays (for_nothing none memory)) asked same history = none
-still_turn c n out called (takes used low stays (for_page p inside elsewhere puts less)) asked same
-    history =
+still_turn c n out (goes idle none memory is weight) same history = none
+still_turn c n out (takes used low stays (for_nothing none memory)) same history = none
+still_turn c n out (takes used low stays (for_page p inside elsewhere puts less)) same history =
     absurd (let a : side_weight out.after ≡ side_weight n =
     ap (λ (z : NodeMemory Managed). side_weight (record n { memory = z })) same in
     let b = ap (λ (z : NodeMemory Managed). open_weight (entry_at z.coherence.table p)) same in
     omega (arith, a, b, less))
-still_turn c n out called (begins p inside is calls elsewhere puts less lower) asked same history =
+still_turn c n out (begins p inside is calls elsewhere puts less lower) same history =
     absurd (let a : side_weight out.after ≡ side_weight n =
     ap (λ (z : NodeMemory Managed). side_weight (record n { memory = z })) same in
     let b = ap (λ (z : NodeMemory Managed). open_weight (entry_at z.coherence.table p)) same in
@@ -128,7 +121,7 @@ module _ (opened : Opening) (c : Config) (limits : IsConfig c) (programs : List 
   -- a world that was led to from one that followed this, while no page came
   record Led (o : FifoWorld (Host Managed)) (v : World (Host Managed)) : Type 0 where
     follows : Follower v
-    next : Next c o (order_of v follows)
+    next : After (coming c) o (order_of v follows)
 
   -- a page that came in the FIFO world
   some_come : (w v : World (Host Managed)) (posted posted' : ℕ → ℕ → List Message)
@@ -166,7 +159,7 @@ module _ (opened : Opening) (c : Config) (limits : IsConfig c) (programs : List 
                   reached =
                       (order_of w a.follows ∷ a.follows.reached.0, (a.follows.reached.1, next.2));
                 };
-                next = next_then c o (order_of w a.follows) (fifo_of v next.0) a.next on;
+                next = after_then (coming c) o (order_of w a.follows) (fifo_of v next.0) a.next on;
               })
         ]
 
@@ -254,36 +247,29 @@ module _ (opened : Opening) (c : Config) (limits : IsConfig c) (programs : List 
         ]
 
   led_first : (w : World (Host Managed)) (f : Follower w) → Led (order_of w f) w
-  led_first w f = record { follows = f; next = next_none c (order_of w f) }
+  led_first w f = record { follows = f; next = after_none (coming c) (order_of w f) }
 
   -- One round of a node whose call is due.
   module _ (i : ℕ) (w end : World (Host Managed)) (f : Follower w) (n : Node (Host Managed))
-      (there : slice_get w.nodes i ≡ Some n) (called : Call)
-      (asked : n.core.memory.asked ≡ Some called) (due : IsDue w n.core.memory.asked)
+      (there : slice_get w.nodes i ≡ Some n) (due : IsDue w n.core.memory.asked)
       (round : IsRound c i w end) where
-    told : IsToldBy (managed_start opened).sends_on managed_ops c (order_of w f)
-    told =
-        reached_told managed_ops managed_laws (managed_start opened) c limits
-        (managed_new opened c limits) programs many (order_of w f) f.reached
-
     module _ (u v : World (Host Managed)) (first : Led (order_of w f) u)
         (turn : Moves (host_rules managed_ops) c u (Turn i) v)
         (second : Led (order_of u first.follows) v)
         (rest : Led (order_of v second.follows) end) where
       -- they did not all rest
-      module _ (a : Rested c (order_of w f) (order_of u first.follows))
-          (b : Rested c (order_of u first.follows) (order_of v second.follows))
-          (d : Rested c (order_of v second.follows) (order_of end rest.follows)) where
-        none : HasNothingUnderWay w
+      module _ (a : Stood (coming c) (order_of w f) (order_of u first.follows))
+          (b : Stood (coming c) (order_of u first.follows) (order_of v second.follows))
+          (d : Stood (coming c) (order_of v second.follows) (order_of end rest.follows)) where
+        none : AreAllDelivered (order_of w f)
         none =
-            nothing opened c limits programs many i w end f n there called asked due round
-            rest.follows (d.delivered ∙ b.delivered ∙ a.delivered)
+            delivered_before opened c limits programs many i w end f round rest.follows
+            (d.delivered ∙ b.delivered ∙ a.delivered)
 
         -- nor is there something under way before the turn
         all : AreAllDelivered (order_of u first.follows)
         all x y =
-            (let was = none_under_way managed_ops (managed_start opened) c programs w f
-            told.faithful.sound none x y in
+            (let was = none x y in
             let p = ap (λ (g : ℕ → ℕ → List Message). length (g x y)) a.posted in
             let q = ap (λ (g : ℕ → ℕ → ℕ). g x y) a.delivered in
             omega (arith, was, p, q))
@@ -291,23 +277,18 @@ module _ (opened : Opening) (c : Config) (limits : IsConfig c) (programs : List 
         told_there : IsToldBy (managed_start opened).sends_on managed_ops c
             (order_of u first.follows)
         told_there =
-            reached_told managed_ops managed_laws (managed_start opened) c limits
-            (managed_new opened c limits) programs many (order_of u first.follows)
-            first.follows.reached
+            told_of opened c limits programs many (order_of u first.follows) first.follows.reached
 
         before : (m : Host Managed) × (slice_get (order_of u first.follows).cores i ≡ Some m)
-            × (m.memory ≡ n.core.memory) × (m.history ≡ n.core.history)
-        before = a.same i n.core (core_of w.nodes i n there)
+            × IsAlike n.core m
+        before = a.kept i n.core (core_of w.nodes i n there)
 
         abbrev h : Host Managed
         h = before.0
 
-        asked_there : h.memory.asked ≡ Some called
-        asked_there = ap (λ (m : NodeMemory Managed). m.asked) before.2 ∙ asked
-
         due_there : IsDue u h.memory.asked
         due_there =
-            subst (IsDue u) (sym (ap (λ (m : NodeMemory Managed). m.asked) before.2))
+            subst (IsDue u) (sym (ap (λ (m : NodeMemory Managed). m.asked) before.2.0))
             (due_later opened c limits programs w f u first.follows first.next.later
             n.core.memory.asked due)
 
@@ -332,21 +313,20 @@ module _ (opened : Opening) (c : Config) (limits : IsConfig c) (programs : List 
           at_v =
               turn_leads c u v i at_u.0 at_u.1 out (ap (turn_of managed_ops) at_u.2 ∙ turned) turn
 
-          same : (out.after.memory ≡ h.memory) × (out.after.history ≡ h.history)
+          same : IsAlike h out.after
           same =
-              let now = b.same i h before.1 in
+              let now = b.kept i h before.1 in
               let is : now.0 ≡ out.after =
               same_Some now.0 out.after
               (sym now.1 ∙ core_of v.nodes i at_v.0 at_v.1 ∙ ap Some at_v.2)
               in (
-                ap (λ (z : Host Managed). z.memory) (sym is) ∙ now.2,
-                ap (λ (z : Host Managed). z.history) (sym is) ∙ now.3,
+                ap (λ (z : Host Managed). z.memory) (sym is) ∙ now.2.0,
+                ap (λ (z : Host Managed). z.history) (sym is) ∙ now.2.1,
               )
 
           not_longer : (r : Record) → out.after.history ≡ h.history ++ r ∷ [] → ⊥
           not_longer r is =
-              let x : length out.after.history ≡ length h.history + 1 =
-              ap length is ∙ length-append h.history (r ∷ []) in
+              let x = record_longer h out.after r is in
               let y = ap length same.1 in
               omega (arith, x, y)
 
@@ -354,9 +334,9 @@ module _ (opened : Opening) (c : Config) (limits : IsConfig c) (programs : List 
           not_posting p is =
               let x : length out.posted ≡ 1 = ap length is in
               let y : length out.posted ≡ 0 =
-              ap length (still_turn c h out called
+              ap length (still_turn c h out
               (turn_does managed_ops c limits i h sound (told_there.servable i h before.1) out
-              (turn_cases managed_ops c i h sound out turned) turned) asked_there same.0 same.1) in
+              (turn_cases managed_ops c i h sound out turned) turned) same.0 same.1) in
               omega (arith, x, y)
 
           not_waiting : (page : ℕ) → out.after.memory.coherence.locked ≡ Some page → ⊥
@@ -388,59 +368,21 @@ module _ (opened : Opening) (c : Config) (limits : IsConfig c) (programs : List 
             by_stand x (tried other page w is of handed (inr next) part) =
                 not_waiting next.0 next.1 page next.2
 
-      moves_on : MovesOn c (order_of w f) (order_of end rest.follows)
-      moves_on = by_first first.next.comes
-        where
-          later_rest : Next c (order_of u first.follows) (order_of end rest.follows)
-          later_rest =
-              next_then c (order_of u first.follows) (order_of v second.follows)
-              (order_of end rest.follows) second.next rest.next
-
-          until_turn : Next c (order_of w f) (order_of v second.follows)
-          until_turn =
-              next_then c (order_of w f) (order_of u first.follows)
-              (order_of v second.follows) first.next second.next
-
-          by_rest : Rested c (order_of w f) (order_of u first.follows)
-              → Rested c (order_of u first.follows) (order_of v second.follows)
-              → MovesOn c (order_of v second.follows) (order_of end rest.follows)
-              ⊎ Rested c (order_of v second.follows) (order_of end rest.follows)
-              → MovesOn c (order_of w f) (order_of end rest.follows)
-          by_rest a b (inl p) =
-              then_moves c (order_of w f) (order_of v second.follows)
-              (order_of end rest.follows) until_turn p rest.next.later
-          by_rest a b (inr d) = absurd (all_rested a b d)
-
-          by_turn : Rested c (order_of w f) (order_of u first.follows)
-              → MovesOn c (order_of u first.follows) (order_of v second.follows)
-              ⊎ Rested c (order_of u first.follows) (order_of v second.follows)
-              → MovesOn c (order_of w f) (order_of end rest.follows)
-          by_turn a (inl p) =
-              then_moves c (order_of w f) (order_of u first.follows)
-              (order_of end rest.follows) first.next
-              (moves_then c (order_of u first.follows) (order_of v second.follows)
-              (order_of end rest.follows) second.next.later p rest.next)
-              later_rest.later
-          by_turn a (inr b) = by_rest a b rest.next.comes
-
-          by_first : MovesOn c (order_of w f) (order_of u first.follows)
-              ⊎ Rested c (order_of w f) (order_of u first.follows)
-              → MovesOn c (order_of w f) (order_of end rest.follows)
-          by_first (inl p) =
-              moves_then c (order_of w f) (order_of u first.follows)
-              (order_of end rest.follows) first.next.later p later_rest
-          by_first (inr a) = by_turn a second.next.comes
+      moves_on : AreLater (order_of w f) (order_of end rest.follows)
+          × Progress (coming c) (order_of w f) (order_of end rest.follows)
+      moves_on =
+          three_progress (coming c) (order_of w f) (order_of u first.follows)
+          (order_of v second.follows) (order_of end rest.follows) first.next second.next rest.next
+          all_rested
 
     -- what a round leads to where no page comes
-    record Rounded : Type 0 where
-      follows : Follower end
-      later : AreLater (order_of w f) (order_of end follows)
-      on : MovesOn c (order_of w f) (order_of end follows)
+    abbrev Onward : Type 0
+    Onward = Rounded opened c limits programs many (coming c) w f end
 
     abbrev moves : List Move
     moves = round.before ++ Turn i ∷ round.after
 
-    round_leads : IsComeAmong c w moves end round.led ⊎ Rounded
+    round_leads : IsComeAmong c w moves end round.led ⊎ Onward
     round_leads =
         by_first (led_among (order_of w f) w parts.mid round.before (led_first w f) parts.before)
       where
@@ -451,23 +393,16 @@ module _ (opened : Opening) (c : Config) (limits : IsConfig c) (programs : List 
             (second : Led (order_of parts.mid first.follows) parts.after.0)
             → IsComeAmong c parts.after.0 round.after end parts.after.2
             ⊎ Led (order_of parts.after.0 second.follows) end
-            → IsComeAmong c w moves end round.led ⊎ Rounded
+            → IsComeAmong c w moves end round.led ⊎ Onward
         by_rest first second (inl came) = inl (parts.comes_after (inr came))
-        by_rest first second (inr rest) = inr (record {
-          follows = rest.follows;
-          later =
-              all_then (order_of w f) (order_of parts.after.0 second.follows)
-              (order_of end rest.follows)
-              (all_then (order_of w f) (order_of parts.mid first.follows)
-              (order_of parts.after.0 second.follows) first.next.later second.next.later)
-              rest.next.later;
-          on = moves_on parts.mid parts.after.0 first parts.after.1 second rest;
-        })
+        by_rest first second (inr rest) =
+            inr (let on = moves_on parts.mid parts.after.0 first parts.after.1 second rest in
+            record { follows = rest.follows; later = on.0; progress = on.1 })
 
         by_turn : (first : Led (order_of w f) parts.mid)
             → IsSomeCome parts.mid parts.after.0
             ⊎ Led (order_of parts.mid first.follows) parts.after.0
-            → IsComeAmong c w moves end round.led ⊎ Rounded
+            → IsComeAmong c w moves end round.led ⊎ Onward
         by_turn first (inl came) = inl (parts.comes_after (inl came))
         by_turn first (inr second) =
             by_rest first second
@@ -476,208 +411,32 @@ module _ (opened : Opening) (c : Config) (limits : IsConfig c) (programs : List 
 
         by_first : IsComeAmong c w round.before parts.mid parts.before
             ⊎ Led (order_of w f) parts.mid
-            → IsComeAmong c w moves end round.led ⊎ Rounded
+            → IsComeAmong c w moves end round.led ⊎ Onward
         by_first (inl came) = inl (parts.comes_before came)
         by_first (inr first) =
             by_turn first
             (led_move (order_of parts.mid first.follows) parts.mid parts.after.0 (Turn i)
             (led_first parts.mid first.follows) parts.after.1)
 
-  -- more rounds only let histories grow
-  record Onward (w : World (Host Managed)) (f : Follower w) (end : World (Host Managed)) : Type 0
-    where
-      follows : Follower end
-      later : AreLater (order_of w f) (order_of end follows)
-
-  rounds_later : (i k : ℕ) (w end : World (Host Managed)) (f : Follower w)
-      → (are : AreRounds c i k w end) → HasCome c i k w end are ⊎ Onward w f end
-  rounds_later i zero w end f are =
-      inr (subst (Onward w f) (sym are) (record { follows = f; later = all_later (order_of w f) }))
-  rounds_later i (suc k) w end f are =
-      elim (led_among (order_of w f) w are.0 (are.1.before ++ Turn i ∷ are.1.after) (led_first w f)
-      are.1.led) [
-        | inl came ↦ inl (inl came)
-        | inr first ↦
-            elim (rounds_later i k are.0 end first.follows are.2) [
-              | inl later ↦ inl (inr later)
-              | inr rest ↦
-                  inr (record {
-                    follows = rest.follows;
-                    later =
-                        all_then (order_of w f) (order_of are.0 first.follows)
-                        (order_of end rest.follows) first.next.later rest.later;
-                  })
-            ]
-      ]
-
-  -- the number of rounds: more of them than there are ways to lower what is left
-  abbrev scale : FifoWorld (Host Managed) → ℕ
-  scale u = (c.nodes + 1) * total c u + 1
-
-  abbrev rank : ℕ → FifoWorld (Host Managed) → ℕ
-  rank k u = k * total c u + way c u
-
-  way_few : (u : FifoWorld (Host Managed)) → way c u ≤ (c.nodes + 1) * total c u
-  way_few u =
-      let a : way c u ≤ (c.nodes + 1) * work c u cost = way_most c u cost in
-      let b : (c.nodes + 1) * work c u cost ≤ (c.nodes + 1) * total c u =
-      mul-le-mul_left (c.nodes + 1) (let x : work c u cost ≤ total c u = omega arith in x) in
-      omega (arith, a, b)
-
-  rank_falls : (k : ℕ) (u v : FifoWorld (Host Managed)) → scale u ≤ k → Sinks c u v
-      → (rank k v < rank k u) × (scale v ≤ k)
-  rank_falls k u v few (inl less) =
-      let a : k * (total c v + 1) ≤ k * total c u =
-      mul-le-mul_left k (let x : total c v + 1 ≤ total c u = omega (arith, less) in x) in
-      let b : (c.nodes + 1) * total c v ≤ (c.nodes + 1) * total c u =
-      mul-le-mul_left (c.nodes + 1) (let x : total c v ≤ total c u = omega (arith, less) in x) in
-      let d = way_few v in
-      (omega (arith, a, b, d, few), omega (arith, b, few))
-  rank_falls k u v few (inr both) =
-      let x = both.0 in
-      let a : k * total c v ≤ k * total c u = mul-le-mul_left k x in
-      let b : (c.nodes + 1) * total c v ≤ (c.nodes + 1) * total c u =
-      mul-le-mul_left (c.nodes + 1) x in
-      let y = both.1 in
-      (omega (arith, a, y), omega (arith, b, few))
-
-  -- somebody was answered
-  record Answers (w : World (Host Managed)) (f : Follower w) (end : World (Host Managed)) : Type 0
-    where
-      follows : Follower end
-      longer : HasLonger (order_of w f) (order_of end follows)
-
-  module _ (i : ℕ) where
-    call_of : (w : World (Host Managed)) (a : Option Call) → IsDue w a
-        → (called : Call) × (a ≡ Some called)
-    call_of w None due = absurd due
-    call_of w (Some called) due = (called, refl)
-
-    -- of rounds as many as this
-    abbrev RoundsDo : ℕ → ℕ → Type 0
-    RoundsDo k fuel = (w end : World (Host Managed)) (f : Follower w)
-        (n : Node (Host Managed)) → slice_get w.nodes i ≡ Some n → IsDue w n.core.memory.asked
-        → scale (order_of w f) ≤ k → rank k (order_of w f) < fuel
-        → (are : AreRounds c i fuel w end) → Answers w f end ⊎ HasCome c i fuel w end are
-
-    module _ (k fuel : ℕ) (again : RoundsDo k fuel) (w end : World (Host Managed)) (f : Follower w)
-        (n : Node (Host Managed)) (there : slice_get w.nodes i ≡ Some n)
-        (due : IsDue w n.core.memory.asked) (few : scale (order_of w f) ≤ k)
-        (less : rank k (order_of w f) < suc fuel) (are : AreRounds c i (suc fuel) w end) where
-      abbrev Does : Type 0
-      Does = Answers w f end ⊎ HasCome c i (suc fuel) w end are
-
-      called : (a : Call) × (n.core.memory.asked ≡ Some a)
-      called = call_of w n.core.memory.asked due
-
-      abbrev mid : World (Host Managed)
-      mid = are.0
-
-      module _ (g : Follower mid) (later : AreLater (order_of w f) (order_of mid g)) where
-        grows : HasLonger (order_of w f) (order_of mid g) → Does
-        grows longer = elim (rounds_later i fuel mid end g are.2) [
-          | inl came ↦ inr (inr came)
-          | inr onward ↦
-              inl (record {
-                follows = onward.follows;
-                longer =
-                    longer_on (order_of w f) (order_of mid g) (order_of end onward.follows)
-                    onward.later longer;
-              })
-        ]
-
-        at_mid : (m : Host Managed) × (slice_get (order_of mid g).cores i ≡ Some m)
-            × IsLaterAt n.core m
-        at_mid = later.at i n.core (core_of w.nodes i n there)
-
-        goes_on : Sinks c (order_of w f) (order_of mid g) → (more : List Record)
-            → at_mid.2.more ≡ more → Does
-        goes_on sinks (x ∷ more) is = grows (record {
-          node = i;
-          before = n.core;
-          after = at_mid.0;
-          there = core_of w.nodes i n there;
-          now = at_mid.1;
-          longer = (let a : length at_mid.0.history
-              ≡ length n.core.history + length (x ∷ more) =
-              ap length (at_mid.2.history ∙ ap (λ h. n.core.history ++ h) is)
-              ∙ length-append n.core.history (x ∷ more) in
-              omega (arith, a));
-        })
-        goes_on sinks [] is =
-            let node =
-            map-places (λ (z : Node (Host Managed)). z.core) mid.nodes i at_mid.0 at_mid.1 in
-            let asked : node.0.core.memory.asked ≡ n.core.memory.asked =
-            ap (λ (h : Host Managed). h.memory.asked) node.2
-            ∙ at_mid.2.asked called.0 called.1 is ∙ sym called.1 in
-            let ranks = rank_falls k (order_of w f) (order_of mid g) few sinks in
-            let still : IsDue mid node.0.core.memory.asked =
-            subst (IsDue mid) (sym asked)
-            (due_later opened c limits programs w f mid g later n.core.memory.asked due) in
-            let fall = ranks.0 in
-            elim (again mid end g node.0 node.1 still ranks.1 (omega (arith, fall, less)) are.2) [
-              | inl a ↦
-                  inl (record {
-                    follows = a.follows;
-                    longer =
-                        longer_later (order_of w f) (order_of mid g) (order_of end a.follows) later
-                        a.longer;
-                  })
-              | inr came ↦ inr (inr came)
-            ]
-
-        by_moves : MovesOn c (order_of w f) (order_of mid g) → Does
-        by_moves (lengthened longer) = grows longer
-        by_moves (sank sinks) = goes_on sinks at_mid.2.more refl
-
-      one_more : Does
-      one_more = elim (round_leads i w mid f n there called.0 called.1 due are.1) [
+  come_rounds_do : (i : ℕ) (w end : World (Host Managed)) (f : Follower w)
+      → IsDueAt i w → (are : AreRounds c i (come_rounds c) w end)
+      → Grown opened c limits programs many (coming c) w f end
+      ⊎ HasCome c i (come_rounds c) w end are
+  come_rounds_do i w end f due are =
+      rounds_do opened c limits programs many (coming c) (λ h m less. less) i (HasCome c i)
+      (λ fuel u v rounds came. inr came)
+      (λ fuel u v rounds g at.
+      elim (round_leads i u rounds.0 g at.0 at.1 at.2 rounds.1) [
         | inl came ↦ inr (inl came)
-        | inr round ↦ by_moves round.follows round.later round.on
-      ]
-
-    some_round : (k fuel : ℕ) → RoundsDo k fuel
-    some_round k zero w end f n there due few less are = absurd (omega (arith, less))
-    some_round k (suc fuel) w end f n there due few less are =
-        one_more k fuel (some_round k fuel) w end f n there due few less are
-
-    come_rounds_do : (w end : World (Host Managed)) (f : Follower w) (n : Node (Host Managed))
-        → slice_get w.nodes i ≡ Some n → IsDue w n.core.memory.asked
-        → (are : AreRounds c i (come_rounds c) w end)
-        → Answers w f end ⊎ HasCome c i (come_rounds c) w end are
-    come_rounds_do w end f n there due are =
-        let o : FifoWorld (Host Managed) = order_of w f in
-        let high = total_few opened c limits programs many o f.reached in
-        let wide : (c.nodes + 1) * total c o ≤ (c.nodes + 1) * come_work c =
-        mul-le-mul_left (c.nodes + 1) high in
-        let k : ℕ = (c.nodes + 1) * come_work c + 1 in
-        let long : k * total c o ≤ k * come_work c = mul-le-mul_left k high in
-        let far = way_few o in
-        some_round k (come_rounds c) w end f n there due (omega (arith, wide))
-        (omega (arith, long, far, wide)) are
-
-  -- so it is in the world of strings
-  answers_some : (w end : World (Host Managed)) (f : Follower w) → Answers w f end
-      → IsSomeAnswered w end
-  answers_some w end f a =
-      let was =
-      map-places (λ (z : Node (Host Managed)). z.core) w.nodes a.longer.node a.longer.before
-      a.longer.there in
-      let now =
-      map-places (λ (z : Node (Host Managed)). z.core) end.nodes a.longer.node a.longer.after
-      a.longer.now in
-      let x : length was.0.core.history ≡ length a.longer.before.history =
-      ap (λ (h : Host Managed). length h.history) was.2 in
-      let y : length now.0.core.history ≡ length a.longer.after.history =
-      ap (λ (h : Host Managed). length h.history) now.2 in
-      let less = a.longer.longer in
-      (a.longer.node, was.0, now.0, was.1, now.1, omega (arith, x, y, less))
+        | inr round ↦ inl round
+      ]) (come_work c) w end f due
+      (total_few opened c limits programs many (order_of w f) f.reached) are
 
 pub some_answered_or_come : SomeAnsweredOrCome
 some_answered_or_come opened c programs w of i n there due end are =
     let f = led_in_order managed_laws (managed_start opened) c of.limits
     (managed_new opened c of.limits) programs of.many of.moves w of.led in
-    elim (come_rounds_do opened c of.limits programs of.many i w end f n there due are) [
-      | inl a ↦ inl (answers_some opened c of.limits programs of.many w end f a)
+    elim (come_rounds_do opened c of.limits programs of.many i w end f (n, there, due) are) [
+      | inl a ↦ inl (answers_some w end f.posted a.follows.posted a.grown)
       | inr came ↦ inr came
     ]

@@ -39,10 +39,23 @@ pub record IsLaterAt (n m : Host Managed) : Type 0 where
   pub uses : n.used ≤ m.used
   pub handed : fetches_of m.process.program ≡ fetches_of n.process.program
 
+-- each node of the one world, and what it is in the other
+abbrev pub AreEach : (Host Managed → Host Managed → Type 0) → FifoWorld (Host Managed)
+    → FifoWorld (Host Managed) → Type 0
+AreEach Is o u = (i : ℕ) (n : Host Managed) → slice_get o.cores i ≡ Some n
+    → (m : Host Managed) × (slice_get u.cores i ≡ Some m) × Is n m
+
+pub each_then : (Is : Host Managed → Host Managed → Type 0)
+    → ((n m l : Host Managed) → Is n m → Is m l → Is n l) → (o u v : FifoWorld (Host Managed))
+    → AreEach Is o u → AreEach Is u v → AreEach Is o v
+each_then Is both o u v a b i n is =
+    let x = a i n is in
+    let y = b i x.0 x.1 in
+    (y.0, y.1, both n x.0 y.0 x.2 y.2)
+
 -- so are all nodes
 pub record AreLater (o u : FifoWorld (Host Managed)) : Type 0 where
-  pub at : (i : ℕ) (n : Host Managed) → slice_get o.cores i ≡ Some n
-      → (m : Host Managed) × (slice_get u.cores i ≡ Some m) × IsLaterAt n m
+  pub at : AreEach IsLaterAt o u
   pub back : (i : ℕ) (m : Host Managed) → slice_get u.cores i ≡ Some m
       → (n : Host Managed) × (slice_get o.cores i ≡ Some n)
 
@@ -78,10 +91,7 @@ all_later o = record { at = λ i n is. (n, is, later_none n); back = λ i m is. 
 
 pub all_then : (o u v : FifoWorld (Host Managed)) → AreLater o u → AreLater u v → AreLater o v
 all_then o u v a b = record {
-  at = λ i n is. (
-      let x = a.at i n is in
-      let y = b.at i x.0 x.1 in (y.0, y.1, later_then n x.0 y.0 x.2 y.2)
-      );
+  at = each_then IsLaterAt later_then o u v a.at b.at;
   back = λ i m is. (let y = b.back i m is in a.back i y.0 y.1);
 }
 
@@ -254,15 +264,20 @@ core_here o o' x n m i at cores same =
     ∙ elim (get_set o.cores x n m x at) [ inl y ↦ y.1 | inr y ↦ absurd (y.0 refl) ]
 
 -- a step that changes one node
+pub one_each : (Is : Host Managed → Host Managed → Type 0) → ((h : Host Managed) → Is h h)
+    → (o u : FifoWorld (Host Managed)) (x : ℕ) (n m : Host Managed)
+    → slice_get o.cores x ≡ Some n → u.cores ≡ slice_set o.cores x m → Is n m → AreEach Is o u
+one_each Is none o u x n m there cores on i h is = elim (cases_eq i x) [
+  | inl same ↦
+      (let it : n ≡ h = same_Some n h (sym there ∙ ap (slice_get o.cores) (sym same) ∙ is) in
+      (m, core_here o u x n m i there cores same, subst (λ z. Is z m) it on))
+  | inr ne ↦ (h, core_elsewhere o u x n m i there cores ne ∙ is, none h)
+]
+
 one_later : (o u : FifoWorld (Host Managed)) (x : ℕ) (n m : Host Managed)
     → slice_get o.cores x ≡ Some n → u.cores ≡ slice_set o.cores x m → IsLaterAt n m → AreLater o u
 one_later o u x n m there cores l = record {
-  at = λ i h is. elim (cases_eq i x) [
-    | inl same ↦
-        (let it : n ≡ h = same_Some n h (sym there ∙ ap (slice_get o.cores) (sym same) ∙ is) in
-        (m, core_here o u x n m i there cores same, subst (λ z. IsLaterAt z m) it l))
-    | inr ne ↦ (h, core_elsewhere o u x n m i there cores ne ∙ is, later_none h)
-  ];
+  at = one_each IsLaterAt later_none o u x n m there cores l;
   back = λ i h is. elim (cases_eq i x) [
     | inl same ↦ (n, ap (slice_get o.cores) same ∙ there)
     | inr ne ↦ (h, sym (core_elsewhere o u x n m i there cores ne) ∙ is)

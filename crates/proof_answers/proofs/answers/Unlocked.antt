@@ -29,7 +29,7 @@ use Rattle.proof_worlds.proofs.refinement.FifoRuns.{reached_holds}
 use Rattle.proof_worlds.proofs.refinement.LiftedRuns.{Holds}
 use Rattle.proof_worlds.proofs.refinement.Worlds.{first_net}
 use Rattle.proof_worlds.specs.progress.Answering.{AreAllDelivered}
-use Rattle.proof_worlds.specs.stated.FifoRuns.{first_ordered, IsReachedInOrder}
+use Rattle.proof_worlds.specs.stated.FifoRuns.{IsReachedInOrder}
 use Rattle.proof_worlds.specs.stated.Nets.{net_of, managers_of}
 
 module _ (opened : Opening) (c : Config) (limits : IsConfig c) (programs : List Program)
@@ -43,14 +43,12 @@ module _ (opened : Opening) (c : Config) (limits : IsConfig c) (programs : List 
   abbrev IsWaitedFor : (ℕ → Managed) → Net → (ℕ → List ℕ) → Type 0
   IsWaitedFor m n f = Quiet m n f × IsOwed n
 
-  first : FifoWorld (Host Managed)
-  first = first_ordered managed_ops (managed_start opened) c programs
-
   covered_reached : (o : FifoWorld (Host Managed))
       → IsReachedInOrder managed_ops (managed_start opened) c programs o
       → Holds (managed_start opened).sends_on managed_ops c
       (λ m n f. IsWaitedFor m n f × HasAccurateCopySets n) spare o
   covered_reached =
+      let begins = first_net (managed_start opened) c programs in
       reached_holds managed_laws (managed_start opened) c limits (managed_new opened c limits)
       (covered-kept managed_ops c limits IsWaitedFor
       (owed-kept managed_ops c limits Quiet (either-kept c limits opened)
@@ -61,12 +59,9 @@ module _ (opened : Opening) (c : Config) (limits : IsConfig c) (programs : List 
           quiet_first managed_laws (managed_start opened) c limits (managed_new opened c limits)
               (RoutedUnder opened c) (either-kept c limits opened) (either-first c limits opened)
               spare programs many,
-          first_owed (net_of (first_ordered managed_ops (managed_start opened) c programs))
-              (first_net (managed_start opened) c programs)
-              (first_net (managed_start opened) c programs).delivered,
+          first_owed _ begins begins.delivered,
         ),
-        first_covered (net_of (first_ordered managed_ops (managed_start opened) c programs))
-            (first_net (managed_start opened) c programs),
+        first_covered _ begins,
       )
 
   pub either_unlocked : (o : FifoWorld (Host Managed))

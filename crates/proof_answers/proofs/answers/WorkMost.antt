@@ -20,11 +20,9 @@ use Rattle.ivy_coherence.specs.stated.Fetching.{most_fetched}
 use Rattle.ivy_program.specs.stated.Programs.{Program}
 use Rattle.ivy_moves.specs.stated.FifoWorld.{FifoWorld}
 use Rattle.ivy_host.specs.declared.opening.Opening.{Opening}
-use Rattle.ivy_host.specs.ManagedLaws.{managed_laws}
 use Rattle.ivy_host.specs.stated.Hosts.{Host}
 use Rattle.ivy_host.specs.stated.Managers.{Managed, managed_ops}
 use Rattle.ivy_host.specs.stated.Openings.{managed_start}
-use Rattle.ivy_host.proofs.Starts.{managed_new}
 use Rattle.proof_table.specs.stated.Letters.{content_of}
 use Rattle.proof_worlds.specs.progress.Ending.{sum_below}
 use Rattle.proof_worlds.specs.stated.FifoRuns.{IsReachedInOrder}
@@ -33,11 +31,12 @@ use Rattle.proof_worlds.proofs.progress.Delivered.{under_way}
 use Rattle.proof_worlds.proofs.progress.EitherRoutes.{either_awaited}
 use Rattle.proof_worlds.proofs.progress.Loads.{way_load, aside_load}
 use Rattle.proof_worlds.proofs.progress.Lowering.{entries, work}
-use Rattle.proof_worlds.proofs.progress.Reached.{IsToldBy, reached_told}
+use Rattle.proof_worlds.proofs.progress.Reached.{IsToldBy}
 use Rattle.proof_worlds.proofs.progress.Works.{heavy_of}
 use Rattle.proof_answers.specs.answers.Answered.{most_work}
 use Rattle.proof_answers.proofs.answers.Falling.{weight_of, weight_at, hosts, whole}
 use Rattle.proof_answers.proofs.answers.Weights.{cost, fault_most, call_weight, call_few}
+use Rattle.proof_answers.proofs.fairness.Leading.{told_of}
 use Rattle.proof_answers.proofs.sweeps.Few.{few_under_way}
 use Rattle.proof_answers.proofs.sweeps.FewWorlds.{page_code}
 
@@ -88,8 +87,7 @@ module _ (opened : Opening) (c : Config) (limits : IsConfig c) (programs : List 
     (many : length programs ≡ c.nodes) (o : FifoWorld (Host Managed))
     (reached : IsReachedInOrder managed_ops (managed_start opened) c programs o) where
   told : IsToldBy (managed_start opened).sends_on managed_ops c o
-  told = reached_told managed_ops managed_laws (managed_start opened) c limits
-      (managed_new opened c limits) programs many o reached
+  told = told_of opened c limits programs many o reached
 
   -- so many messages are under way from one node to another
   none_itself : (i : ℕ) (ms : List Message) → o.posted i i ≡ ms
