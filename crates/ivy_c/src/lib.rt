@@ -8,11 +8,12 @@ ghost use Rattle.std.specs.Mem.{manually_drop_value};
 ghost use Rattle.std.specs.Coded.{codes};
 ghost use Rattle.ivy_model.specs.declared.Config.{Config};
 ghost use Rattle.ivy_model.specs.declared.Row.TheVariants.{Loads, Stores};
+ghost use Rattle.ivy_model.specs.stated.Legal.{HasWidth};
 ghost use Rattle.ivy_pagetable.specs.stated.NodeSets.{nodes_code};
 ghost use Rattle.ivy_alloc.specs.Heap.{heap_state_code};
 ghost use Rattle.ivy_embedded.specs.Nodes.{Embedded, first_embedded, opened_embedded};
 ghost use Rattle.ivy_embedded.specs.Blocks.{BeginsAll, HasWordsAt, LoadsAll, RefusesBlock, RefusesStores, StoresAll, StoresNoneRead, TakesAll};
-ghost use Rattle.ivy_embedded.specs.Exports.{Answers, Begins, BeginsBlock, CarriesOut, Delivers, IsRequest, Polls, Pulses, RefusesCall, RefusesPoll, RefusesPulse, RefusesString, TakesAt, TakesBlock, marks_at};
+ghost use Rattle.ivy_embedded.specs.Exports.{Answers, AsksNone, Begins, BeginsBlock, CarriesOut, Delivers, IsRequest, Polls, Pulses, RefusesCall, RefusesPoll, RefusesPulse, RefusesString, TakesAt, TakesBlock, marks_at};
 ghost use Rattle.ivy_embedded.specs.Fetches.{Fetches, RefusesFetch};
 ghost use Rattle.ivy_embedded.specs.Lending.{LendsSoundly};
 ghost use Rattle.ivy_embedded.specs.LentPages.{DeliversFarAt, GivesBack, GoesOnFor, IsTold, Lends, RefusesGiveBack, RefusesLend, RefusesPeer, TellsWanted};
@@ -23,11 +24,12 @@ ghost use Rattle.ivy_embedded.specs.Turns.{TellsTurns};
 ghost use Rattle.ivy_c.specs.Ownership.{handle_owns};
 
 use ivy_embedded::{
-    BAD_ARGUMENT, BAD_CONFIG, CLOSED, DONE, DYNAMIC, Declined, Embedded, LENT, MEMORY, NO_CALL,
-    NO_FRAME, OPEN, PENDING, SHORT_BUFFER, STEADY, TakenString, WANTED, Want, call_of, config_of,
-    lending_number, lending_of, manager_of, refusal_status, status_of, tell, verdict_number,
+    BAD_ARGUMENT, BAD_CONFIG, CLOSED, DONE, DYNAMIC, Declined, Embedded, FETCH_AND_ADD, LENT,
+    MEMORY, NO_CALL, NO_FRAME, OPEN, PENDING, SHORT_BUFFER, STEADY, TakenString, WANTED, Want,
+    call_of, config_of, lending_number, lending_of, manager_of, refusal_status, status_of, tell,
+    verdict_number,
 };
-use ivy_model::Row;
+use ivy_model::{Call, Row};
 use ivy_site::Opening;
 use std::alloc::Global;
 use std::marker::Model;
@@ -262,6 +264,21 @@ fn begin_slowly(
     }
 }
 
+/// The call that is asked for, if there is one. A fetch-and-add of 8 bytes takes no look at its width, as loads and stores
+/// of 8 bytes take none in [`call_of`].
+fn asked(kind: u32, width: u32, place: u64, operand: u64, expected: u64) -> Option<Call>
+    ensures { MatchOption result (AsksNone (IsRequest kind width place operand expected)) (λ call. IsRequest kind width place operand expected call × HasWidth call) }
+{
+    match kind {
+        FETCH_AND_ADD if width == 8 => Some(Call::FetchAdd {
+            width: 8,
+            addr: place,
+            value: operand,
+        }),
+        _ => call_of(kind, width, place, operand, expected),
+    }
+}
+
 /// Hands in a call, and begins it.
 #[unsafe(no_mangle)]
 pub extern "C" fn ivy_begin(
@@ -284,16 +301,17 @@ pub extern "C" fn ivy_begin(
         put(alloc, handle, node);
         return begin_slowly(alloc, handle, kind, width, place, operand, expected, value);
     }
-    let Some(call) = call_of(kind, width, place, operand, expected) else {
+    let Some(call) = asked(kind, width, place, operand, expected) else {
         put(alloc, handle, node);
         return BAD_ARGUMENT;
     };
-    let begun = node.begin_ready(call);
-    put(alloc, handle, node);
-    match begun {
+    // told before the node goes back, where it is known still which reply it is: so a hit looks at it once
+    let status = match node.begin_ready(call) {
         Ok(progress) => tell(progress, value),
         Err(fault) => status_of(fault),
-    }
+    };
+    put(alloc, handle, node);
+    status
 }
 
 /// The reply of the call in progress.
