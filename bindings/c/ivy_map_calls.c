@@ -193,8 +193,7 @@ static void *allocate(ivy_process *p, size_t bytes, size_t alignment) {
 void *ivy_map_malloc(ivy_process *p, size_t bytes) { return allocate(p, bytes ? bytes : 1, 16); }
 
 void *ivy_map_malloc_pages(ivy_process *p, size_t bytes) {
-  if (bytes > SIZE_MAX - MAP_PAGE) return NULL;
-  return allocate(p, (bytes ? (bytes + MAP_PAGE - 1) / MAP_PAGE : 1) * MAP_PAGE, MAP_PAGE);
+  return bytes > SIZE_MAX - MAP_PAGE ? NULL : allocate(p, (bytes ? (bytes + MAP_PAGE - 1) / MAP_PAGE : 1) * MAP_PAGE, MAP_PAGE);
 }
 
 void ivy_map_free(ivy_process *p, void *block) { if (block) ivy_free(p, ((uint64_t *)block)[-1]); }
