@@ -1,3 +1,4 @@
+pub mod Fetches
 pub mod Printing
 pub mod Opened
 pub mod Uncalled

@@ -1,11 +1,10 @@
 -- Which nodes have a call in progress, or lack an answer in their log.
-use Rattle.std.proofs.Common.{◌≡◌, ◌∙◌, ℕ, zero, suc, ◌+◌, ◌<◌, ◌≤◌, ◌==◌, ◌&&◌, Bool, true, false, List, [], ◌∷◌, ◌++◌, length, map, take, slice_get, Option, Some, None, option_map, IfSome, refl, sym, ap, subst, arith, inl, inr, if◌then◌else◌}
+use Rattle.std.proofs.Common.{◌≡◌, ◌∙◌, ℕ, zero, suc, ◌+◌, ◌<◌, ◌≤◌, ◌==◌, Bool, true, false, List, [], ◌∷◌, ◌++◌, length, map, take, slice_get, Option, Some, None, option_map, IfSome, refl, sym, ap, subst, arith, inl, inr}
 use Rattle.std.specs.List.{zip}
 use Rattle.std.specs.Option.{is_none}
 use Rattle.std.proofs.lemmas.Bool.{and_parts, eqb-true}
 use Rattle.std.proofs.lemmas.List.{take_all}
 use Rattle.std.proofs.lemmas.Option.{none-some, same_Some, slice_get-map, slice_get_cases}
-use Rattle.ivy_texts.specs.Lines.{end_line}
 use Rattle.ivy_simulation.specs.Nodes.{numbered_texts}
 use Rattle.ivy_simulation.proofs.Printing.{numbered-more}
 use Rattle.ivy_logs.specs.Entries.{LogEntry, answers_in}

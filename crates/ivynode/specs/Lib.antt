@@ -1,3 +1,4 @@
+pub mod Fetched
 pub mod Joined
 pub mod OwnJoined
 pub mod Requests

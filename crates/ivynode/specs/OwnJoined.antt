@@ -13,6 +13,7 @@ use Rattle.ivy_logs.specs.Entries.{LogEntry, answers_in}
 use Rattle.ivy_site.specs.SiteView.{SiteView}
 use Rattle.ivy_join.specs.Joined.{opening_by, AreHeads}
 use Rattle.ivy_join.specs.OwnJoined.{AreAllTold, AreAnswered, AreOwnJoined}
+use Rattle.ivynode.specs.Fetched.{all_fetched_in}
 use Rattle.ivynode.specs.Joined.{IsSpelled}
 
 -- the line that says how many calls of the node were answered
@@ -43,11 +44,15 @@ open_in number joined = open_line number (is_whole joined.0 joined.1)
 abbrev pub all_open_in : List (List LogEntry) → List SiteView → List ℕ
 all_open_in logs sites = numbered_texts open_in 0 (zip logs sites)
 
+-- what is printed of sites and their logs: how many calls were answered, how many pages were fetched
+-- ahead and called for, and which nodes have a call in progress, or lack an answer in their log
+abbrev pub own_text : Config → List (List LogEntry) → List SiteView → List ℕ
+own_text c logs sites = all_answered_in sites ++ all_fetched_in c logs ++ all_open_in logs sites
+
 -- logs of own code, each as some text spells it, were joined: they are the parts of one run of the
 -- programs that the calls and the fetches in them are, and each node was answered in it what its
--- log says. How many calls of each node were answered was printed, and then which nodes have a call
--- in progress, or lack an answer in their log. Where no node was named so, one flat memory could
--- have given the answers in the logs
+-- log says. The text of these sites and logs was printed. Where it names no node that has a call in
+-- progress, or lacks an answer in its log, one flat memory could have given the answers in the logs
 pub record PrintsOwnJoined (old new : Option (List ℕ)) : Type 0 where
   pub steady : Bool
   pub config : Config
@@ -59,4 +64,4 @@ pub record PrintsOwnJoined (old new : Option (List ℕ)) : Type 0 where
   pub joined : AreOwnJoined config (opening_by steady) logs sites
   pub told : all_open_in logs sites ≡ [] → AreAllTold logs sites
   pub answered : AreAllTold logs sites → AreAnswered config logs
-  pub printed : Appends old new (all_answered_in sites ++ all_open_in logs sites)
+  pub printed : Appends old new (own_text config logs sites)

@@ -5,12 +5,13 @@ ghost use Rattle.std.specs.Io.KnownBytes.{Appends};
 ghost use Rattle.ivy_simulation.specs.Nodes.{outputs_text};
 ghost use Rattle.ivy_join.specs.Calls.{HandNothing};
 ghost use Rattle.ivynode.specs.Joined.{AreOfNoRun, AreRefused, AreSpelled, IsNoRun, IsSpelled, PrintsJoined, PrintsRun, outputs_in, ends_in};
-ghost use Rattle.ivynode.specs.OwnJoined.{PrintsOwnJoined, all_answered_in, all_open_in, answered_line, is_whole, open_line};
+ghost use Rattle.ivynode.specs.OwnJoined.{PrintsOwnJoined, all_answered_in, all_open_in, answered_line, is_whole, open_line, own_text};
 
 use crate::failure::Failure;
+use crate::fetched::print_fetched;
 use ivy_join::{Joined, Unjoined, join_opened, join_own_opened};
 use ivy_logs::{Log, LogKind, count_answers, parse_log};
-use ivy_model::Fault;
+use ivy_model::{Config, Fault};
 use ivy_program::{Program, parse};
 use ivy_simulation::{Outputs, print_outputs};
 use ivy_texts::{Decimal, print_end};
@@ -244,16 +245,23 @@ fn print_open<W: Write>(
 }
 
 /// Prints what is said of logs of own code that were joined.
-fn print_own<W: Write>(joined: &Joined<Global>, logs: &[Log<Global>], out: &mut W) -> io::Result<()>
+fn print_own<W: Write>(
+    alloc: Global,
+    config: &Config,
+    joined: &Joined<Global>,
+    logs: &[Log<Global>],
+    out: &mut W,
+) -> io::Result<()>
     requires { length logs.now ≡ length joined.now }
-    ensures { OnOk result (Appends (W.contents out.old) (W.contents out.new) (all_answered_in joined.now ++ all_open_in (map (λ l. l.entries.items) logs.now) joined.now)) }
+    ensures { OnOk result (Appends (W.contents out.old) (W.contents out.new) (own_text config.now (map (λ l. l.entries.items) logs.now) joined.now)) }
 {
     print_answered(joined, out)?;
+    print_fetched(alloc, config, logs, out)?;
     print_open(joined, logs, out)
 }
 
-/// Joins the logs of own code of these files, and prints how many calls of each node were answered, and which nodes have
-/// a call in progress, or lack in their log what they were answered last.
+/// Joins the logs of own code of these files, and prints how many calls of each node were answered, how many pages its code
+/// had fetched ahead and called for, and which nodes have a call in progress, or lack in their log what they were answered last.
 pub(crate) fn join_own_files<R: Files + AllocGlobal, W: Write>(
     rt: &R,
     names: &[&str],
@@ -265,7 +273,8 @@ pub(crate) fn join_own_files<R: Files + AllocGlobal, W: Write>(
     let Some(first) = logs.first() else {
         return Err(Failure::Unjoined(Unjoined::Missing(0)));
     };
-    let joined = join_own_opened(rt.alloc(), first.head.steady, first.head.config, &logs)?;
-    print_own(&joined, &logs, out)?;
+    let config = first.head.config;
+    let joined = join_own_opened(rt.alloc(), first.head.steady, config, &logs)?;
+    print_own(rt.alloc(), &config, &joined, &logs, out)?;
     Ok(())
 }

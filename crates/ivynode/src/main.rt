@@ -7,6 +7,7 @@ ghost use Rattle.ivynode.specs.OwnJoined.{PrintsOwnJoined};
 ghost use Rattle.ivynode.specs.Requests.{AsksToJoin, AsksToJoinOwn, IsJoin, IsJoinOwn};
 
 mod failure;
+mod fetched;
 mod joins;
 mod lines;
 mod misuse;
