@@ -1,5 +1,7 @@
 /* A log that takes no more once something else has failed: the run is over, and what the log lacks goes to nobody. */
+#ifndef _GNU_SOURCE
 #define _GNU_SOURCE
+#endif
 #include "channel.h"
 #include <errno.h>
 
@@ -39,9 +41,10 @@ int main(void) {
   memset(nodes, 0, sizeof nodes);
   channel_log = fopencookie(NULL, "w", how);
   for (uint32_t i = 0; i < 2; i++) {
-    const channel_node it = { i, 2, IVY_BY_THREAD, 10000, i ? fill : wait_for_other, i ? IVY_MISALIGNED : IVY_PEER_DEAD, nodes[i].thread, channel_open(i) };
+    const channel_node it = { i, 2, IVY_BY_THREAD, 10000, i ? fill : wait_for_other, IVY_PEER_DEAD, nodes[i].thread, channel_open(i) };
     nodes[i] = it;
   }
+  nodes[1].ends = IVY_MISALIGNED;
   for (int i = 0; i < 2; i++) pthread_create(&nodes[i].thread, NULL, channel_run, &nodes[i]);
   for (int i = 0; i < 2; i++) pthread_join(nodes[i].thread, NULL);
   puts("done");
